@@ -1,0 +1,76 @@
+"""Ordinary policies and scripts of edits, the same in every run.
+
+A policy is a list of logical lines, as people keep them: comments, empty lines,
+Defaults, aliases with continuations, and user specifications that use them.
+"""
+
+import random
+
+TAGS = ("", "NOPASSWD: ", "PASSWD: ", "NOEXEC: ", "SETENV: ", "NOPASSWD: NOEXEC: ")
+TOOLS = ("systemctl", "journalctl", "apt-get", "mount", "tail", "useradd", "ip", "tcpdump")
+OPTIONS = ("env_reset", "mail_badpass", "requiretty", "!visiblepw", "passwd_tries=3", "timestamp_timeout=15")
+NAMES = ("ann", "bob", "cho", "dan", "eve", "fay", "gil", "hal")
+
+
+def joined(members):
+    """Members in one list, every third on a line of its own."""
+    return ", ".join(("\\\n    " if n % 3 == 2 else "") + member for n, member in enumerate(members))
+
+
+def command(chance):
+    """A path with or without arguments."""
+    path = f"/usr/bin/{chance.choice(TOOLS)}"
+    return path + chance.choice(("", ' ""', " -l", f" unit{chance.randrange(1000)}", " *"))
+
+
+def block(chance, number):
+    """One team's part of the policy: its aliases and what they allow."""
+    users = [f"{chance.choice(NAMES)}{chance.randrange(10_000)}" for _ in range(chance.randrange(2, 9))]
+    hosts = [f"web{chance.randrange(10_000)}" for _ in range(chance.randrange(1, 6))]
+    tools = [command(chance) for _ in range(chance.randrange(2, 7))]
+    yield f"# Team {number}: asked for by {chance.choice(NAMES)}, request {chance.randrange(100_000)}\n"
+    yield f"User_Alias TEAM{number} = {joined(users)}\n"
+    yield f"Host_Alias HOSTS{number} = {joined(hosts)}, 10.{number % 256}.0.0/16\n"
+    yield f"Cmnd_Alias TOOLS{number} = {joined(tools)}\n"
+    yield f"Runas_Alias ROLES{number} = root, service{number}\n"
+    yield f"Defaults:TEAM{number} {chance.choice(OPTIONS)}\n"
+    yield f"TEAM{number} HOSTS{number} = (ROLES{number}) {chance.choice(TAGS)}TOOLS{number}\n"
+    for _ in range(chance.randrange(4, 12)):
+        user = f"{chance.choice(NAMES)}{chance.randrange(10_000)}"
+        yield f"{user} ALL = (root) {chance.choice(TAGS)}{command(chance)}, {command(chance)}\n"
+    yield f"%group{number} HOSTS{number} = (ALL : ALL) NOPASSWD: TOOLS{number} # on call\n"
+    yield "\n"
+
+
+def policy(size):
+    """The logical lines of a policy of exactly `size` bytes."""
+    chance = random.Random(size)
+    lines = ["# The policy of this site.\n", "Defaults env_reset\n", "root ALL = (ALL : ALL) ALL\n", "\n"]
+    rest = size - sum(map(len, lines))
+    number = 0
+    while True:
+        number += 1
+        team = list(block(chance, number))
+        if sum(map(len, team)) > rest - 2:
+            break
+        lines += team
+        rest -= sum(map(len, team))
+    while rest > 0:
+        filler = rest if rest <= 72 else min(60, rest - 2)
+        lines.append("#" + "-" * (filler - 2) + "\n")
+        rest -= filler
+    return [line.encode() for line in lines]
+
+
+def one_edit(lines):
+    """A comment inserted in the middle."""
+    return b"insert %d\n|# one more line\n" % (len(lines) // 2)
+
+
+def spread_edits(lines, count):
+    """`count` edits all over the text: a line deleted and a comment in its place, by turns."""
+    script = []
+    for n in range(count // 2):
+        at = n * 7919 % len(lines) + 1
+        script.append(b"delete %d\ninsert %d\n|# edited as number %d\n" % (at, at, n))
+    return b"".join(script)

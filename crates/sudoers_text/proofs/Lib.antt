@@ -1,0 +1,14 @@
+pub mod Units
+pub mod Reading
+pub mod Unique
+pub mod Pieces
+pub mod First
+pub mod Faults
+pub mod Lists
+pub mod Computed
+pub mod Local
+pub mod Closed
+pub mod Outcomes
+pub mod Found
+pub mod Alone
+pub mod Rows

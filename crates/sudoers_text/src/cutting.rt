@@ -1,0 +1,138 @@
+//! How a text is cut: its lines, whatever is wrong with it, and then its first fault.
+
+ghost use Rattle.std.specs.Prelude.{◌≡◌, ◌<◌, ◌≤◌, ◌+◌, ◌==◌, ℕ, List, [], ◌∷◌, ◌++◌, length, drop, take, slice_range, slice_get, IsTrue, ◌↔◌, ◌≢◌, IfOk, IfSome, IfNone, IfErr, Some};
+ghost use Rattle.sudoers_text.specs.Line.{IsLine, IsOpen, Cuts};
+ghost use Rattle.sudoers_text.specs.Span.{texts, Follow};
+ghost use Rattle.sudoers_text.specs.Fault.{EndsOpen, IsFirstFault, StandsIn, lf_count};
+
+use crate::fault::TextFault;
+use crate::unit::{Left, line_end_len, unit_at};
+use memchr::memchr;
+use std::alloc::{AllocError, Global};
+
+/// How many bytes a text may have.
+pub const TEXT_LIMIT: usize = 1_048_576;
+
+/// How many bytes a logical line may have, its end included.
+pub const LINE_LIMIT: usize = 65_536;
+
+/// A part of a text.
+#[derive(Clone, Copy)]
+pub struct Span {
+    pub start: usize,
+    pub stop: usize,
+}
+
+/// Where a line ends.
+#[derive(Clone, Copy)]
+struct LineEnd {
+    /// The place behind the line end.
+    stop: usize,
+    /// The text ends there in a continuation or in a lone backslash.
+    continues: bool,
+}
+
+/// The lines of a text, whatever is wrong with it.
+#[derive(Drop)]
+pub struct Pieces {
+    pub spans: Vec<Span>,
+    /// The text ends in a continuation or in a lone backslash.
+    pub continues: bool,
+}
+
+/// The lines of a text, whatever is wrong with it.
+pub fn pieces_of(alloc: Global, text: &[u8]) -> Result<Pieces, AllocError>
+    ensures cuts { IfOk result (λ pieces. Cuts text.now (texts text.now pieces.spans.items)) }
+    ensures follow { IfOk result (λ pieces. Follow 0 pieces.spans.items (length text.now)) }
+    ensures continues { IfOk result (λ pieces. IsTrue pieces.continues ↔ EndsOpen (texts text.now pieces.spans.items)) }
+{
+    let mut spans = Vec::new(alloc);
+    let mut start = 0;
+    let mut continues = false;
+    while start < text.len() {
+        let end = line_end(text, start);
+        spans.push(Span {
+            start,
+            stop: end.stop,
+        })?;
+        continues = end.continues;
+        start = end.stop;
+    }
+    Ok(Pieces { spans, continues })
+}
+
+/// The first fault of a text of these lines.
+pub fn first_fault(text: &[u8], spans: &[Span], continues: bool) -> Option<TextFault>
+    requires cuts { Cuts text.now (texts text.now spans.now) }
+    requires follow { Follow 0 spans.now (length text.now) }
+    requires continues { IsTrue continues ↔ EndsOpen (texts text.now spans.now) }
+    ensures none { IfNone result ((fault : TextFault) (at : ℕ) → StandsIn (texts text.now spans.now) fault at → ⊥) }
+    ensures some { IfSome result (λ fault. IsFirstFault (texts text.now spans.now) fault) }
+{
+    let nul = first_nul(text);
+    for span in spans {
+        let long = span.stop - span.start > LINE_LIMIT;
+        let reach = if long {
+            span.start + LINE_LIMIT
+        } else {
+            span.stop
+        };
+        if nul < reach {
+            return Some(TextFault::Nul { at: nul });
+        }
+        if long {
+            return Some(TextFault::LineTooLong {
+                line: physical_line(text, span.start),
+            });
+        }
+    }
+    if continues {
+        Some(TextFault::OpenContinuation)
+    } else {
+        None
+    }
+}
+
+/// The place of the first NUL, or the text's end.
+fn first_nul(text: &[u8]) -> usize
+    ensures inside { result ≤ length text.now }
+    ensures before { (k : ℕ) → k < result → slice_get text.now k ≢ Some 0 }
+    ensures found { result < length text.now → slice_get text.now result ≡ Some 0 }
+{
+    memchr(0, text).unwrap_or(text.len())
+}
+
+/// The number of the physical line at a place, from 1.
+fn physical_line(text: &[u8], at: usize) -> usize
+    requires { at < length text.now }
+    ensures { result ≡ lf_count (take at text.now) + 1 }
+{
+    text[..at].iter().filter(|byte| **byte == b'\n').count() + 1
+}
+
+/// The end of the line that begins at a place.
+fn line_end(text: &[u8], start: usize) -> LineEnd
+    requires { start < length text.now }
+    ensures later { start < result.stop }
+    ensures inside { result.stop ≤ length text.now }
+    ensures line { IsLine (slice_range text.now start result.stop) (drop result.stop text.now) }
+    ensures open_text { result.stop ≡ length text.now → (IsTrue result.continues ↔ IsOpen (slice_range text.now start result.stop)) }
+{
+    let mut at = start;
+    let mut left = Left::nothing();
+    while let Some(unit) = unit_at(left, &text[at..]) {
+        left = left.after(text, at, &unit);
+        at += unit.len();
+    }
+    if at < text.len() {
+        LineEnd {
+            stop: at + line_end_len(&text[at..]),
+            continues: false,
+        }
+    } else {
+        LineEnd {
+            stop: at,
+            continues: left.continues,
+        }
+    }
+}

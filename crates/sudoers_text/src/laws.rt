@@ -1,0 +1,61 @@
+//! Laws of logical lines, for the layers above. Each is the contract of a function that does nothing.
+
+ghost use Rattle.std.specs.Prelude.{◌≡◌, ◌≢◌, ◌≤◌, ℕ, List, [], ◌∷◌, length, Result, Ok, true, false};
+ghost use Rattle.sudoers_text.specs.Line.{IsLine, IsOpen, Cuts, join};
+ghost use Rattle.sudoers_text.specs.Ended.{ends_in_lf, has_unended_inside};
+ghost use Rattle.sudoers_text.specs.Fault.{IsOutcome, text_limit};
+ghost use Rattle.sudoers_text.specs.Cut.{cut_of, StandAlone};
+ghost use Rattle.sudoers_text.specs.declared.fault.TextFault.{TextFault as Fault};
+
+/// A text has a list of logical lines.
+pub fn some_list()
+    ensures { (text : List ℕ) → (lines : List (List ℕ)) × Cuts text lines }
+{}
+
+/// A text has one list of logical lines only.
+pub fn one_list()
+    ensures { (text : List ℕ) (lines others : List (List ℕ)) → Cuts text lines → Cuts text others → lines ≡ others }
+{}
+
+/// A text has an outcome: its lines, or the fault with which it is refused.
+pub fn cut_is()
+    ensures { (text : List ℕ) → IsOutcome text (cut_of text) }
+{}
+
+/// A text has one outcome only.
+pub fn one_outcome()
+    ensures { (text : List ℕ) (outcome other : Result (List (List ℕ)) Fault) → IsOutcome text outcome → IsOutcome text other → outcome ≡ other }
+{}
+
+/// A logical line before some text is one before any text.
+pub fn line_anywhere()
+    ensures { (line rest other : List ℕ) → IsLine line rest → rest ≢ [] → IsLine line other }
+{}
+
+/// A logical line of a text is one alone.
+pub fn line_alone()
+    ensures { (line rest : List ℕ) → IsLine line rest → IsLine line [] }
+{}
+
+/// A logical line that ends in LF and is not open is one before any text.
+pub fn closed_line_anywhere()
+    ensures { (line other : List ℕ) → IsLine line [] → ends_in_lf line ≡ true → (IsOpen line → ⊥) → IsLine line other }
+{}
+
+/// A logical line before some text ends in LF, and is not open.
+pub fn inner_line_ends()
+    ensures { (line rest : List ℕ) → IsLine line rest → rest ≢ [] → (ends_in_lf line ≡ true) × (IsOpen line → ⊥) }
+{}
+
+/// Lines that are each the one line of a text, all but the last ending in LF, are the lines of their join.
+pub fn lines_of_join()
+    ensures { (lines : List (List ℕ)) → StandAlone lines → has_unended_inside lines ≡ false
+        → length (join lines) ≤ text_limit → cut_of (join lines) ≡ Ok lines }
+{}
+
+/// The lines of a text are each the one line of a text, all but the last end in LF, and they join to the text, which is
+/// within the limit.
+pub fn lines_stand_alone()
+    ensures { (text : List ℕ) (lines : List (List ℕ)) → cut_of text ≡ Ok lines
+        → StandAlone lines × (has_unended_inside lines ≡ false) × (join lines ≡ text) × (length text ≤ text_limit) }
+{}

@@ -1,0 +1,11 @@
+mod EditLemmas
+mod HistoryLemmas
+mod NumberLemmas
+mod OneSpelling
+mod PhysicalLemmas
+mod PolicyLemmas
+mod ProgramLemmas
+mod ReadingLemmas
+mod ScriptLemmas
+mod SpellingLemmas
+mod WordLemmas

@@ -1,0 +1,38 @@
+-- The mark, and what writes append.
+use Rattle.std.proofs.Common.{◌≡◌, ℕ, ◌+◌, ◌-◌, ◌<◌, ◌≤◌, Bool, true, false, nat_lt, List, [], ◌∷◌, ◌++◌, length, take, drop, Option, Some, None, Result, Ok, Err, refl, sym, ap, subst, ◌∙◌, arith, inl, inr, append_assoc, append-nil}
+use Rattle.std.proofs.lemmas.Bool.{cases_Bool, ltb-false}
+use Rattle.std.specs.Option.{option_map}
+use Rattle.std.specs.Io.KnownBytes.{Appends, Keeps}
+use Rattle.sudoers_text.specs.Line.{join}
+use Rattle.sudoers_tool.specs.Physical.{physical_lines}
+use Rattle.sudoers_tool.proofs.PhysicalLemmas.{lines-each}
+use Rattle.sudoers_tool.specs.Program.{is_mark, split_lines, split_text}
+
+split_map : (front line : List ℕ) (o : Option (List (List ℕ) × List (List ℕ))) → option_map {U = List ℕ × List ℕ} (λ p. ((front ++ line) ++ join p.0, join p.1)) o ≡ option_map {U = List ℕ × List ℕ} (λ p. (front ++ join p.0, join p.1)) (option_map {U = List (List ℕ) × List (List ℕ)} (λ p. (line ∷ p.0, p.1)) o)
+split_map front line None = refl
+split_map front line (Some p) = ap (λ z. Some (z, join p.1)) (append_assoc front line (join p.0))
+
+-- one line more before the mark
+pub split_more : (front later line : List ℕ) (ls : List (List ℕ)) → later ≡ front ++ line → is_mark line ≡ false → option_map {U = List ℕ × List ℕ} (λ p. (later ++ join p.0, join p.1)) (split_lines ls) ≡ option_map {U = List ℕ × List ℕ} (λ p. (front ++ join p.0, join p.1)) (split_lines (line ∷ ls))
+split_more front later line ls e h = rw (e, h) (split_map front line (split_lines ls))
+
+-- the mark
+pub split_found : (front line after : List ℕ) → is_mark line ≡ true → option_map {U = List ℕ × List ℕ} (λ p. (front ++ join p.0, join p.1)) (split_lines (line ∷ physical_lines after)) ≡ Some (front, after)
+split_found front line after h =
+    let begin : front ++ [] ≡ front = append-nil front in
+    let rest : join (physical_lines after) ≡ after = (lines-each after).2 in
+    rw h (ap (λ z. Some (z, join (physical_lines after))) begin ∙ ap (λ z. Some (front, z)) rest)
+
+-- two appends in turn
+pub appends_more : (old mid new : Option (List ℕ)) (xs ys : List ℕ) → Appends old mid xs → Appends mid new ys → Appends old new (xs ++ ys)
+appends_more None mid new xs ys a b = tt
+appends_more (Some o) None new xs ys a b = absurd a
+appends_more (Some o) (Some m) None xs ys a b = absurd b
+appends_more (Some o) (Some m) (Some n) xs ys a b = rw (b, a) (append_assoc o xs ys)
+
+-- a write that keeps what is held
+pub appends_none : (old mid new : Option (List ℕ)) (xs : List ℕ) → Appends old mid xs → Keeps mid new → Appends old new xs
+appends_none None mid new xs a b = tt
+appends_none (Some o) None new xs a b = absurd a
+appends_none (Some o) (Some m) None xs a b = absurd b
+appends_none (Some o) (Some m) (Some n) xs a b = b ∙ a

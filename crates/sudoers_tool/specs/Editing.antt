@@ -1,0 +1,96 @@
+-- What an edit does to the lines of a policy, and what takes it back.
+use Rattle.std.specs.Prelude.{◌≡◌, ℕ, ◌+◌, Bool, true, false, nat_lt, if◌then◌else◌, List, [], ◌∷◌, ◌++◌, length, insert, remove, slice_index_or, map, reverse, Option, Some, None, Result, Ok, Err, unwrap_or, option_and_then, IsSomeAnd}
+use Rattle.std.specs.Result.{result_ok, result_unwrap_or}
+use Rattle.sudoers_text.specs.Line.{join}
+use Rattle.sudoers_text.specs.Ended.{has_unended_inside}
+use Rattle.sudoers_text.specs.Fault.{text_limit}
+use Rattle.sudoers_text.specs.Cut.{cut_of}
+use Rattle.sudoers_tool.specs.OneLine.{is_one_line}
+use Rattle.sudoers_tool.specs.declared.edit.Edit.{Edit}
+use Rattle.sudoers_tool.specs.declared.edit.Edit.TheVariants.{Insert, Delete}
+use Rattle.sudoers_tool.specs.declared.edit.EditFault.{EditFault}
+use Rattle.sudoers_tool.specs.declared.edit.EditFault.TheVariants.{NoLine, NotOneLine, OpenLine, TooLarge, NoMemory}
+use Rattle.sudoers_tool.specs.declared.editor.Entry.{Entry}
+
+-- these lines, if only the last may lack LF and they are within the limit
+abbrev pub checked : List (List ℕ) → Result (List (List ℕ)) EditFault
+checked lines =
+    if has_unended_inside lines then Err OpenLine
+    else (if nat_lt text_limit (length (join lines)) then Err TooLarge else Ok lines)
+
+-- the lines after an edit, or the first cause of its refusal
+abbrev pub step : Edit → List (List ℕ) → Result (List (List ℕ)) EditFault
+step (Insert at text) lines =
+    if nat_lt (length lines) at then Err NoLine
+    else (if is_one_line text then checked (insert lines at text) else Err NotOneLine)
+step (Delete at) lines = if nat_lt at (length lines) then checked (remove lines at) else Err NoLine
+
+-- the lines after an edit, or those before it where it is refused
+abbrev pub after : Edit → List (List ℕ) → List (List ℕ)
+after edit lines = result_unwrap_or (step edit lines) lines
+
+-- the edits that take an edit back
+abbrev pub inv : Edit → List (List ℕ) → List Edit
+inv (Insert at text) lines = Delete at ∷ []
+inv (Delete at) lines = Insert at (slice_index_or lines at []) ∷ []
+
+-- the lines after all edits, where none is refused
+abbrev pub run : List Edit → List (List ℕ) → Option (List (List ℕ))
+run [] lines = Some lines
+run (edit ∷ edits) lines = option_and_then (run edits) (result_ok (step edit lines))
+
+-- what follows a step, or its refusal with its place
+abbrev pub then_or : (List (List ℕ) → Result (List (List ℕ)) (ℕ × EditFault)) → ℕ → Result (List (List ℕ)) EditFault → Result (List (List ℕ)) (ℕ × EditFault)
+then_or next place (Ok lines) = next lines
+then_or next place (Err fault) = Err (place, fault)
+
+-- the lines after all edits, or the place of the first refused one, where the places count on from this one, and the cause
+abbrev pub run_all : ℕ → List Edit → List (List ℕ) → Result (List (List ℕ)) (ℕ × EditFault)
+run_all place [] lines = Ok lines
+run_all place (edit ∷ edits) lines = then_or (run_all (place + 1) edits) place (step edit lines)
+
+-- each edit's inverse at the lines just before it, the last edit's first
+abbrev pub inv_run : List Edit → List (List ℕ) → List Edit
+inv_run [] lines = []
+inv_run (edit ∷ edits) lines = inv_run edits (after edit lines) ++ inv edit lines
+
+-- The entries, the newest first, are undone in turn from the present lines on: each inverse is defined there, and leads
+-- to the lines just before its edit, at which it is the edit's inverse.
+abbrev pub IsUndoable : List Entry → List (List ℕ) → Type 0
+IsUndoable [] now = Unit {0}
+IsUndoable (entry ∷ entries) now =
+    IsSomeAnd (run entry.inverse now) (λ before.
+    (step entry.edit before ≡ Ok now) × (entry.inverse ≡ inv entry.edit before) × IsUndoable entries before)
+
+-- the lines before the first of the entries, the newest first
+abbrev pub first_lines : List Entry → List (List ℕ) → List (List ℕ)
+first_lines [] now = now
+first_lines (entry ∷ entries) now = first_lines entries (unwrap_or (run entry.inverse now) now)
+
+-- an editor: its lines, and the entries of its journal, the oldest first
+pub record Desk : Type 0 where
+  pub lines : List (List ℕ)
+  pub journal : List Entry
+
+abbrev pub edits_of : List Entry → List Edit
+edits_of entries = map (λ (entry : Entry). entry.edit) entries
+
+-- the lines that the editor began with
+abbrev pub first_of : Desk → List (List ℕ)
+first_of desk = first_lines (reverse desk.journal) desk.lines
+
+-- a fault that is told: the stated one, or want of memory
+abbrev pub Refuses : EditFault → Result (List (List ℕ)) EditFault → Type 0
+Refuses NoMemory wanted = Unit {0}
+Refuses NoLine wanted = wanted ≡ Err NoLine
+Refuses NotOneLine wanted = wanted ≡ Err NotOneLine
+Refuses OpenLine wanted = wanted ≡ Err OpenLine
+Refuses TooLarge wanted = wanted ≡ Err TooLarge
+
+-- the run stops at this place for this cause, or memory ran out
+abbrev pub StopsAt : ℕ → EditFault → List Edit → List (List ℕ) → Type 0
+StopsAt place NoMemory edits lines = Unit {0}
+StopsAt place NoLine edits lines = run_all 0 edits lines ≡ Err (place, NoLine)
+StopsAt place NotOneLine edits lines = run_all 0 edits lines ≡ Err (place, NotOneLine)
+StopsAt place OpenLine edits lines = run_all 0 edits lines ≡ Err (place, OpenLine)
+StopsAt place TooLarge edits lines = run_all 0 edits lines ≡ Err (place, TooLarge)

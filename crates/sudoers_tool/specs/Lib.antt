@@ -1,0 +1,9 @@
+pub mod Device
+pub mod Physical
+pub mod OneLine
+pub mod Editing
+pub mod Script
+pub mod ScriptReading
+pub mod ScriptStanding
+pub mod FaultText
+pub mod Program

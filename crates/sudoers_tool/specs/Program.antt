@@ -1,0 +1,123 @@
+-- What the program writes for what it reads, and its faults in their order.
+use Rattle.std.specs.Prelude.{◌≡◌, ◌⊎◌, ℕ, Bool, true, false, ◌&&◌, ◌==◌, nat_lt, if◌then◌else◌, List, [], ◌∷◌, ◌++◌, length, Option, Some, None, Result, Ok, Err}
+use Rattle.std.specs.Option.{option_map}
+use Rattle.sudoers_text.specs.Line.{join}
+use Rattle.sudoers_text.specs.Cut.{cut_of}
+use Rattle.sudoers_text.specs.declared.fault.TextFault.{TextFault}
+use Rattle.sudoers_tool.specs.declared.edit.Edit.{Edit}
+use Rattle.sudoers_tool.specs.declared.edit.EditFault.{EditFault}
+use Rattle.sudoers_tool.specs.declared.script.ScriptFault.{ScriptFault}
+use Rattle.sudoers_tool.specs.declared.script.ScriptFault.TheVariants as script
+use Rattle.sudoers_tool.specs.declared.fault.LayerFault.{LayerFault}
+use Rattle.sudoers_tool.specs.declared.fault.LayerFault.TheVariants as layer
+use Rattle.sudoers_tool.specs.declared.fault.ToolFault.{ToolFault}
+use Rattle.sudoers_tool.specs.declared.fault.ToolFault.TheVariants as tool
+use Rattle.sudoers_tool.specs.Physical.{physical_lines}
+use Rattle.sudoers_tool.specs.Editing.{run_all, inv_run}
+use Rattle.sudoers_tool.specs.Script.{edit_limit, spelling}
+use Rattle.sudoers_tool.specs.ScriptReading.{reading}
+
+-- how many bytes the program reads
+abbrev pub input_limit : ℕ
+input_limit = 4000000
+
+-- the line `%%`, which only LF ends
+abbrev pub is_mark : List ℕ → Bool
+is_mark (a ∷ b ∷ c ∷ []) = (a == 37) && (b == 37) && (c == 10)
+is_mark _ = false
+
+-- the lines before the first mark, and those behind it
+abbrev pub split_lines : List (List ℕ) → Option (List (List ℕ) × List (List ℕ))
+split_lines [] = None
+split_lines (line ∷ lines) =
+    if is_mark line then Some ([], lines) else option_map (λ parts. (line ∷ parts.0, parts.1)) (split_lines lines)
+
+-- the script, before the mark, and the policy behind it
+abbrev pub split_text : List ℕ → Option (List ℕ × List ℕ)
+split_text text = option_map (λ parts. (join parts.0, join parts.1)) (split_lines (physical_lines text))
+
+infixl 10 ◌>>=◌
+abbrev pub ◌>>=◌ : {A B : Type 0} → Result A LayerFault → (A → Result B LayerFault) → Result B LayerFault
+(Ok x) >>= next = next x
+(Err fault) >>= next = Err fault
+
+abbrev pub by_script : {A : Type 0} → Result A ScriptFault → Result A LayerFault
+by_script (Ok x) = Ok x
+by_script (Err fault) = Err (layer.Script fault)
+
+abbrev pub by_text : {A : Type 0} → Result A TextFault → Result A LayerFault
+by_text (Ok x) = Ok x
+by_text (Err fault) = Err (layer.Text fault)
+
+abbrev pub by_edit : {A : Type 0} → Result A (ℕ × EditFault) → Result A LayerFault
+by_edit (Ok x) = Ok x
+by_edit (Err refused) = Err (layer.Edit refused.0 refused.1)
+
+-- the spelling of the inverse edits, the mark and the policy's text, unless the edits are too many
+abbrev pub output_text : List Edit → List (List ℕ) → Result (List ℕ) LayerFault
+output_text inverse lines =
+    if nat_lt edit_limit (length inverse) then Err (layer.Script script.TooMany)
+    else Ok (spelling inverse ++ 37 ∷ 37 ∷ 10 ∷ [] ++ join lines)
+
+-- the inverse script, the mark and the edited policy; or the first fault of the script, of the policy, of the edits
+abbrev pub edited : List ℕ → List ℕ → Result (List ℕ) LayerFault
+edited script policy =
+    by_script (reading script) >>= (λ edits. by_text (cut_of policy) >>= (λ lines.
+    by_edit (run_all 0 edits lines) >>= (λ new. output_text (inv_run edits lines) new)))
+
+abbrev pub by_layer : {A : Type 0} → Result A LayerFault → Result A ToolFault
+by_layer (Ok x) = Ok x
+by_layer (Err fault) = Err (tool.Layer fault)
+
+abbrev pub of_parts : Option (List ℕ × List ℕ) → Result (List ℕ) ToolFault
+of_parts None = Err tool.NoMark
+of_parts (Some parts) = by_layer (edited parts.0 parts.1)
+
+-- what the program writes for an input, or why it gives up
+abbrev pub output_of : List ℕ → Result (List ℕ) ToolFault
+output_of input =
+    if nat_lt input_limit (length input) then Err tool.InputTooLarge else of_parts (split_text input)
+
+-- the stated fault, or want of memory
+abbrev pub TellsLayer : {A : Type 0} → LayerFault → Result A LayerFault → Type 0
+TellsLayer fault wanted = (fault ≡ layer.NoMemory) ⊎ (wanted ≡ Err fault)
+
+-- a fault that the input has; those of the devices and of memory say nothing of it
+abbrev pub TellsTool : ToolFault → List ℕ → Type 0
+TellsTool tool.Read input = Unit {0}
+TellsTool tool.Write input = Unit {0}
+TellsTool tool.NoEnd input = Unit {0}
+TellsTool (tool.Layer fault) input = (fault ≡ layer.NoMemory) ⊎ (output_of input ≡ Err (tool.Layer fault))
+TellsTool tool.NoMark input = output_of input ≡ Err tool.NoMark
+TellsTool tool.InputTooLarge input = output_of input ≡ Err tool.InputTooLarge
+
+-- The outcome asks that the reader told its end: not if reading failed, was given up or was too much, and not if memory ran out.
+abbrev pub NeedsEnd : Result ℕ ToolFault → Type 0
+NeedsEnd (Ok status) = Unit {0}
+NeedsEnd (Err tool.Read) = ⊥
+NeedsEnd (Err tool.NoEnd) = ⊥
+NeedsEnd (Err tool.InputTooLarge) = ⊥
+NeedsEnd (Err (tool.Layer layer.NoMemory)) = ⊥
+NeedsEnd (Err (tool.Layer (layer.Text fault))) = Unit {0}
+NeedsEnd (Err (tool.Layer (layer.Script fault))) = Unit {0}
+NeedsEnd (Err (tool.Layer (layer.Edit place fault))) = Unit {0}
+NeedsEnd (Err tool.NoMark) = Unit {0}
+NeedsEnd (Err tool.Write) = Unit {0}
+
+-- the faults of reading
+abbrev pub IsReadFault : ToolFault → Type 0
+IsReadFault tool.Read = Unit {0}
+IsReadFault tool.NoEnd = Unit {0}
+IsReadFault tool.InputTooLarge = Unit {0}
+IsReadFault (tool.Layer fault) = fault ≡ layer.NoMemory
+IsReadFault tool.Write = ⊥
+IsReadFault tool.NoMark = ⊥
+
+-- the faults of an input that was read
+abbrev pub IsAnswerFault : ToolFault → Type 0
+IsAnswerFault (tool.Layer fault) = Unit {0}
+IsAnswerFault tool.NoMark = Unit {0}
+IsAnswerFault tool.Read = ⊥
+IsAnswerFault tool.Write = ⊥
+IsAnswerFault tool.NoEnd = ⊥
+IsAnswerFault tool.InputTooLarge = ⊥

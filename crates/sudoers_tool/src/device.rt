@@ -1,0 +1,161 @@
+//! Readers and writers that count what they do.
+ghost use Rattle.std.specs.Prelude.{◌≡◌, ℕ, ◌<◌, ◌≤◌, ◌+◌, ◌-◌, ◌^◌, min, length, IfOk, OnErr};
+ghost use Rattle.std.specs.Io.{WritesAtMost, ReadsAtMost};
+ghost use Rattle.std.specs.Io.KnownBytes.{Keeps, WriteAppends, ReadConsumes};
+ghost use Rattle.sudoers_tool.specs.Device.{Rose, IsWithin, Takes, Ends};
+
+use std::io;
+use std::io::{ErrorKind, Read, Write};
+
+/// What one read gave: how many bytes, or an interruption.
+#[derive(Clone, Copy, Debug, PartialEq, Eq)]
+pub enum Pulled {
+    Bytes(usize),
+    Interrupted,
+}
+
+/// The device failed.
+#[derive(Clone, Copy, Debug, PartialEq, Eq)]
+pub struct DeviceFailed;
+
+/// A reader that counts its failures.
+pub trait Source: Read {
+    /// How often it has failed, up to the greatest number.
+    ghost failures: { Self → ℕ };
+
+    /// How often it has been asked, up to the greatest number.
+    ghost pulls: { Self → ℕ };
+
+    /// How often it has told its end, up to the greatest number.
+    ghost ends: { Self → ℕ };
+
+    /// One read. No bytes, where the buffer has room, tell the end of the input.
+    fn pull(&mut self, buf: &mut [u8]) -> Result<Pulled, DeviceFailed>
+        ensures within { IfOk result (λ pulled. IsWithin pulled buf.new) }
+        ensures bytes { IfOk result (λ pulled. Takes (Self.remaining self.old) (Self.remaining self.new) pulled buf.new) }
+        ensures kept { OnErr result (Keeps (Self.remaining self.old) (Self.remaining self.new)) }
+        ensures failed { OnErr result (Rose (failures self.old) (failures self.new)) }
+        ensures counted { failures self.old ≤ failures self.new }
+        ensures asked { pulls self.new ≤ pulls self.old + 1 }
+        ensures told { min (pulls self.old + 1) (2 ^ 64 - 1) ≤ pulls self.new }
+        ensures ended { Ends (ends self.old) (ends self.new) result buf.new };
+
+    /// How often it has failed, up to the greatest number.
+    fn failures(&self) -> u64
+        ensures { result ≡ failures self.now };
+}
+
+/// A writer that counts its failures.
+pub trait Sink: Write {
+    /// How often it has failed, up to the greatest number.
+    ghost failures: { Self → ℕ };
+
+    /// One write. An interrupted one has failed, and so has one that takes no byte of a piece.
+    fn push(&mut self, piece: &[u8]) -> Result<usize, DeviceFailed>
+        ensures within { IfOk result (λ n. n ≤ length piece.now) }
+        ensures some { 0 < length piece.now → IfOk result (λ n. 0 < n) }
+        ensures bytes { WriteAppends (Self.contents self.old) (Self.contents self.new) result piece.now }
+        ensures failed { OnErr result (Rose (failures self.old) (failures self.new)) }
+        ensures counted { failures self.old ≤ failures self.new };
+
+    /// How often it has failed, up to the greatest number.
+    fn failures(&self) -> u64
+        ensures { result ≡ failures self.now };
+}
+
+/// Any reader or writer, with counts of what it did. It passes the bytes on.
+#[derive(Drop)]
+pub struct Counted<T> {
+    device: T,
+    failures: u64,
+    pulls: u64,
+    ends: u64,
+}
+
+impl<T> Counted<T> {
+    /// The device, which has done nothing yet.
+    pub fn new(device: T) -> Counted<T>
+        ensures { result ≡ record { device = device; failures = 0; pulls = 0; ends = 0 } }
+    {
+        Counted {
+            device,
+            failures: 0,
+            pulls: 0,
+            ends: 0,
+        }
+    }
+
+    /// The device.
+    pub fn device(&self) -> &T
+        ensures { result.now ≡ self.now.device }
+    {
+        &self.device
+    }
+}
+
+impl<R: Read> Read for Counted<R> {
+    ghost remaining = { λ c. R.remaining c.device };
+
+    fn read(&mut self, buf: &mut [u8]) -> io::Result<usize> {
+        self.device.read(buf)
+    }
+}
+
+impl<W: Write> Write for Counted<W> {
+    ghost contents = { λ c. W.contents c.device };
+
+    fn write(&mut self, buf: &[u8]) -> io::Result<usize> {
+        self.device.write(buf)
+    }
+
+    fn flush(&mut self) -> io::Result<()> {
+        self.device.flush()
+    }
+}
+
+impl<R: Read> Source for Counted<R> {
+    ghost failures = { λ c. c.failures };
+
+    ghost pulls = { λ c. c.pulls };
+
+    ghost ends = { λ c. c.ends };
+
+    fn pull(&mut self, buf: &mut [u8]) -> Result<Pulled, DeviceFailed> {
+        self.pulls = self.pulls.saturating_add(1);
+        match self.device.read(buf) {
+            Ok(n) => {
+                if n == 0 && !buf.is_empty() {
+                    self.ends = self.ends.saturating_add(1);
+                }
+                Ok(Pulled::Bytes(n))
+            }
+            Err(e) if e.kind() == ErrorKind::Interrupted => Ok(Pulled::Interrupted),
+            Err(_) => {
+                self.failures = self.failures.saturating_add(1);
+                Err(DeviceFailed)
+            }
+        }
+    }
+
+    fn failures(&self) -> u64 {
+        self.failures
+    }
+}
+
+impl<W: Write> Sink for Counted<W> {
+    ghost failures = { λ c. c.failures };
+
+    fn push(&mut self, piece: &[u8]) -> Result<usize, DeviceFailed> {
+        match self.device.write(piece) {
+            Ok(n) if n > 0 || piece.is_empty() => Ok(n),
+            _ => {
+                self.failures = self.failures.saturating_add(1);
+                Err(DeviceFailed)
+            }
+        }
+    }
+
+    fn failures(&self) -> u64 {
+        self.failures
+    }
+}

@@ -1,0 +1,130 @@
+//! The edits of a policy, and why one is refused.
+use crate::text::Text;
+use std::alloc::{AllocError, AllocFailed, Global};
+use std::marker::Model;
+use thiserror::Error;
+
+/// An edit of a policy. Lines count from 0.
+#[derive(Debug, Drop)]
+pub enum Edit {
+    /// Puts a text of one logical line before the line `at`, or behind the last line.
+    Insert { at: u32, text: Text },
+    /// Takes the line `at` out.
+    Delete { at: u32 },
+}
+
+/// Why an edit is refused, the first cause in this order.
+#[derive(Clone, Copy, Debug, Drop, PartialEq, Eq, Error)]
+pub enum EditFault {
+    /// The line is not there.
+    #[error("NoLine")]
+    NoLine,
+    /// The text to insert is not exactly one logical line.
+    #[error("NotOneLine")]
+    NotOneLine,
+    /// A line without LF would stand before another.
+    #[error("OpenLine")]
+    OpenLine,
+    /// The result would pass the limit of a policy.
+    #[error("TooLarge")]
+    TooLarge,
+    #[error("NoMemory")]
+    NoMemory,
+}
+
+impl From<AllocError> for EditFault {
+    ghost use Rattle.std.specs.Prelude.{◌≡◌};
+    ghost use Rattle.sudoers_tool.specs.declared.edit.EditFault.TheVariants.{NoMemory};
+
+    ghost from_gives = { λ _ e. e ≡ NoMemory };
+
+    fn from(_error: AllocError) -> EditFault {
+        EditFault::NoMemory
+    }
+}
+
+impl<T: Drop> From<AllocFailed<T>> for EditFault {
+    ghost use Rattle.std.specs.Prelude.{◌≡◌};
+    ghost use Rattle.sudoers_tool.specs.declared.edit.EditFault.TheVariants.{NoMemory};
+
+    ghost from_gives = { λ _ e. e ≡ NoMemory };
+
+    fn from(_error: AllocFailed<T>) -> EditFault {
+        EditFault::NoMemory
+    }
+}
+
+/// A list of edits.
+#[derive(Debug, Drop)]
+pub struct Edits {
+    items: Vec<Edit>,
+}
+
+impl Model for Edits {
+    ghost use Rattle.std.specs.Prelude.{List};
+    ghost use Rattle.sudoers_tool.specs.declared.edit.Edit.{Edit};
+
+    ghost Value = { List Edit };
+
+    ghost view = { λ edits. edits.items.items };
+}
+
+ghost use Rattle.std.specs.Prelude.{◌≡◌, ◌∷◌, [], ◌++◌, length, IfOk, OnOk, OnErr};
+
+impl Edit {
+    /// A copy of the edit.
+    pub fn copied(&self, alloc: Global) -> Result<Edit, AllocError>
+        ensures { IfOk result (λ edit. edit ≡ self.now) }
+    {
+        match self {
+            Edit::Insert { at, text } => Ok(Edit::Insert {
+                at: *at,
+                text: Text::from_slice(alloc, text.as_slice())?,
+            }),
+            Edit::Delete { at } => Ok(Edit::Delete { at: *at }),
+        }
+    }
+}
+
+impl Edits {
+    /// No edits.
+    pub fn new(alloc: Global) -> Edits
+        ensures { result ≡ [] }
+    {
+        Edits {
+            items: Vec::new(alloc),
+        }
+    }
+
+    /// One edit.
+    pub fn one(alloc: Global, edit: Edit) -> Result<Edits, AllocError>
+        ensures { IfOk result (λ edits. edits ≡ edit ∷ []) }
+    {
+        let mut items = Vec::new(alloc);
+        items.push(edit)?;
+        Ok(Edits { items })
+    }
+
+    /// One edit more, at the end.
+    pub fn push(&mut self, edit: Edit) -> Result<(), AllocError>
+        ensures ok { OnOk result (self.new ≡ self.old ++ edit ∷ []) }
+        ensures err { OnErr result (self.new ≡ self.old) }
+    {
+        self.items.push(edit)?;
+        Ok(())
+    }
+
+    /// The edits.
+    pub fn as_slice(&self) -> &[Edit]
+        ensures { result.now ≡ self.now }
+    {
+        self.items.as_slice()
+    }
+
+    /// How many there are.
+    pub fn len(&self) -> usize
+        ensures { result ≡ length self.now }
+    {
+        self.items.len()
+    }
+}

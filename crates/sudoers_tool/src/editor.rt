@@ -1,0 +1,235 @@
+//! The editor: a policy, and a journal of its edits.
+ghost use Rattle.std.specs.Prelude.{◌≡◌, ◌≢◌, ◌+◌, ◌-◌, ◌<◌, ◌≤◌, ◌∷◌, [], ◌++◌, length, insert, remove, reverse, Some, Ok, Err, IfOk, IfErr, OnOk, OnErr, MatchResult, slice_index_or, IsTrue, vec_len, true, false, List, ℕ, take};
+ghost use Rattle.std.specs.List.{flat_map};
+ghost use Rattle.sudoers_text.specs.Line.{join};
+ghost use Rattle.sudoers_text.specs.Ended.{has_unended_inside};
+ghost use Rattle.sudoers_tool.specs.OneLine.{is_one_line, IsAlone};
+
+use crate::edit::{Edit, EditFault, Edits};
+use crate::physical::ends_in_lf;
+use crate::policy::Policy;
+use crate::text::Text;
+use std::alloc::{AllocError, Global};
+use std::marker::Model;
+use sudoers_text::{TEXT_LIMIT, TextFault, cut, lines_stand_alone};
+
+/// An accepted edit, with the edits that take it back.
+#[derive(Debug, Drop)]
+pub struct Entry {
+    pub edit: Edit,
+    pub inverse: Edits,
+}
+
+/// A policy, and the accepted edits that stand, the oldest first. The policy that it began with is kept nowhere: the
+/// journal leads back to it.
+#[derive(Debug, Drop)]
+pub struct Editor {
+    policy: Policy,
+    journal: Vec<Entry>,
+}
+
+impl Model for Editor {
+    ghost use Rattle.std.specs.Prelude.{reverse};
+    ghost use Rattle.sudoers_tool.specs.Editing.{Desk, IsUndoable};
+
+    ghost Value = { Desk };
+
+    ghost view = { λ editor. record { lines = editor.policy; journal = editor.journal.items } };
+
+    ghost invariant = { λ editor. IsUndoable (reverse editor.journal.items) editor.policy };
+}
+
+impl Editor {
+    ghost use Rattle.sudoers_tool.specs.Editing.{step, inv, run, run_all, inv_run, first_of, edits_of, Refuses, StopsAt};
+
+    /// The policy, and an empty journal.
+    pub fn new(policy: Policy) -> Editor
+        ensures lines { result.lines ≡ policy }
+        ensures journal { result.journal ≡ [] }
+    {
+        let alloc = policy.allocator();
+        Editor {
+            policy,
+            journal: Vec::new(alloc),
+        }
+    }
+
+    /// The policy as it stands.
+    pub fn policy(&self) -> &Policy
+        ensures { result.now ≡ self.now.lines }
+    {
+        &self.policy
+    }
+
+    /// How many accepted edits stand.
+    pub fn steps(&self) -> usize
+        ensures { result ≡ length self.now.journal }
+    {
+        self.journal.len()
+    }
+
+    /// Makes the edit, or says why it is refused.
+    ///
+    /// # Errors
+    ///
+    /// The first cause of [`EditFault`]; the editor is then as it was.
+    pub fn apply(&mut self, edit: &Edit) -> Result<(), EditFault>
+        // The lines are those of the definition.
+        ensures step { OnOk result (step edit.now self.old.lines ≡ Ok self.new.lines) }
+        // The journal grows by the edit with what takes it back.
+        ensures journal { OnOk result (self.new.journal
+            ≡ self.old.journal ++ record { edit = edit.now; inverse = inv edit.now self.old.lines } ∷ []) }
+        // It still leads back to the same lines.
+        ensures begun { first_of self.new ≡ first_of self.old }
+        // A refusal is the definition's, or want of memory, and changes neither lines nor journal.
+        ensures refused { IfErr result (λ fault. Refuses fault (step edit.now self.old.lines)) }
+        ensures unchanged { OnErr result (self.new ≡ self.old) }
+    {
+        match edit {
+            Edit::Insert { at, text } => self.insert(*at, text.as_slice()),
+            Edit::Delete { at } => self.delete(*at),
+        }
+    }
+
+    fn insert(&mut self, at: u32, text: &[u8]) -> Result<(), EditFault>
+        ensures step { OnOk result (step (Edit.Insert at text.now) self.old.lines ≡ Ok self.new.lines) }
+        ensures journal { OnOk result (self.new.journal
+            ≡ self.old.journal ++ record { edit = Edit.Insert at text.now; inverse = inv (Edit.Insert at text.now) self.old.lines } ∷ []) }
+        ensures begun { first_of self.new ≡ first_of self.old }
+        ensures refused { IfErr result (λ fault. Refuses fault (step (Edit.Insert at text.now) self.old.lines)) }
+        ensures unchanged { OnErr result (self.new ≡ self.old) }
+    {
+        let alloc = self.policy.allocator();
+        let place = at as usize;
+        if place > self.policy.len() {
+            return Err(EditFault::NoLine);
+        }
+        if !is_one_line(alloc, text)? {
+            return Err(EditFault::NotOneLine);
+        }
+        if leaves_unended(&self.policy, place, text) {
+            return Err(EditFault::OpenLine);
+        }
+        if text.len() > TEXT_LIMIT - self.policy.size() {
+            return Err(EditFault::TooLarge);
+        }
+        let edit = Edit::Insert {
+            at,
+            text: Text::from_slice(alloc, text)?,
+        };
+        let inverse = Edits::one(alloc, Edit::Delete { at })?;
+        let line = Text::from_slice(alloc, text)?;
+        self.journal.reserve(1)?;
+        self.policy.with_line(place, line)?;
+        self.journal.push(Entry { edit, inverse }).unwrap();
+        Ok(())
+    }
+
+    fn delete(&mut self, at: u32) -> Result<(), EditFault>
+        ensures step { OnOk result (step (Edit.Delete at) self.old.lines ≡ Ok self.new.lines) }
+        ensures journal { OnOk result (self.new.journal
+            ≡ self.old.journal ++ record { edit = Edit.Delete at; inverse = inv (Edit.Delete at) self.old.lines } ∷ []) }
+        ensures begun { first_of self.new ≡ first_of self.old }
+        ensures refused { IfErr result (λ fault. Refuses fault (step (Edit.Delete at) self.old.lines)) }
+        ensures unchanged { OnErr result (self.new ≡ self.old) }
+    {
+        let alloc = self.policy.allocator();
+        let place = at as usize;
+        if place >= self.policy.len() {
+            return Err(EditFault::NoLine);
+        }
+        let text = Text::from_slice(alloc, self.policy.line(place))?;
+        let inverse = Edits::one(alloc, Edit::Insert { at, text })?;
+        self.journal.reserve(1)?;
+        let _line = self.policy.without_line(place);
+        let edit = Edit::Delete { at };
+        self.journal.push(Entry { edit, inverse }).unwrap();
+        Ok(())
+    }
+
+    /// Makes the edits in order.
+    ///
+    /// # Errors
+    ///
+    /// The place of the first refused edit, from 0, and why; the edits before it stay.
+    pub fn apply_all(&mut self, edits: &[Edit]) -> Result<(), (usize, EditFault)>
+        // Each text on the way is the definition's: the lines are those of the edits made so far.
+        ensures lines { MatchResult result (λ _. run edits.now self.old.lines ≡ Some self.new.lines)
+            (λ refused. run (take refused.0 edits.now) self.old.lines ≡ Some self.new.lines) }
+        ensures journal { MatchResult result (λ _. edits_of self.new.journal ≡ edits_of self.old.journal ++ edits.now)
+            (λ refused. edits_of self.new.journal ≡ edits_of self.old.journal ++ take refused.0 edits.now) }
+        // It stops exactly where the definition does.
+        ensures accepted { OnOk result (run_all 0 edits.now self.old.lines ≡ Ok self.new.lines) }
+        ensures refused { IfErr result (λ refused. StopsAt refused.0 refused.1 edits.now self.old.lines) }
+        ensures begun { first_of self.new ≡ first_of self.old }
+    {
+        for (place, edit) in edits.iter().enumerate() {
+            if let Err(fault) = self.apply(edit) {
+                return Err((place, fault));
+            }
+        }
+        Ok(())
+    }
+
+    /// The edits that take back all that stand, the newest first.
+    pub fn inverse(&self) -> Result<Edits, AllocError>
+        // They are exactly the definition's, not just some that restore.
+        ensures exact { IfOk result (λ edits. edits ≡ inv_run (edits_of self.now.journal) (first_of self.now)) }
+        // The edits that stand lead from the first lines to the present ones.
+        ensures forth { run (edits_of self.now.journal) (first_of self.now) ≡ Some self.now.lines }
+        // The inverse edits lead back, byte for byte, and none of them is refused.
+        ensures restores { IfOk result (λ edits. run edits self.now.lines ≡ Some (first_of self.now)) }
+        ensures accepted { IfOk result (λ edits. run_all 0 edits self.now.lines ≡ Ok (first_of self.now)) }
+    {
+        gathered(self.policy.allocator(), self.journal.as_slice())
+    }
+}
+
+/// Whether a line without LF would stand before another once the text stands at a place.
+fn leaves_unended(policy: &Policy, at: usize, text: &[u8]) -> bool
+    requires { at ≤ length policy.now }
+    ensures { result ≡ has_unended_inside (insert policy.now at text.now) }
+{
+    if at < policy.len() {
+        !ends_in_lf(text)
+    } else if at > 0 {
+        !ends_in_lf(policy.line(at - 1))
+    } else {
+        false
+    }
+}
+
+/// Whether a text is exactly one logical line.
+fn is_one_line(alloc: Global, text: &[u8]) -> Result<bool, AllocError>
+    ensures is { IfOk result (λ is. is ≡ is_one_line text.now) }
+    ensures alone { IfOk result (λ is. is ≡ true → IsAlone text.now) }
+{
+    lines_stand_alone();
+    match cut(alloc, text) {
+        Ok(lines) => Ok(lines.len() == 1),
+        Err(TextFault::NoMemory) => Err(AllocError),
+        Err(_) => Ok(false),
+    }
+}
+
+/// The inverses of the entries, the last entry's first.
+fn gathered(alloc: Global, journal: &[Entry]) -> Result<Edits, AllocError>
+    ensures { IfOk result (λ edits. edits ≡ flat_map (λ entry. entry.inverse) (reverse journal.now)) }
+{
+    let mut edits = Edits::new(alloc);
+    let mut left = journal;
+    while let Some((entry, before)) = left.split_last() {
+        append_copies(alloc, &mut edits, entry.inverse.as_slice())?;
+        left = before;
+    }
+    Ok(edits)
+}
+
+fn append_copies(alloc: Global, to: &mut Edits, from: &[Edit]) -> Result<(), AllocError>
+    ensures { OnOk result (to.new ≡ to.old ++ from.now) }
+{
+    for edit in from {
+        to.push(edit.copied(alloc)?)?;
+    }
+    Ok(())
+}

@@ -1,0 +1,170 @@
+//! Why the program gives up, and the text that it then shows.
+ghost use Rattle.std.specs.Prelude.{◌≡◌, ◌+◌, ◌<◌, ◌^◌, ◌++◌, IfOk, OnOk};
+ghost use Rattle.std.specs.Fmt.{decimal};
+ghost use Rattle.sudoers_tool.specs.FaultText.{text_of_tool, text_of_layer, text_of_text, text_of_script, text_of_edit, script_text, edit_name};
+
+use crate::edit::EditFault;
+use crate::script::ScriptFault;
+use std::alloc::{AllocError, Global};
+use sudoers_text::TextFault;
+use thiserror::Error;
+
+/// A fault of a layer below. Want of memory is `NoMemory` here, wherever it was met.
+#[derive(Clone, Copy, Debug, Drop, PartialEq, Eq, Error)]
+pub enum LayerFault {
+    /// The policy cannot be cut into lines.
+    #[error("{0}")]
+    Text(TextFault),
+    /// The script is none, or the inverse list is too long.
+    #[error("{0}")]
+    Script(ScriptFault),
+    /// The edit at this place, from 0, is refused.
+    #[error("edit at {0}: {1}")]
+    Edit(usize, EditFault),
+    #[error("NoMemory")]
+    NoMemory,
+}
+
+/// Why the program gives up.
+#[derive(Clone, Copy, Debug, Drop, PartialEq, Eq, Error)]
+pub enum ToolFault {
+    /// The reader failed.
+    #[error("Read")]
+    Read,
+    /// The writer failed; a front of the output has been written.
+    #[error("Write")]
+    Write,
+    /// The input has no end within the reads that are allowed.
+    #[error("NoEnd")]
+    NoEnd,
+    #[error("{0}")]
+    Layer(LayerFault),
+    /// No line of the input is the mark.
+    #[error("NoMark")]
+    NoMark,
+    /// The input passes its limit.
+    #[error("InputTooLarge")]
+    InputTooLarge,
+}
+
+impl From<AllocError> for ToolFault {
+    ghost use Rattle.std.specs.Prelude.{◌≡◌};
+    ghost use Rattle.sudoers_tool.specs.declared.fault.LayerFault.TheVariants.{NoMemory};
+    ghost use Rattle.sudoers_tool.specs.declared.fault.ToolFault.TheVariants.{Layer};
+
+    ghost from_gives = { λ _ e. e ≡ Layer NoMemory };
+
+    fn from(_error: AllocError) -> ToolFault {
+        ToolFault::Layer(LayerFault::NoMemory)
+    }
+}
+
+/// The text that is shown for a fault, without LF. `file` is the policy's name in it.
+///
+/// # Errors
+///
+/// Want of memory alone.
+pub fn fault_text(alloc: Global, fault: &ToolFault, file: &[u8]) -> Result<Vec<u8>, AllocError>
+    ensures { IfOk result (λ text. text.items ≡ text_of_tool fault.now file.now) }
+{
+    match fault {
+        ToolFault::Read => Vec::from_slice(alloc, b"Read"),
+        ToolFault::Write => Vec::from_slice(alloc, b"Write"),
+        ToolFault::NoEnd => Vec::from_slice(alloc, b"NoEnd"),
+        ToolFault::NoMark => Vec::from_slice(alloc, b"NoMark"),
+        ToolFault::InputTooLarge => Vec::from_slice(alloc, b"InputTooLarge"),
+        ToolFault::Layer(fault) => layer_text(alloc, fault, file),
+    }
+}
+
+fn layer_text(alloc: Global, fault: &LayerFault, file: &[u8]) -> Result<Vec<u8>, AllocError>
+    ensures { IfOk result (λ text. text.items ≡ text_of_layer fault.now file.now) }
+{
+    match fault {
+        LayerFault::Text(fault) => text_fault_text(alloc, fault, file),
+        LayerFault::Script(fault) => script_fault_text(alloc, fault),
+        LayerFault::Edit(place, fault) => edit_fault_text(alloc, *place, fault),
+        LayerFault::NoMemory => Vec::from_slice(alloc, b"NoMemory"),
+    }
+}
+
+fn text_fault_text(alloc: Global, fault: &TextFault, file: &[u8]) -> Result<Vec<u8>, AllocError>
+    ensures { IfOk result (λ text. text.items ≡ text_of_text fault.now file.now) }
+{
+    match fault {
+        TextFault::TooLarge => joined(alloc, file, b": TooLarge"),
+        TextFault::OpenContinuation => joined(alloc, file, b": OpenContinuation"),
+        TextFault::NoMemory => Vec::from_slice(alloc, b"NoMemory"),
+        TextFault::LineTooLong { line } => {
+            let mut text = joined(alloc, file, b":")?;
+            append_number(alloc, &mut text, *line)?;
+            text.extend_from_slice(b":1: line too long")?;
+            Ok(text)
+        }
+        TextFault::Nul { at } => {
+            let mut text = joined(alloc, file, b": NUL at byte ")?;
+            append_number(alloc, &mut text, *at)?;
+            Ok(text)
+        }
+    }
+}
+
+fn script_fault_text(alloc: Global, fault: &ScriptFault) -> Result<Vec<u8>, AllocError>
+    ensures { IfOk result (λ text. text.items ≡ text_of_script fault.now) }
+{
+    match fault {
+        ScriptFault::BadWord { line } => at_script_line(alloc, *line, b"BadWord"),
+        ScriptFault::BadNumber { line } => at_script_line(alloc, *line, b"BadNumber"),
+        ScriptFault::NoPayload { line } => at_script_line(alloc, *line, b"NoPayload"),
+        ScriptFault::TooMany => Vec::from_slice(alloc, b"TooMany"),
+        ScriptFault::NoMemory => Vec::from_slice(alloc, b"NoMemory"),
+    }
+}
+
+fn edit_fault_text(alloc: Global, place: usize, fault: &EditFault) -> Result<Vec<u8>, AllocError>
+    ensures { IfOk result (λ text. text.items ≡ text_of_edit place fault.now) }
+{
+    match fault {
+        EditFault::NoMemory => Vec::from_slice(alloc, b"NoMemory"),
+        EditFault::NoLine => at_edit(alloc, place, b"NoLine"),
+        EditFault::NotOneLine => at_edit(alloc, place, b"NotOneLine"),
+        EditFault::OpenLine => at_edit(alloc, place, b"OpenLine"),
+        EditFault::TooLarge => at_edit(alloc, place, b"TooLarge"),
+    }
+}
+
+fn at_script_line(alloc: Global, line: usize, name: &[u8]) -> Result<Vec<u8>, AllocError>
+    ensures { IfOk result (λ text. text.items ≡ script_text line name.now) }
+{
+    let mut text = Vec::from_slice(alloc, b"script:")?;
+    append_number(alloc, &mut text, line)?;
+    text.extend_from_slice(b": ")?;
+    text.extend_from_slice(name)?;
+    Ok(text)
+}
+
+fn at_edit(alloc: Global, place: usize, name: &[u8]) -> Result<Vec<u8>, AllocError>
+    ensures { IfOk result (λ text. text.items ≡ edit_name place name.now) }
+{
+    let mut text = Vec::from_slice(alloc, b"edit ")?;
+    let number = (place as u128 + 1).to_string(alloc)?;
+    text.extend_from_slice(number.as_bytes())?;
+    text.extend_from_slice(b": ")?;
+    text.extend_from_slice(name)?;
+    Ok(text)
+}
+
+fn joined(alloc: Global, front: &[u8], back: &[u8]) -> Result<Vec<u8>, AllocError>
+    ensures { IfOk result (λ text. text.items ≡ front.now ++ back.now) }
+{
+    let mut text = Vec::from_slice(alloc, front)?;
+    text.extend_from_slice(back)?;
+    Ok(text)
+}
+
+fn append_number(alloc: Global, text: &mut Vec<u8>, number: usize) -> Result<(), AllocError>
+    ensures { OnOk result (text.new.items ≡ text.old.items ++ decimal number) }
+{
+    let digits = number.to_string(alloc)?;
+    text.extend_from_slice(digits.as_bytes())
+}

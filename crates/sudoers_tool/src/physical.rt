@@ -1,0 +1,29 @@
+//! Physical lines: a text cut behind each LF.
+ghost use Rattle.std.specs.Prelude.{◌≡◌, ◌<◌, ◌≤◌, ◌∷◌, take, drop, length};
+ghost use Rattle.sudoers_text.specs.Ended.{ends_in_lf};
+ghost use Rattle.sudoers_tool.specs.Physical.{physical_lines};
+
+use memchr::memchr;
+
+/// How many bytes the first physical line has, its LF included.
+pub fn first_line_len(text: &[u8]) -> usize
+    requires { 0 < length text.now }
+    ensures within { result ≤ length text.now }
+    ensures some { 0 < result }
+    ensures first { physical_lines text.now ≡ take result text.now ∷ physical_lines (drop result text.now) }
+{
+    match memchr(b'\n', text) {
+        Some(at) => at + 1,
+        None => text.len(),
+    }
+}
+
+/// Whether a line ends in LF.
+pub fn ends_in_lf(line: &[u8]) -> bool
+    ensures { result ≡ ends_in_lf line.now }
+{
+    match line.last() {
+        Some(last) => *last == b'\n',
+        None => false,
+    }
+}

@@ -1,0 +1,208 @@
+//! The program: a script and a policy in, the inverse script and the edited policy out.
+ghost use Rattle.std.specs.Prelude.{◌≡◌, ◌≢◌, ◌+◌, ◌<◌, ◌≤◌, ◌++◌, length, Ok, Err, IfOk, IfErr, OnOk, OnErr, IfSome, IsOkAnd, MatchResult, min, ◌-◌, ◌^◌};
+ghost use Rattle.std.specs.Option.{option_map};
+ghost use Rattle.std.specs.Io.KnownBytes.{Keeps, Appends};
+ghost use Rattle.sudoers_tool.specs.Device.{Rose, AppendsFront};
+ghost use Rattle.sudoers_tool.specs.Program.{is_mark as is_mark_text, split_text, edited as edited_text, output_of, output_text as written_text, input_limit, TellsLayer, TellsTool, NeedsEnd, IsReadFault, IsAnswerFault};
+
+use crate::device::{DeviceFailed, Pulled, Sink, Source};
+use crate::edit::{EditFault, Edits};
+use crate::editor::Editor;
+use crate::fault::{LayerFault, ToolFault};
+use crate::physical::first_line_len;
+use crate::policy::Policy;
+use crate::script::{ScriptFault, read_script};
+use crate::spelling::write_script;
+use std::alloc::{AllocError, Global};
+use sudoers_text::TextFault;
+
+/// How many bytes the program reads at most.
+pub const INPUT_LIMIT: usize = 4_000_000;
+
+/// How often it asks one reader at most.
+pub const PULL_LIMIT: usize = 4_194_304;
+
+/// The line between the script and the policy.
+const MARK: &[u8] = b"%%\n";
+
+/// Reads a script, the mark and a policy, and writes the script that takes the edits back, the mark and the edited
+/// policy.
+///
+/// # Errors
+///
+/// [`ToolFault`]: of reading, then of the input, in the order mark, script, policy, edits, inverse; then of writing.
+/// Nothing is written before a fault other than `Write`.
+pub fn run_edit<R: Source, W: Sink>(
+    alloc: Global,
+    reader: &mut R,
+    writer: &mut W,
+) -> Result<u8, ToolFault>
+    // Status 0, and what is written is the stated function of what is read.
+    ensures ok { IfOk result (λ status. (status ≡ 0) × IfSome (R.remaining reader.old) (λ input.
+        IsOkAnd (output_of input) (Appends (W.contents writer.old) (W.contents writer.new)))) }
+    // A fault of the input is the stated one.
+    ensures fault { IfErr result (λ fault. IfSome (R.remaining reader.old) (TellsTool fault)) }
+    // Nothing is written but where a write failed, and then a front of the output.
+    ensures untouched { IfErr result (λ fault. fault ≢ ToolFault.Write
+        → Keeps (W.contents writer.old) (W.contents writer.new)) }
+    ensures front { result ≡ Err ToolFault.Write → IfSome (R.remaining reader.old) (λ input.
+        IsOkAnd (output_of input) (AppendsFront (W.contents writer.old) (W.contents writer.new))) }
+    // A device's fault is told only where that device failed.
+    ensures read { result ≡ Err ToolFault.Read
+        → Rose (R.Source.failures reader.old) (R.Source.failures reader.new) }
+    ensures write { result ≡ Err ToolFault.Write
+        → Rose (W.Sink.failures writer.old) (W.Sink.failures writer.new) }
+    // The reader is asked at most so often, and `NoEnd` is told only after so many calls.
+    ensures asked { R.Source.pulls reader.new ≤ R.Source.pulls reader.old + 4194304 }
+    ensures no_end { result ≡ Err ToolFault.NoEnd
+        → min (R.Source.pulls reader.old + 4194304) (2 ^ 64 - 1) ≤ R.Source.pulls reader.new }
+    // Any other outcome, but want of memory and an input that is too large, comes only where the reader told its end.
+    ensures ended { NeedsEnd result → Rose (R.ends reader.old) (R.ends reader.new) }
+{
+    let input = read_all(alloc, reader)?;
+    let output = answer(alloc, input.as_slice())?;
+    write_all(writer, output.as_slice())?;
+    Ok(0)
+}
+
+/// Reads all there is, up to the limit.
+fn read_all<R: Source>(alloc: Global, reader: &mut R) -> Result<Vec<u8>, ToolFault>
+    ensures all { IfOk result (λ input. (length input.items ≤ input_limit)
+        × IfSome (R.remaining reader.old) (λ known. input.items ≡ known)) }
+    ensures large { result ≡ Err ToolFault.InputTooLarge
+        → IfSome (R.remaining reader.old) (λ known. input_limit < length known) }
+    ensures faults { IfErr result IsReadFault }
+    ensures read { result ≡ Err ToolFault.Read
+        → Rose (R.Source.failures reader.old) (R.Source.failures reader.new) }
+    ensures asked { R.Source.pulls reader.new ≤ R.Source.pulls reader.old + 4194304 }
+    ensures no_end { result ≡ Err ToolFault.NoEnd
+        → min (R.Source.pulls reader.old + 4194304) (2 ^ 64 - 1) ≤ R.Source.pulls reader.new }
+    ensures ended { OnOk result (Rose (R.ends reader.old) (R.ends reader.new)) }
+{
+    let mut input = Vec::new(alloc);
+    let mut buffer = [0u8; 65_536];
+    for pull in 0..PULL_LIMIT {
+        let _asked_before = pull;
+        let room = buffer.len().min(INPUT_LIMIT + 1 - input.len());
+        match reader.pull(&mut buffer[..room]) {
+            Ok(Pulled::Bytes(n)) => {
+                if n == 0 {
+                    return Ok(input);
+                }
+                if input.extend_from_slice(&buffer[..n]).is_err() {
+                    return Err(ToolFault::Layer(LayerFault::NoMemory));
+                }
+                if input.len() > INPUT_LIMIT {
+                    return Err(ToolFault::InputTooLarge);
+                }
+            }
+            Ok(Pulled::Interrupted) => {}
+            Err(DeviceFailed) => return Err(ToolFault::Read),
+        }
+    }
+    Err(ToolFault::NoEnd)
+}
+
+/// Writes all the bytes.
+fn write_all<W: Sink>(writer: &mut W, bytes: &[u8]) -> Result<(), ToolFault>
+    ensures all { OnOk result (Appends (W.contents writer.old) (W.contents writer.new) bytes.now) }
+    ensures part { OnErr result (AppendsFront (W.contents writer.old) (W.contents writer.new) bytes.now) }
+    ensures fault { IfErr result (λ fault. (fault ≡ ToolFault.Write)
+        × Rose (W.Sink.failures writer.old) (W.Sink.failures writer.new)) }
+{
+    let mut at = 0;
+    while at < bytes.len() {
+        match writer.push(&bytes[at..]) {
+            Ok(n) => at += n,
+            Err(DeviceFailed) => return Err(ToolFault::Write),
+        }
+    }
+    Ok(())
+}
+
+/// What is written for an input within the limit.
+fn answer(alloc: Global, input: &[u8]) -> Result<Vec<u8>, ToolFault>
+    requires { length input.now ≤ input_limit }
+    ensures ok { IfOk result (λ out. output_of input.now ≡ Ok out.items) }
+    ensures fault { IfErr result (λ fault. TellsTool fault input.now × IsAnswerFault fault) }
+{
+    let Some((script, policy)) = split_mark(input) else {
+        return Err(ToolFault::NoMark);
+    };
+    match edited(alloc, script, policy) {
+        Ok(out) => Ok(out),
+        Err(fault) => Err(ToolFault::Layer(fault)),
+    }
+}
+
+/// The script before the first line that is the mark, and the policy behind it.
+fn split_mark(input: &[u8]) -> Option<(&[u8], &[u8])>
+    ensures { option_map (λ parts. (parts.0.now, parts.1.now)) result ≡ split_text input.now }
+{
+    let mut at = 0;
+    while at < input.len() {
+        let rest = &input[at..];
+        let (line, after) = rest.split_at(first_line_len(rest));
+        if is_mark(line) {
+            return Some((&input[..at], after));
+        }
+        at += line.len();
+    }
+    None
+}
+
+fn is_mark(line: &[u8]) -> bool
+    ensures { result ≡ is_mark_text line.now }
+{
+    match line {
+        [a, b, c] => *a == b'%' && *b == b'%' && *c == b'\n',
+        _ => false,
+    }
+}
+
+/// The inverse script, the mark and the edited policy.
+fn edited(alloc: Global, script: &[u8], policy: &[u8]) -> Result<Vec<u8>, LayerFault>
+    ensures { MatchResult result (λ out. edited_text script.now policy.now ≡ Ok out.items)
+        (λ fault. TellsLayer fault (edited_text script.now policy.now)) }
+{
+    let edits = match read_script(alloc, script) {
+        Ok(edits) => edits,
+        Err(ScriptFault::NoMemory) => return Err(LayerFault::NoMemory),
+        Err(fault) => return Err(LayerFault::Script(fault)),
+    };
+    let policy = match Policy::read(alloc, policy) {
+        Ok(policy) => policy,
+        Err(TextFault::NoMemory) => return Err(LayerFault::NoMemory),
+        Err(fault) => return Err(LayerFault::Text(fault)),
+    };
+    let mut editor = Editor::new(policy);
+    match editor.apply_all(edits.as_slice()) {
+        Ok(()) => {}
+        Err((_, EditFault::NoMemory)) => return Err(LayerFault::NoMemory),
+        Err((place, fault)) => return Err(LayerFault::Edit(place, fault)),
+    }
+    let inverse = match editor.inverse() {
+        Ok(inverse) => inverse,
+        Err(AllocError) => return Err(LayerFault::NoMemory),
+    };
+    written(alloc, &inverse, editor.policy())
+}
+
+/// A script, the mark and a policy.
+fn written(alloc: Global, inverse: &Edits, policy: &Policy) -> Result<Vec<u8>, LayerFault>
+    ensures { MatchResult result (λ out. written_text inverse.now policy.now ≡ Ok out.items)
+        (λ fault. TellsLayer fault (written_text inverse.now policy.now)) }
+{
+    let mut out = match write_script(alloc, inverse.as_slice()) {
+        Ok(out) => out,
+        Err(ScriptFault::NoMemory) => return Err(LayerFault::NoMemory),
+        Err(fault) => return Err(LayerFault::Script(fault)),
+    };
+    if out.extend_from_slice(MARK).is_err() {
+        return Err(LayerFault::NoMemory);
+    }
+    if policy.append_text(&mut out).is_err() {
+        return Err(LayerFault::NoMemory);
+    }
+    Ok(out)
+}

@@ -1,0 +1,128 @@
+//! What a line of a script says.
+ghost use Rattle.std.specs.Prelude.{◌≡◌, ◌≤◌, ◌∷◌, ℕ, length, take, drop};
+ghost use Rattle.sudoers_tool.specs.ScriptReading.{sense, text_in, said_by_words, words, command, place_of_word};
+ghost use Rattle.sudoers_tool.specs.ScriptStanding.{words_behind, said_for};
+ghost use Rattle.sudoers_tool.specs.declared.script.Said.{Said as WhatIsSaid};
+
+use crate::physical::ends_in_lf;
+use crate::script::Said;
+use memchr::memchr;
+
+/// The greatest number of a line.
+const MAX_NUMBER: u64 = 4_294_967_296;
+
+const INSERT: &[u8] = b"insert";
+
+const DELETE: &[u8] = b"delete";
+
+/// What stands behind the first word of a command.
+#[derive(Clone, Copy, Debug, PartialEq, Eq)]
+enum Argument {
+    Place(u32),
+    /// One word that is no number.
+    NoNumber,
+    /// Not one word, or the line does not end in LF.
+    NotOne,
+}
+
+/// The place that a word stands for.
+fn place_of(word: &[u8]) -> Option<u32>
+    ensures { result ≡ place_of_word word.now }
+{
+    let mut number: u64 = 0;
+    for byte in word {
+        if !byte.is_ascii_digit() {
+            return None;
+        }
+        number = number * 10 + u64::from(*byte - b'0');
+        if number == 0 || number > MAX_NUMBER {
+            return None;
+        }
+    }
+    if number == 0 {
+        return None;
+    }
+    Some((number - 1) as u32)
+}
+
+/// How many bytes stand before the first space.
+fn first_word_len(text: &[u8]) -> usize
+    ensures within { result ≤ length text.now }
+    ensures first { words text.now ≡ take result text.now ∷ words_behind (drop result text.now) }
+{
+    match memchr(b' ', text) {
+        Some(at) => at,
+        None => text.len(),
+    }
+}
+
+/// What the rest of a line behind the word of a command says; it is empty or begins with a space.
+fn argument_of(rest: &[u8], is_ended: bool) -> Argument
+    ensures { (make : ℕ → WhatIsSaid) → command make is_ended (words_behind rest.now) ≡ said_for make result }
+{
+    let Some((_, word)) = rest.split_first() else {
+        return Argument::NotOne;
+    };
+    if !is_ended || word.contains(&b' ') {
+        return Argument::NotOne;
+    }
+    match place_of(word) {
+        Some(at) => Argument::Place(at),
+        None => Argument::NoNumber,
+    }
+}
+
+/// What a line says by its words.
+fn said_by(text: &[u8], is_ended: bool) -> Said
+    ensures { result ≡ said_by_words is_ended (words text.now) }
+{
+    let (word, rest) = text.split_at(first_word_len(text));
+    let is_insert = word == INSERT;
+    if !is_insert && word != DELETE {
+        return Said::Other;
+    }
+    match argument_of(rest, is_ended) {
+        Argument::Place(at) => {
+            if is_insert {
+                Said::Insert(at)
+            } else {
+                Said::Delete(at)
+            }
+        }
+        Argument::NoNumber => Said::BadNumber,
+        Argument::NotOne => Said::BadCommand,
+    }
+}
+
+/// What a line says.
+pub fn sense_of(line: &[u8]) -> Said
+    ensures { result ≡ sense line.now }
+{
+    let is_ended = ends_in_lf(line);
+    match line.first() {
+        None => Said::Other,
+        Some(b'|' | b'>') if !is_ended => Said::Unended,
+        Some(b'|') => Said::More,
+        Some(b'>') => Said::Last,
+        Some(_) => {
+            let text = if is_ended {
+                &line[..line.len() - 1]
+            } else {
+                line
+            };
+            said_by(text, is_ended)
+        }
+    }
+}
+
+/// The text that a line stands for.
+pub fn text_of(line: &[u8], said: Said) -> &[u8]
+    requires { said ≡ sense line.now }
+    ensures { result.now ≡ text_in said line.now }
+{
+    match said {
+        Said::More => &line[1..],
+        Said::Last => &line[1..line.len() - 1],
+        _ => &[],
+    }
+}

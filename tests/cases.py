@@ -1,0 +1,91 @@
+"""The cases of the folder tests/cases, one folder a case.
+
+The files of a folder, each of which may be missing:
+
+    words        the command words, one a line (none)
+    stdin        standard input (empty)
+    stdout       standard output, byte for byte (empty)
+    stderr       standard error, byte for byte (empty)
+    stdout_has   in place of stdout: each line of it has to occur there
+    stderr_has   in place of stderr: each line of it has to occur there
+    status       the status, a decimal number (0)
+    back         an empty flag: the output given as input again has to give the
+                 case's input back, byte for byte
+"""
+
+import os
+from dataclasses import dataclass
+
+from program import Wanted, run
+
+FOLDER = os.path.join(os.path.dirname(os.path.abspath(__file__)), "cases")
+FILES = {"words", "stdin", "stdout", "stderr", "stdout_has", "stderr_has", "status", "back"}
+
+
+@dataclass(frozen=True)
+class Case:
+    """One case: what is handed in and what has to come."""
+
+    name: str
+    words: tuple
+    stdin: bytes
+    wanted: Wanted
+    back: bool
+
+
+def read_file(folder, name):
+    """The bytes of a file of the case, None where it is missing."""
+    try:
+        with open(os.path.join(folder, name), "rb") as file:
+            return file.read()
+    except FileNotFoundError:
+        return None
+
+
+def lines_of(text):
+    """The lines of a file whose every line ends in LF; none of a missing one."""
+    if text is None:
+        return ()
+    return tuple(text.removesuffix(b"\n").split(b"\n"))
+
+
+def read_stream(folder, name):
+    """The whole text wanted on a stream, or None and the texts it has to hold."""
+    has = read_file(folder, name + "_has")
+    if has is not None:
+        return None, lines_of(has)
+    return read_file(folder, name) or b"", ()
+
+
+def load(name):
+    """Reads the case in the folder of this name."""
+    folder = os.path.join(FOLDER, name)
+    unknown = set(os.listdir(folder)) - FILES
+    if unknown:
+        raise ValueError(f"case {name}: unknown files {sorted(unknown)}")
+    stdout, stdout_has = read_stream(folder, "stdout")
+    stderr, stderr_has = read_stream(folder, "stderr")
+    status = int(read_file(folder, "status") or b"0")
+    wanted = Wanted(stdout, stderr, status, stdout_has, stderr_has)
+    back = read_file(folder, "back") is not None
+    return Case(name, lines_of(read_file(folder, "words")), read_file(folder, "stdin") or b"", wanted, back)
+
+
+def load_all():
+    """All cases, by name."""
+    return [load(name) for name in sorted(os.listdir(FOLDER))]
+
+
+def check_back(program, case):
+    """The output of the case as input has to give the case's input."""
+    answer = run(program, case.words, case.wanted.stdout)
+    return ["the way back:", *problems] if (problems := Wanted(case.stdin).problems(answer)) else []
+
+
+def run_all(program, tally):
+    """Runs each case of the folder, and its way back where it is flagged."""
+    for case in load_all():
+        problems = case.wanted.problems(run(program, case.words, case.stdin))
+        if case.back and not problems:
+            problems = check_back(program, case)
+        tally.note(case.name, problems)

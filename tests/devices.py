@@ -1,0 +1,300 @@
+"""Refused growths and failing devices, on the built program.
+
+Each growth, each read and each byte of the output is refused or failed in turn,
+the number counted up until nothing was met any more; the run in which nothing
+was met has to answer as the program does with ample memory and honest devices.
+"""
+
+import subprocess
+
+import cases
+import real_devices
+from preload import Preloaded
+from program import Wanted, fault
+
+READ_CALLS = 4_194_304
+INPUT_LIMIT = 4_000_000
+PIECES = (1, 2, 3, 7)
+MOST = 100_000
+
+# Cases of the folder that are run under every refusal and failure.
+EDITS = (
+    "delete_first_line_and_back",
+    "several_edits_and_back",
+    "replace_the_open_last_line",
+    "empty_script_and_empty_policy",
+    "word_edit_does_as_no_word",
+    "refused_edit_behind_accepted_ones",
+    "insert_of_two_lines",
+    "payload_lines_count_as_script_lines",
+    "insert_without_payload",
+    "nul_on_the_open_last_line",
+    "policy_ending_in_a_continuation",
+    "mark_with_a_carriage_return",
+    "empty_input_has_no_mark",
+)
+WORDS = (
+    "unknown_subcommand_is_a_bad_word",
+    "edit_takes_no_word",
+    "unknown_long_flag_is_a_bad_word",
+    "help_names_the_program_and_edit",
+    "help_of_edit",
+)
+
+
+def many_lines_case():
+    """Forty edits on a policy of sixty lines, so that every list grows often."""
+    numbers = range(1, 41)
+    script = b"".join(b"insert %d\n|# line %d is new\n" % (2 * n, n) for n in numbers)
+    inverse = b"".join(b"delete %d\n" % (2 * n) for n in reversed(numbers))
+    old = [b"user%d ALL=(ALL) \\\n    /usr/bin/tool%d\n" % (n, n) for n in range(1, 61)]
+    new = list(old)
+    for n in numbers:
+        new.insert(2 * n - 1, b"# line %d is new\n" % n)
+    wanted = Wanted(inverse + b"%%\n" + b"".join(new))
+    return cases.Case("forty_edits_on_sixty_lines", (), script + b"%%\n" + b"".join(old), wanted, False)
+
+
+class Stand:
+    """The program, the library that stands before it and the count of cases."""
+
+    def __init__(self, program, library, tally):
+        self.program = program
+        self.library = library
+        self.tally = tally
+
+    def run(self, case, **settings):
+        """One run of a case under these settings: the answer and the counts."""
+        return self.library.run(self.program, case.words, case.stdin, **settings)
+
+    def note(self, case, what, problems):
+        """Counts one run, named after its case and what was done to it."""
+        self.tally.note(f"{case.name}, {what}", problems)
+
+    def until_none_is_met(self, case, what, setting, wanted_of, **settings):
+        """Counts `setting` up from 1 until a run meets nothing.
+
+        `wanted_of` tells what a run has to answer that met something, from its
+        counts. The last run has to answer as the case says.
+        """
+        for number in range(1, MOST):
+            answer, report = self.run(case, **{setting: number}, **settings)
+            wanted = wanted_of(report) if report.met else case.wanted
+            self.note(case, f"{what} {number}", wanted.problems(answer))
+            if not report.met:
+                return
+        self.note(case, what, [f"still met at {MOST}"])
+
+
+# ---- memory --------------------------------------------------------------------
+
+NO_MEMORY = (fault("NoMemory").stderr, b"")
+
+
+def memory_problems(answer, ample, report):
+    """What a run may answer whose growths were refused.
+
+    It answers as ever; or it tells NoMemory, or nothing where that text found no
+    memory either, and has written nothing; or its device failed as ever and the
+    text that tells so found no memory.
+    """
+    told = answer.status == 1 and answer.stdout == b"" and answer.stderr in NO_MEMORY
+    silent = answer.status == 1 == ample.status and answer.stdout == ample.stdout and answer.stderr == b""
+    if answer == ample or report.refused and (told or silent):
+        return []
+    return ["wanted NoMemory or nothing with status 1, or the answer of ample memory", f"came {answer}"]
+
+
+def refuse_growths(stand, case, wanted, **settings):
+    """Refuses growth 1, 2, 3 and so on, alone and with all behind it, until none is met.
+
+    `wanted` is what the run has to answer under these settings with ample memory.
+    """
+    ample, _ = stand.run(case, **settings)
+    how = "".join(f"{name} {value}, " for name, value in settings.items())
+    stand.note(case, f"{how}ample memory", wanted.problems(ample))
+    for refusal in ("refuse_growth", "refuse_from"):
+        for number in range(1, MOST):
+            answer, report = stand.run(case, **settings, **{refusal: number})
+            stand.note(case, f"{how}{refusal} {number}", memory_problems(answer, ample, report))
+            if not report.refused:
+                break
+        else:
+            stand.note(case, refusal, [f"still met at {MOST}"])
+
+
+def check_memory(stand, edits, words):
+    """Every growth of every case, and of runs whose devices fail too."""
+    for case in [*edits, *words, many_lines_case()]:
+        refuse_growths(stand, case, case.wanted)
+    case = edits[1]
+    refuse_growths(stand, case, case.wanted, interrupt_read=1)
+    refuse_growths(stand, case, fault("Read"), fail_read=2)
+    refuse_growths(stand, case, fault("InputTooLarge"), endless=1)
+    for room in (0, 5):
+        wanted = Wanted(case.wanted.stdout[:room], fault("Write").stderr, 1)
+        refuse_growths(stand, case, wanted, write_room=room)
+
+
+# ---- standard input --------------------------------------------------------------
+
+
+def fail_reads(stand, case):
+    """Each read fails in turn; each read is interrupted in turn."""
+    for piece in (0, 7):
+        how = f"reads of {piece or 'any'} bytes, "
+        stand.until_none_is_met(case, how + "failed read", "fail_read", lambda _: fault("Read"), short_read=piece)
+        stand.until_none_is_met(
+            case, how + "interrupted read", "interrupt_read", lambda _: case.wanted, short_read=piece
+        )
+
+
+def interrupt_for_ever(stand, case):
+    """An input that never comes is given up after the reads that are allowed."""
+    answer, report = stand.run(case, interrupt_reads=2 * READ_CALLS)
+    problems = fault("NoEnd").problems(answer)
+    if report.reads != READ_CALLS:
+        problems.append(f"reads: wanted {READ_CALLS}, came {report.reads}")
+    stand.note(case, "interrupted for ever", problems)
+
+
+def interrupt_up_to_the_last_read(stand, case):
+    """The last allowed read may still give the end; one read more is too many."""
+    _, honest = stand.run(case)
+    spare = READ_CALLS - honest.reads
+    for interrupted, wanted in ((spare, case.wanted), (spare + 1, fault("NoEnd"))):
+        answer, _ = stand.run(case, interrupt_reads=interrupted)
+        stand.note(case, f"{interrupted} interrupted reads", wanted.problems(answer))
+
+
+def last_allowed_read(stand, case):
+    """What the last allowed read gives still counts; what one more would give does not."""
+    last = {"interrupt_reads": READ_CALLS - 1, "fail_read": READ_CALLS}
+    past = {"interrupt_reads": READ_CALLS, "fail_read": READ_CALLS + 1}
+    spare = READ_CALLS - INPUT_LIMIT - 1
+    for what, settings, wanted in (
+        ("last read fails", last, "Read"),
+        ("the read behind the last would fail", past, "NoEnd"),
+        ("last read passes the limit", {"interrupt_reads": spare, "endless": 1, "short_read": 1}, "InputTooLarge"),
+        ("last read meets the limit", {"interrupt_reads": spare + 1, "endless": 1, "short_read": 1}, "NoEnd"),
+    ):
+        answer, _ = stand.run(case, **settings)
+        stand.note(case, what, fault(wanted).problems(answer))
+
+
+def endless_problems(answer, report):
+    """An endless input is given up as soon as its byte 4,000,001 is there."""
+    problems = fault("InputTooLarge").problems(answer)
+    before = report.read_bytes - report.last_read
+    if not before <= INPUT_LIMIT < report.read_bytes:
+        problems.append(f"reading stopped at byte {report.read_bytes}, the last read from {before} on")
+    return problems
+
+
+def endless_input(stand):
+    """An input without end, in big reads and byte by byte."""
+    case = cases.Case("endless_input", (), b"", fault("InputTooLarge"), False)
+    for piece in (0, 1, 7):
+        answer, report = stand.run(case, endless=1, short_read=piece)
+        stand.note(case, f"reads of {piece or 'any'} bytes", endless_problems(answer, report))
+
+
+def input_at_the_limit_byte_by_byte(stand):
+    """The greatest input is read though each read gives one byte alone."""
+    script = b"#" * INPUT_LIMIT
+    case = cases.Case("input_at_the_limit_byte_by_byte", (), script, fault("NoMark"), False)
+    answer, report = stand.run(case, short_read=1)
+    problems = case.wanted.problems(answer)
+    if report.read_bytes != INPUT_LIMIT:
+        problems.append(f"bytes read: wanted {INPUT_LIMIT}, came {report.read_bytes}")
+    stand.note(case, "reads of 1 byte", problems)
+
+
+def check_reads(stand, edits):
+    """All that can go wrong with standard input."""
+    for case in edits:
+        fail_reads(stand, case)
+    for case in (edits[1], edits[5]):
+        interrupt_for_ever(stand, case)
+        interrupt_up_to_the_last_read(stand, case)
+    last_allowed_read(stand, edits[1])
+    endless_input(stand)
+    input_at_the_limit_byte_by_byte(stand)
+
+
+# ---- standard output -------------------------------------------------------------
+
+
+def write_fault_after(case, report):
+    """What is wanted after a write fault: just the bytes taken before it."""
+    return Wanted(case.wanted.stdout[: report.write_bytes], fault("Write").stderr, 1)
+
+
+def fail_writes(stand, case, piece):
+    """The writer takes n bytes and then fails, for every n up to all of them."""
+    output = case.wanted.stdout
+    for room in range(len(output) + 1):
+        answer, report = stand.run(case, write_room=room, short_write=piece)
+        wanted = Wanted(output[:room], fault("Write").stderr, 1) if room < len(output) else case.wanted
+        problems = wanted.problems(answer)
+        if (report.write_faults > 0) != (room < len(output)):
+            problems.append(f"write faults: came {report.write_faults}")
+        stand.note(case, f"writes of {piece or 'any'} bytes, room for {room}", problems)
+
+
+def check_writes(stand, edits):
+    """All that can go wrong with standard output."""
+    for case in [case for case in edits if case.wanted.stdout]:
+        for piece in (0, 3):
+            fail_writes(stand, case, piece)
+            how = f"writes of {piece or 'any'} bytes, "
+            for setting in ("interrupt_write", "empty_write"):
+                stand.until_none_is_met(
+                    case, how + setting, setting, lambda report: write_fault_after(case, report), short_write=piece
+                )
+
+
+# ---- few bytes at a time -----------------------------------------------------------
+
+
+def check_pieces(stand, all_cases):
+    """Reads and writes of few bytes answer as whole ones do, in every case."""
+    for case in all_cases:
+        for piece in PIECES:
+            answer, _ = stand.run(case, short_read=piece, short_write=piece)
+            stand.note(case, f"reads and writes of {piece} bytes", case.wanted.problems(answer))
+
+
+# ---- all -----------------------------------------------------------------------------
+
+
+def check_library(stand, case):
+    """The library is met at all: without it the runs above would show nothing."""
+    answer, report = stand.run(case)
+    problems = case.wanted.problems(answer)
+    for name in ("loaded", "growths", "reads", "writes"):
+        if getattr(report, name) == 0:
+            problems.append(f"{name}: none was counted")
+    if report.write_bytes != len(case.wanted.stdout):
+        problems.append(f"bytes written: came {report.write_bytes}")
+    stand.note(case, "with the library and nothing refused", problems)
+
+
+def run_all(program, tally):
+    """Builds the library and runs everything above."""
+    by_name = {case.name: case for case in cases.load_all()}
+    edits = [by_name[name] for name in EDITS]
+    words = [by_name[name] for name in WORDS]
+    real_devices.run_all(program, tally, edits[1])
+    try:
+        library = Preloaded()
+    except (OSError, subprocess.CalledProcessError) as error:
+        tally.note("the library that is preloaded", [f"it cannot be built: {error}"])
+        return
+    with library:
+        stand = Stand(program, library, tally)
+        check_library(stand, edits[1])
+        check_pieces(stand, by_name.values())
+        check_reads(stand, edits)
+        check_writes(stand, edits)
+        check_memory(stand, edits, words)

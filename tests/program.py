@@ -1,0 +1,71 @@
+"""Runs the built program once and holds what it answered."""
+
+import subprocess
+from dataclasses import dataclass
+
+from tally import difference, shown
+
+NAME = b"sudoers_tool: "
+SECONDS = 30
+
+
+@dataclass(frozen=True)
+class Answer:
+    """What one run wrote and the status it ended with."""
+
+    stdout: bytes
+    stderr: bytes
+    status: object
+
+
+@dataclass(frozen=True)
+class Wanted:
+    """What a run has to answer.
+
+    A stream that is None is not compared; instead each text of its `has` list
+    must occur in it.
+    """
+
+    stdout: object = b""
+    stderr: object = b""
+    status: int = 0
+    stdout_has: tuple = ()
+    stderr_has: tuple = ()
+
+    def problems(self, answer):
+        """The lines that say where `answer` is another, none where it is not."""
+        lines = []
+        for stream in ("stdout", "stderr"):
+            whole, came = getattr(self, stream), getattr(answer, stream)
+            if whole is not None:
+                lines += difference(stream, whole, came)
+            for text in getattr(self, stream + "_has"):
+                if text not in came:
+                    lines += [f"{stream}: wanted to hold {shown(text)}", f"{stream}: came   {shown(came)}"]
+        return lines + difference("status", self.status, answer.status)
+
+
+def fault(text):
+    """What a run has to answer that ends in the fault with this text."""
+    return Wanted(stderr=NAME + text.encode() + b"\n", status=1)
+
+
+def run(program, words=(), stdin=b"", environment=None, stdout=subprocess.PIPE):
+    """Runs `program` with these words; `stdin` is bytes or an open file.
+
+    Where `stdout` is an open file, the answer holds nothing of what went there.
+    """
+    how = {"input": stdin} if isinstance(stdin, bytes) else {"stdin": stdin}
+    try:
+        done = subprocess.run(
+            [program, *words],
+            stdout=stdout,
+            stderr=subprocess.PIPE,
+            env=environment or {},
+            timeout=SECONDS,
+            check=False,
+            **how,
+        )
+    except subprocess.TimeoutExpired:
+        return Answer(b"", b"", f"none within {SECONDS} seconds")
+    return Answer(done.stdout or b"", done.stderr, done.returncode)

@@ -1,0 +1,62 @@
+"""Devices that fail without any library: a folder, a full device, broken and endless pipes."""
+
+import os
+import threading
+
+from program import fault, run
+
+
+def run_all(program, tally, case):
+    """A folder as input, a full device and a closed pipe as output, an endless pipe."""
+    folder = os.open("/", os.O_RDONLY)
+    try:
+        problems = fault("Read").problems(run(program, (), folder))
+    finally:
+        os.close(folder)
+    tally.note("a folder as standard input", problems)
+    for name, open_output in (("a full device", full_device), ("a closed pipe", closed_pipe)):
+        tally.note(f"{name} as standard output", write_problems(program, case, open_output()))
+    tally.note("a pipe without end as standard input", pipe_problems(program))
+
+
+def full_device():
+    """A device that takes no byte."""
+    return os.open("/dev/full", os.O_WRONLY)
+
+
+def closed_pipe():
+    """A pipe that nobody reads any more."""
+    reader, writer = os.pipe()
+    os.close(reader)
+    return writer
+
+
+def write_problems(program, case, output):
+    """Runs the case into a file that takes nothing."""
+    try:
+        return fault("Write").problems(run(program, case.words, case.stdin, stdout=output))
+    finally:
+        os.close(output)
+
+
+def feed(writer):
+    """Writes without end, up to the reader's."""
+    with os.fdopen(writer, "wb", buffering=0) as pipe:
+        try:
+            while True:
+                pipe.write(b"#" * 65_536)
+        except BrokenPipeError:
+            pass
+
+
+def pipe_problems(program):
+    """The program ends by itself though the pipe never does."""
+    reader, writer = os.pipe()
+    feeder = threading.Thread(target=feed, args=(writer,))
+    feeder.start()
+    try:
+        problems = fault("InputTooLarge").problems(run(program, (), reader))
+    finally:
+        os.close(reader)
+        feeder.join()
+    return problems
