@@ -206,3 +206,6 @@ fn written(alloc: Global, inverse: &Edits, policy: &Policy) -> Result<Vec<u8>, L
     }
     Ok(out)
 }
+
+#[cfg(test)]
+mod tests;
