@@ -10,7 +10,7 @@ use Rattle.sudoers_tool.specs.declared.edit.Edit.{Edit}
 use Rattle.sudoers_tool.specs.declared.edit.Edit.TheVariants.{Insert, Delete}
 use Rattle.sudoers_tool.specs.declared.edit.EditFault.{EditFault}
 use Rattle.sudoers_tool.specs.declared.edit.EditFault.TheVariants.{NoLine, NotOneLine, OpenLine, TooLarge}
-use Rattle.sudoers_tool.specs.Editing.{checked, step, after, inv, run, inv_run, IsUndoable, first_lines, edits_of}
+use Rattle.sudoers_tool.specs.Editing.{lines_or_refusal, step, after, inv, run, inv_run, IsUndoable, first_lines, edits_of}
 use Rattle.sudoers_tool.specs.OneLine.{is_one_line, IsAlone, IsSound}
 use Rattle.sudoers_tool.specs.declared.editor.Entry.{Entry}
 
@@ -110,7 +110,7 @@ is_one t alone = rw alone refl
 
 -- STEPS
 
-checked_ok : (ls : List (List ℕ)) → has_unended_inside ls ≡ false → length (join ls) ≤ 1048576 → checked ls ≡ Ok ls
+checked_ok : (ls : List (List ℕ)) → has_unended_inside ls ≡ false → length (join ls) ≤ 1048576 → lines_or_refusal ls ≡ Ok ls
 checked_ok ls h l = rw (h, le-ltb 1048576 (length (join ls)) l) refl
 
 pub step_insert : (ls : List (List ℕ)) (at : ℕ) (t : List ℕ) → at ≤ length ls → is_one_line t ≡ true → has_unended_inside (insert ls at t) ≡ false → length (join ls) + length t ≤ 1048576 → step (Insert at t) ls ≡ Ok (insert ls at t)

@@ -1,5 +1,5 @@
 -- What one pull, one push and a failure of a device do.
-use Rattle.std.specs.Prelude.{◌≡◌, ℕ, ◌-◌, ◌^◌, ◌<◌, ◌≤◌, ◌⊎◌, ◌&&◌, ◌==◌, nat_lt, List, length, take, Option, Result, Ok, Err, MatchBool}
+use Rattle.std.specs.Prelude.{◌≡◌, ℕ, ◌+◌, ◌-◌, min, ◌^◌, ◌<◌, ◌≤◌, ◌⊎◌, ◌&&◌, ◌==◌, nat_lt, List, length, take, Option, Result, Ok, Err, MatchBool}
 use Rattle.std.specs.Io.KnownBytes.{Keeps, Consumes, IsAtEnd, Appends}
 use Rattle.sudoers_tool.specs.declared.device.Pulled.{Pulled}
 use Rattle.sudoers_tool.specs.declared.device.Pulled.TheVariants.{Bytes, Interrupted}
@@ -8,6 +8,15 @@ use Rattle.sudoers_tool.specs.declared.device.DeviceFailed.{DeviceFailed}
 -- a count rose, or is the greatest that it can be
 abbrev pub Rose : ℕ → ℕ → Type 0
 Rose old new = (old < new) ⊎ (new ≡ 2 ^ 64 - 1)
+
+-- one more, up to the greatest number that is counted
+abbrev pub counted_up : ℕ → ℕ
+counted_up n = min (n + 1) (2 ^ 64 - 1)
+
+-- The count of failures goes up with a failure, and stays with anything else.
+abbrev pub CountsFailures : {A : Type 0} → ℕ → ℕ → Result A DeviceFailed → Type 0
+CountsFailures old new (Ok x) = new ≡ old
+CountsFailures old new (Err failed) = new ≡ counted_up old
 
 -- at most as many bytes as the buffer has
 abbrev pub IsWithin : Pulled → List ℕ → Type 0
@@ -19,12 +28,19 @@ abbrev pub Takes : Option (List ℕ) → Option (List ℕ) → Pulled → List �
 Takes old new (Bytes n) buf = Consumes old new (take n buf) × (n ≡ 0 → 0 < length buf → IsAtEnd new)
 Takes old new Interrupted buf = Keeps old new
 
--- The count of ends rises with no bytes where there is room, and at nothing else.
-abbrev pub Ends : ℕ → ℕ → Result Pulled DeviceFailed → List ℕ → Type 0
-Ends old new (Ok (Bytes n)) buf = MatchBool ((n == 0) && nat_lt 0 (length buf)) (Rose old new) (new ≡ old)
-Ends old new (Ok Interrupted) buf = new ≡ old
-Ends old new (Err failed) buf = new ≡ old
+-- The count of ends goes up with no bytes where there is room, and stays with anything else.
+abbrev pub CountsEnds : ℕ → ℕ → Result Pulled DeviceFailed → List ℕ → Type 0
+CountsEnds old new (Ok (Bytes n)) buf = MatchBool ((n == 0) && nat_lt 0 (length buf)) (new ≡ counted_up old) (new ≡ old)
+CountsEnds old new (Ok Interrupted) buf = new ≡ old
+CountsEnds old new (Err failed) buf = new ≡ old
 
 -- known bytes grow by a front of these
 abbrev pub AppendsFront : Option (List ℕ) → Option (List ℕ) → List ℕ → Type 0
 AppendsFront old new bytes = (n : ℕ) × (n ≤ length bytes) × Appends old new (take n bytes)
+
+-- so many of the known bytes were taken, all told
+abbrev pub TakesAtMost : Option (List ℕ) → Option (List ℕ) → ℕ → Type 0
+TakesAtMost old new most = (bytes : List ℕ) × (length bytes ≤ most) × Consumes old new bytes
+
+abbrev pub TakesExactly : Option (List ℕ) → Option (List ℕ) → ℕ → Type 0
+TakesExactly old new count = (bytes : List ℕ) × (length bytes ≡ count) × Consumes old new bytes

@@ -13,8 +13,8 @@ use Rattle.sudoers_tool.specs.declared.edit.EditFault.TheVariants.{NoLine, NotOn
 use Rattle.sudoers_tool.specs.declared.editor.Entry.{Entry}
 
 -- these lines, if only the last may lack LF and they are within the limit
-abbrev pub checked : List (List ℕ) → Result (List (List ℕ)) EditFault
-checked lines =
+abbrev pub lines_or_refusal : List (List ℕ) → Result (List (List ℕ)) EditFault
+lines_or_refusal lines =
     if has_unended_inside lines then Err OpenLine
     else (if nat_lt text_limit (length (join lines)) then Err TooLarge else Ok lines)
 
@@ -22,8 +22,8 @@ checked lines =
 abbrev pub step : Edit → List (List ℕ) → Result (List (List ℕ)) EditFault
 step (Insert at text) lines =
     if nat_lt (length lines) at then Err NoLine
-    else (if is_one_line text then checked (insert lines at text) else Err NotOneLine)
-step (Delete at) lines = if nat_lt at (length lines) then checked (remove lines at) else Err NoLine
+    else (if is_one_line text then lines_or_refusal (insert lines at text) else Err NotOneLine)
+step (Delete at) lines = if nat_lt at (length lines) then lines_or_refusal (remove lines at) else Err NoLine
 
 -- the lines after an edit, or those before it where it is refused
 abbrev pub after : Edit → List (List ℕ) → List (List ℕ)

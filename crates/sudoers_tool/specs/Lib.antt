@@ -6,4 +6,5 @@ pub mod Script
 pub mod ScriptReading
 pub mod ScriptStanding
 pub mod FaultText
+pub mod LayerOf
 pub mod Program

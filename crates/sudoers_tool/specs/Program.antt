@@ -1,5 +1,5 @@
 -- What the program writes for what it reads, and its faults in their order.
-use Rattle.std.specs.Prelude.{◌≡◌, ◌⊎◌, ℕ, Bool, true, false, ◌&&◌, ◌==◌, nat_lt, if◌then◌else◌, List, [], ◌∷◌, ◌++◌, length, Option, Some, None, Result, Ok, Err}
+use Rattle.std.specs.Prelude.{◌≡◌, ◌⊎◌, ◌+◌, ℕ, Bool, true, false, ◌&&◌, ◌==◌, nat_lt, if◌then◌else◌, List, [], ◌∷◌, ◌++◌, length, Option, Some, None, Result, Ok, Err}
 use Rattle.std.specs.Option.{option_map}
 use Rattle.sudoers_text.specs.Line.{join}
 use Rattle.sudoers_text.specs.Cut.{cut_of}
@@ -12,6 +12,7 @@ use Rattle.sudoers_tool.specs.declared.fault.LayerFault.{LayerFault}
 use Rattle.sudoers_tool.specs.declared.fault.LayerFault.TheVariants as layer
 use Rattle.sudoers_tool.specs.declared.fault.ToolFault.{ToolFault}
 use Rattle.sudoers_tool.specs.declared.fault.ToolFault.TheVariants as tool
+use Rattle.sudoers_tool.specs.Device.{TakesAtMost, TakesExactly}
 use Rattle.sudoers_tool.specs.Physical.{physical_lines}
 use Rattle.sudoers_tool.specs.Editing.{run_all, inv_run}
 use Rattle.sudoers_tool.specs.Script.{edit_limit, spelling}
@@ -20,6 +21,10 @@ use Rattle.sudoers_tool.specs.ScriptReading.{reading}
 -- how many bytes the program reads
 abbrev pub input_limit : ℕ
 input_limit = 4000000
+
+-- how often it asks the reader
+abbrev pub pull_limit : ℕ
+pull_limit = 4194304
 
 -- the line `%%`, which only LF ends
 abbrev pub is_mark : List ℕ → Bool
@@ -60,8 +65,8 @@ output_text inverse lines =
     else Ok (spelling inverse ++ 37 ∷ 37 ∷ 10 ∷ [] ++ join lines)
 
 -- the inverse script, the mark and the edited policy; or the first fault of the script, of the policy, of the edits
-abbrev pub edited : List ℕ → List ℕ → Result (List ℕ) LayerFault
-edited script policy =
+abbrev pub edit_output : List ℕ → List ℕ → Result (List ℕ) LayerFault
+edit_output script policy =
     by_script (reading script) >>= (λ edits. by_text (cut_of policy) >>= (λ lines.
     by_edit (run_all 0 edits lines) >>= (λ new. output_text (inv_run edits lines) new)))
 
@@ -71,7 +76,7 @@ by_layer (Err fault) = Err (tool.Layer fault)
 
 abbrev pub of_parts : Option (List ℕ × List ℕ) → Result (List ℕ) ToolFault
 of_parts None = Err tool.NoMark
-of_parts (Some parts) = by_layer (edited parts.0 parts.1)
+of_parts (Some parts) = by_layer (edit_output parts.0 parts.1)
 
 -- what the program writes for an input, or why it gives up
 abbrev pub output_of : List ℕ → Result (List ℕ) ToolFault
@@ -103,6 +108,16 @@ NeedsEnd (Err (tool.Layer (layer.Script fault))) = Unit {0}
 NeedsEnd (Err (tool.Layer (layer.Edit place fault))) = Unit {0}
 NeedsEnd (Err tool.NoMark) = Unit {0}
 NeedsEnd (Err tool.Write) = Unit {0}
+
+-- Where reading stopped: with the first byte past the limit the input is too large; a reader that failed or was given up had
+-- given no such byte.
+abbrev pub StopsReading : Option (List ℕ) → Option (List ℕ) → ToolFault → Type 0
+StopsReading old new tool.InputTooLarge = TakesExactly old new (input_limit + 1)
+StopsReading old new tool.Read = TakesAtMost old new input_limit
+StopsReading old new tool.NoEnd = TakesAtMost old new input_limit
+StopsReading old new (tool.Layer fault) = Unit {0}
+StopsReading old new tool.NoMark = Unit {0}
+StopsReading old new tool.Write = Unit {0}
 
 -- the faults of reading
 abbrev pub IsReadFault : ToolFault → Type 0

@@ -1,8 +1,8 @@
 //! Readers and writers that count what they do.
-ghost use Rattle.std.specs.Prelude.{◌≡◌, ℕ, ◌<◌, ◌≤◌, ◌+◌, ◌-◌, ◌^◌, min, length, IfOk, OnErr};
+ghost use Rattle.std.specs.Prelude.{◌≡◌, ℕ, ◌<◌, ◌≤◌, length, IfOk, OnErr};
 ghost use Rattle.std.specs.Io.{WritesAtMost, ReadsAtMost};
 ghost use Rattle.std.specs.Io.KnownBytes.{Keeps, WriteAppends, ReadConsumes};
-ghost use Rattle.sudoers_tool.specs.Device.{Rose, IsWithin, Takes, Ends};
+ghost use Rattle.sudoers_tool.specs.Device.{CountsFailures, CountsEnds, IsWithin, Takes, counted_up};
 
 use std::io;
 use std::io::{ErrorKind, Read, Write};
@@ -18,7 +18,7 @@ pub enum Pulled {
 #[derive(Clone, Copy, Debug, PartialEq, Eq)]
 pub struct DeviceFailed;
 
-/// A reader that counts its failures.
+/// A reader that counts how often it was asked, how often it failed and how often it told its end.
 pub trait Source: Read {
     /// How often it has failed, up to the greatest number.
     ghost failures: { Self → ℕ };
@@ -30,15 +30,17 @@ pub trait Source: Read {
     ghost ends: { Self → ℕ };
 
     /// One read. No bytes, where the buffer has room, tell the end of the input.
+    ///
+    /// # Errors
+    ///
+    /// The device failed; what it has left to give is as before.
     fn pull(&mut self, buf: &mut [u8]) -> Result<Pulled, DeviceFailed>
         ensures within { IfOk result (λ pulled. IsWithin pulled buf.new) }
         ensures bytes { IfOk result (λ pulled. Takes (Self.remaining self.old) (Self.remaining self.new) pulled buf.new) }
         ensures kept { OnErr result (Keeps (Self.remaining self.old) (Self.remaining self.new)) }
-        ensures failed { OnErr result (Rose (failures self.old) (failures self.new)) }
-        ensures counted { failures self.old ≤ failures self.new }
-        ensures asked { pulls self.new ≤ pulls self.old + 1 }
-        ensures told { min (pulls self.old + 1) (2 ^ 64 - 1) ≤ pulls self.new }
-        ensures ended { Ends (ends self.old) (ends self.new) result buf.new };
+        ensures failed { CountsFailures (failures self.old) (failures self.new) result }
+        ensures asked { pulls self.new ≡ counted_up (pulls self.old) }
+        ensures ended { CountsEnds (ends self.old) (ends self.new) result buf.new };
 
     /// How often it has failed, up to the greatest number.
     fn failures(&self) -> u64
@@ -50,20 +52,23 @@ pub trait Sink: Write {
     /// How often it has failed, up to the greatest number.
     ghost failures: { Self → ℕ };
 
-    /// One write. An interrupted one has failed, and so has one that takes no byte of a piece.
+    /// One write: how many bytes it took. An interrupted one has failed, and so has one that takes no byte of a piece.
+    ///
+    /// # Errors
+    ///
+    /// The device failed; what it holds is as before.
     fn push(&mut self, piece: &[u8]) -> Result<usize, DeviceFailed>
         ensures within { IfOk result (λ n. n ≤ length piece.now) }
         ensures some { 0 < length piece.now → IfOk result (λ n. 0 < n) }
         ensures bytes { WriteAppends (Self.contents self.old) (Self.contents self.new) result piece.now }
-        ensures failed { OnErr result (Rose (failures self.old) (failures self.new)) }
-        ensures counted { failures self.old ≤ failures self.new };
+        ensures failed { CountsFailures (failures self.old) (failures self.new) result };
 
     /// How often it has failed, up to the greatest number.
     fn failures(&self) -> u64
         ensures { result ≡ failures self.now };
 }
 
-/// Any reader or writer, with counts of what it did. It passes the bytes on.
+/// Any reader or writer, with counts of what `pull` and `push` did. It passes the bytes on.
 #[derive(Drop)]
 pub struct Counted<T> {
     device: T,

@@ -1,4 +1,6 @@
 //! The edits of a policy, and why one is refused.
+ghost use Rattle.std.specs.Prelude.{◌≡◌, ◌∷◌, [], ◌++◌, length, IfOk, OnOk, OnErr};
+
 use crate::text::Text;
 use std::alloc::{AllocError, AllocFailed, Global};
 use std::marker::Model;
@@ -14,7 +16,7 @@ pub enum Edit {
 }
 
 /// Why an edit is refused, the first cause in this order.
-#[derive(Clone, Copy, Debug, Drop, PartialEq, Eq, Error)]
+#[derive(Clone, Copy, Debug, PartialEq, Eq, Error)]
 pub enum EditFault {
     /// The line is not there.
     #[error("NoLine")]
@@ -69,8 +71,6 @@ impl Model for Edits {
     ghost view = { λ edits. edits.items.items };
 }
 
-ghost use Rattle.std.specs.Prelude.{◌≡◌, ◌∷◌, [], ◌++◌, length, IfOk, OnOk, OnErr};
-
 impl Edit {
     /// A copy of the edit.
     pub fn copied(&self, alloc: Global) -> Result<Edit, AllocError>
@@ -112,6 +112,20 @@ impl Edits {
     {
         self.items.push(edit)?;
         Ok(())
+    }
+
+    /// The edits, taken over.
+    pub fn from_vec(items: Vec<Edit>) -> Edits
+        ensures { result ≡ items.items }
+    {
+        Edits { items }
+    }
+
+    /// The edits, given back.
+    pub fn into_vec(self) -> Vec<Edit>
+        ensures { result.items ≡ self }
+    {
+        self.items
     }
 
     /// The edits.

@@ -54,9 +54,11 @@ impl Editor {
         }
     }
 
-    /// The policy as it stands.
+    /// The policy as it stands: the edits of the journal, made one after another, lead to it from the lines that the editor
+    /// began with.
     pub fn policy(&self) -> &Policy
-        ensures { result.now ≡ self.now.lines }
+        ensures lines { result.now ≡ self.now.lines }
+        ensures forth { run (edits_of self.now.journal) (first_of self.now) ≡ Some result.now }
     {
         &self.policy
     }
@@ -100,6 +102,7 @@ impl Editor {
         ensures unchanged { OnErr result (self.new ≡ self.old) }
     {
         let alloc = self.policy.allocator();
+        self.policy.is_sound();
         let place = at as usize;
         if place > self.policy.len() {
             return Err(EditFault::NoLine);
@@ -134,6 +137,7 @@ impl Editor {
         ensures unchanged { OnErr result (self.new ≡ self.old) }
     {
         let alloc = self.policy.allocator();
+        self.policy.is_sound();
         let place = at as usize;
         if place >= self.policy.len() {
             return Err(EditFault::NoLine);
@@ -161,6 +165,7 @@ impl Editor {
         // It stops exactly where the definition does.
         ensures accepted { OnOk result (run_all 0 edits.now self.old.lines ≡ Ok self.new.lines) }
         ensures refused { IfErr result (λ refused. StopsAt refused.0 refused.1 edits.now self.old.lines) }
+        ensures place { IfErr result (λ refused. refused.0 < length edits.now) }
         ensures begun { first_of self.new ≡ first_of self.old }
     {
         for (place, edit) in edits.iter().enumerate() {
@@ -172,16 +177,18 @@ impl Editor {
     }
 
     /// The edits that take back all that stand, the newest first.
+    ///
+    /// # Errors
+    ///
+    /// Want of memory alone.
     pub fn inverse(&self) -> Result<Edits, AllocError>
         // They are exactly the definition's, not just some that restore.
         ensures exact { IfOk result (λ edits. edits ≡ inv_run (edits_of self.now.journal) (first_of self.now)) }
-        // The edits that stand lead from the first lines to the present ones.
-        ensures forth { run (edits_of self.now.journal) (first_of self.now) ≡ Some self.now.lines }
         // The inverse edits lead back, byte for byte, and none of them is refused.
         ensures restores { IfOk result (λ edits. run edits self.now.lines ≡ Some (first_of self.now)) }
         ensures accepted { IfOk result (λ edits. run_all 0 edits self.now.lines ≡ Ok (first_of self.now)) }
     {
-        gathered(self.policy.allocator(), self.journal.as_slice())
+        inverses_of(self.policy.allocator(), self.journal.as_slice())
     }
 }
 
@@ -190,6 +197,7 @@ fn leaves_unended(policy: &Policy, at: usize, text: &[u8]) -> bool
     requires { at ≤ length policy.now }
     ensures { result ≡ has_unended_inside (insert policy.now at text.now) }
 {
+    policy.is_sound();
     if at < policy.len() {
         !ends_in_lf(text)
     } else if at > 0 {
@@ -213,7 +221,7 @@ fn is_one_line(alloc: Global, text: &[u8]) -> Result<bool, AllocError>
 }
 
 /// The inverses of the entries, the last entry's first.
-fn gathered(alloc: Global, journal: &[Entry]) -> Result<Edits, AllocError>
+fn inverses_of(alloc: Global, journal: &[Entry]) -> Result<Edits, AllocError>
     ensures { IfOk result (λ edits. edits ≡ flat_map (λ entry. entry.inverse) (reverse journal.now)) }
 {
     let mut edits = Edits::new(alloc);

@@ -10,7 +10,7 @@ use sudoers_text::TextFault;
 use thiserror::Error;
 
 /// A fault of a layer below. Want of memory is `NoMemory` here, wherever it was met.
-#[derive(Clone, Copy, Debug, Drop, PartialEq, Eq, Error)]
+#[derive(Clone, Copy, Debug, PartialEq, Eq, Error)]
 pub enum LayerFault {
     /// The policy cannot be cut into lines.
     #[error("{0}")]
@@ -26,7 +26,7 @@ pub enum LayerFault {
 }
 
 /// Why the program gives up.
-#[derive(Clone, Copy, Debug, Drop, PartialEq, Eq, Error)]
+#[derive(Clone, Copy, Debug, PartialEq, Eq, Error)]
 pub enum ToolFault {
     /// The reader failed.
     #[error("Read")]
@@ -45,6 +45,71 @@ pub enum ToolFault {
     /// The input passes its limit.
     #[error("InputTooLarge")]
     InputTooLarge,
+}
+
+impl From<TextFault> for LayerFault {
+    ghost use Rattle.std.specs.Prelude.{◌≡◌};
+    ghost use Rattle.sudoers_tool.specs.LayerOf.{layer_of_text};
+
+    ghost from_gives = { λ fault e. e ≡ layer_of_text fault };
+
+    fn from(fault: TextFault) -> LayerFault {
+        match fault {
+            TextFault::NoMemory => LayerFault::NoMemory,
+            _ => LayerFault::Text(fault),
+        }
+    }
+}
+
+impl From<ScriptFault> for LayerFault {
+    ghost use Rattle.std.specs.Prelude.{◌≡◌};
+    ghost use Rattle.sudoers_tool.specs.LayerOf.{layer_of_script};
+
+    ghost from_gives = { λ fault e. e ≡ layer_of_script fault };
+
+    fn from(fault: ScriptFault) -> LayerFault {
+        match fault {
+            ScriptFault::NoMemory => LayerFault::NoMemory,
+            _ => LayerFault::Script(fault),
+        }
+    }
+}
+
+impl From<(usize, EditFault)> for LayerFault {
+    ghost use Rattle.std.specs.Prelude.{◌≡◌};
+    ghost use Rattle.sudoers_tool.specs.LayerOf.{layer_of_edit};
+
+    ghost from_gives = { λ refused e. e ≡ layer_of_edit refused.0 refused.1 };
+
+    fn from(refused: (usize, EditFault)) -> LayerFault {
+        let (place, fault) = refused;
+        match fault {
+            EditFault::NoMemory => LayerFault::NoMemory,
+            _ => LayerFault::Edit(place, fault),
+        }
+    }
+}
+
+impl From<AllocError> for LayerFault {
+    ghost use Rattle.std.specs.Prelude.{◌≡◌};
+    ghost use Rattle.sudoers_tool.specs.declared.fault.LayerFault.TheVariants.{NoMemory};
+
+    ghost from_gives = { λ _ e. e ≡ NoMemory };
+
+    fn from(_error: AllocError) -> LayerFault {
+        LayerFault::NoMemory
+    }
+}
+
+impl From<LayerFault> for ToolFault {
+    ghost use Rattle.std.specs.Prelude.{◌≡◌};
+    ghost use Rattle.sudoers_tool.specs.declared.fault.ToolFault.TheVariants.{Layer};
+
+    ghost from_gives = { λ fault e. e ≡ Layer fault };
+
+    fn from(fault: LayerFault) -> ToolFault {
+        ToolFault::Layer(fault)
+    }
 }
 
 impl From<AllocError> for ToolFault {
@@ -92,17 +157,17 @@ fn text_fault_text(alloc: Global, fault: &TextFault, file: &[u8]) -> Result<Vec<
     ensures { IfOk result (λ text. text.items ≡ text_of_text fault.now file.now) }
 {
     match fault {
-        TextFault::TooLarge => joined(alloc, file, b": TooLarge"),
-        TextFault::OpenContinuation => joined(alloc, file, b": OpenContinuation"),
+        TextFault::TooLarge => concat(alloc, file, b": TooLarge"),
+        TextFault::OpenContinuation => concat(alloc, file, b": OpenContinuation"),
         TextFault::NoMemory => Vec::from_slice(alloc, b"NoMemory"),
         TextFault::LineTooLong { line } => {
-            let mut text = joined(alloc, file, b":")?;
+            let mut text = concat(alloc, file, b":")?;
             append_number(alloc, &mut text, *line)?;
             text.extend_from_slice(b":1: line too long")?;
             Ok(text)
         }
         TextFault::Nul { at } => {
-            let mut text = joined(alloc, file, b": NUL at byte ")?;
+            let mut text = concat(alloc, file, b": NUL at byte ")?;
             append_number(alloc, &mut text, *at)?;
             Ok(text)
         }
@@ -154,7 +219,7 @@ fn at_edit(alloc: Global, place: usize, name: &[u8]) -> Result<Vec<u8>, AllocErr
     Ok(text)
 }
 
-fn joined(alloc: Global, front: &[u8], back: &[u8]) -> Result<Vec<u8>, AllocError>
+fn concat(alloc: Global, front: &[u8], back: &[u8]) -> Result<Vec<u8>, AllocError>
     ensures { IfOk result (λ text. text.items ≡ front.now ++ back.now) }
 {
     let mut text = Vec::from_slice(alloc, front)?;

@@ -39,7 +39,7 @@ fn main(rt: HostRuntime) -> ExitCode {
 
 /// Reads the words, and does what they ask for.
 fn run(rt: &HostRuntime) -> Result<u8, ToolFault> {
-    let mut command = described(rt.alloc())?;
+    let mut command = command_words(rt.alloc())?;
     let words = match words(rt) {
         Ok(words) => words,
         Err(error) if error.kind() == io::ErrorKind::OutOfMemory => return Err(no_memory()),
@@ -56,7 +56,7 @@ fn run(rt: &HostRuntime) -> Result<u8, ToolFault> {
 }
 
 /// The words that are understood.
-fn described<'a>(alloc: Global) -> Result<Command<'a>, AllocError> {
+fn command_words<'a>(alloc: Global) -> Result<Command<'a>, AllocError> {
     let edit = Command::new(alloc, "edit").about(
         "Edits a policy: a script, a line `%%` and the policy in; the script that takes the edits back, `%%` and the edited policy out",
     );

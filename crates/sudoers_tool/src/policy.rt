@@ -32,14 +32,15 @@ impl Model for Policy {
 }
 
 impl Policy {
-    /// The policy that a text is, or the text's first fault.
+    /// The policy that a text is.
+    ///
+    /// # Errors
+    ///
+    /// The text's first fault, or want of memory.
     pub fn read(alloc: Global, text: &[u8]) -> Result<Policy, TextFault>
         ensures { CutGives result (cut_of text.now) }
     {
-        let lines = match cut(alloc, text) {
-            Ok(lines) => lines,
-            Err(fault) => return Err(fault),
-        };
+        let lines = cut(alloc, text)?;
         lines_stand_alone();
         let lines = owned_lines(alloc, &lines)?;
         Ok(Policy {
@@ -50,11 +51,17 @@ impl Policy {
 
     /// How many lines there are.
     pub fn len(&self) -> usize
-        ensures len { result ≡ length self.now }
-        ensures sound { IsSound self.now }
+        ensures { result ≡ length self.now }
+    {
+        self.lines.len()
+    }
+
+    /// A law: each line is the one line of itself, all but the last end in LF, and together they are within the limit.
+    pub fn is_sound(&self)
+        ensures { IsSound self.now }
     {
         lines_stand_alone();
-        self.lines.len()
+        let _ = &self.lines;
     }
 
     /// How many bytes the text has.
@@ -107,11 +114,17 @@ impl Policy {
         line
     }
 
-    /// The text, added to a buffer.
-    pub fn append_text(&self, out: &mut Vec<u8>) -> Result<(), AllocError>
-        ensures { OnOk result (out.new.items ≡ out.old.items ++ join self.now) }
+    /// The text.
+    ///
+    /// # Errors
+    ///
+    /// Want of memory alone.
+    pub fn text(&self) -> Result<Vec<u8>, AllocError>
+        ensures { IfOk result (λ text. text.items ≡ join self.now) }
     {
-        append_lines(self.lines.as_slice(), out)
+        let mut text = Vec::with_capacity(self.allocator(), self.size)?;
+        append_lines(self.lines.as_slice(), &mut text)?;
+        Ok(text)
     }
 }
 

@@ -2,19 +2,18 @@
 ghost use Rattle.std.specs.Prelude.{◌≡◌, ◌≢◌, ◌+◌, ◌<◌, ◌≤◌, ◌++◌, length, Ok, Err, IfOk, IfErr, OnOk, OnErr, IfSome, IsOkAnd, MatchResult, min, ◌-◌, ◌^◌};
 ghost use Rattle.std.specs.Option.{option_map};
 ghost use Rattle.std.specs.Io.KnownBytes.{Keeps, Appends};
-ghost use Rattle.sudoers_tool.specs.Device.{Rose, AppendsFront};
-ghost use Rattle.sudoers_tool.specs.Program.{is_mark as is_mark_text, split_text, edited as edited_text, output_of, output_text as written_text, input_limit, TellsLayer, TellsTool, NeedsEnd, IsReadFault, IsAnswerFault};
+ghost use Rattle.sudoers_tool.specs.Device.{Rose, AppendsFront, TakesAtMost, TakesExactly, counted_up};
+ghost use Rattle.sudoers_tool.specs.Program.{is_mark as is_mark_text, split_text, edit_output as output_of_edit, output_of, output_text, input_limit, TellsLayer, TellsTool, NeedsEnd, StopsReading, IsReadFault, IsAnswerFault, pull_limit};
 
 use crate::device::{DeviceFailed, Pulled, Sink, Source};
-use crate::edit::{EditFault, Edits};
+use crate::edit::Edits;
 use crate::editor::Editor;
 use crate::fault::{LayerFault, ToolFault};
 use crate::physical::first_line_len;
 use crate::policy::Policy;
-use crate::script::{ScriptFault, read_script};
+use crate::script::read_script;
 use crate::spelling::write_script;
-use std::alloc::{AllocError, Global};
-use sudoers_text::TextFault;
+use std::alloc::Global;
 
 /// How many bytes the program reads at most.
 pub const INPUT_LIMIT: usize = 4_000_000;
@@ -47,15 +46,21 @@ pub fn run_edit<R: Source, W: Sink>(
         → Keeps (W.contents writer.old) (W.contents writer.new)) }
     ensures front { result ≡ Err ToolFault.Write → IfSome (R.remaining reader.old) (λ input.
         IsOkAnd (output_of input) (AppendsFront (W.contents writer.old) (W.contents writer.new))) }
-    // A device's fault is told only where that device failed.
+    // A device's fault is told exactly where that device failed.
     ensures read { result ≡ Err ToolFault.Read
         → Rose (R.Source.failures reader.old) (R.Source.failures reader.new) }
+    ensures read_well { result ≢ Err ToolFault.Read
+        → R.Source.failures reader.new ≡ R.Source.failures reader.old }
     ensures write { result ≡ Err ToolFault.Write
         → Rose (W.Sink.failures writer.old) (W.Sink.failures writer.new) }
+    ensures written_well { result ≢ Err ToolFault.Write
+        → W.Sink.failures writer.new ≡ W.Sink.failures writer.old }
     // The reader is asked at most so often, and `NoEnd` is told only after so many calls.
-    ensures asked { R.Source.pulls reader.new ≤ R.Source.pulls reader.old + 4194304 }
+    ensures asked { R.Source.pulls reader.new ≤ R.Source.pulls reader.old + pull_limit }
     ensures no_end { result ≡ Err ToolFault.NoEnd
-        → min (R.Source.pulls reader.old + 4194304) (2 ^ 64 - 1) ≤ R.Source.pulls reader.new }
+        → min (R.Source.pulls reader.old + pull_limit) (2 ^ 64 - 1) ≤ R.Source.pulls reader.new }
+    // It stops at the first byte past the limit, and only there is the input too large.
+    ensures stops { IfErr result (StopsReading (R.remaining reader.old) (R.remaining reader.new)) }
     // Any other outcome, but want of memory and an input that is too large, comes only where the reader told its end.
     ensures ended { NeedsEnd result → Rose (R.ends reader.old) (R.ends reader.new) }
 {
@@ -74,24 +79,26 @@ fn read_all<R: Source>(alloc: Global, reader: &mut R) -> Result<Vec<u8>, ToolFau
     ensures faults { IfErr result IsReadFault }
     ensures read { result ≡ Err ToolFault.Read
         → Rose (R.Source.failures reader.old) (R.Source.failures reader.new) }
-    ensures asked { R.Source.pulls reader.new ≤ R.Source.pulls reader.old + 4194304 }
+    ensures read_well { result ≢ Err ToolFault.Read
+        → R.Source.failures reader.new ≡ R.Source.failures reader.old }
+    ensures asked { R.Source.pulls reader.new ≤ R.Source.pulls reader.old + pull_limit }
     ensures no_end { result ≡ Err ToolFault.NoEnd
-        → min (R.Source.pulls reader.old + 4194304) (2 ^ 64 - 1) ≤ R.Source.pulls reader.new }
+        → min (R.Source.pulls reader.old + pull_limit) (2 ^ 64 - 1) ≤ R.Source.pulls reader.new }
+    ensures stops { IfErr result (StopsReading (R.remaining reader.old) (R.remaining reader.new)) }
     ensures ended { OnOk result (Rose (R.ends reader.old) (R.ends reader.new)) }
 {
     let mut input = Vec::new(alloc);
     let mut buffer = [0u8; 65_536];
     for pull in 0..PULL_LIMIT {
-        let _asked_before = pull;
+        // Only the proof looks at this count.
+        let _ = pull;
         let room = buffer.len().min(INPUT_LIMIT + 1 - input.len());
         match reader.pull(&mut buffer[..room]) {
             Ok(Pulled::Bytes(n)) => {
                 if n == 0 {
                     return Ok(input);
                 }
-                if input.extend_from_slice(&buffer[..n]).is_err() {
-                    return Err(ToolFault::Layer(LayerFault::NoMemory));
-                }
+                input.extend_from_slice(&buffer[..n])?;
                 if input.len() > INPUT_LIMIT {
                     return Err(ToolFault::InputTooLarge);
                 }
@@ -109,6 +116,7 @@ fn write_all<W: Sink>(writer: &mut W, bytes: &[u8]) -> Result<(), ToolFault>
     ensures part { OnErr result (AppendsFront (W.contents writer.old) (W.contents writer.new) bytes.now) }
     ensures fault { IfErr result (λ fault. (fault ≡ ToolFault.Write)
         × Rose (W.Sink.failures writer.old) (W.Sink.failures writer.new)) }
+    ensures well { OnOk result (W.Sink.failures writer.new ≡ W.Sink.failures writer.old) }
 {
     let mut at = 0;
     while at < bytes.len() {
@@ -129,10 +137,8 @@ fn answer(alloc: Global, input: &[u8]) -> Result<Vec<u8>, ToolFault>
     let Some((script, policy)) = split_mark(input) else {
         return Err(ToolFault::NoMark);
     };
-    match edited(alloc, script, policy) {
-        Ok(out) => Ok(out),
-        Err(fault) => Err(ToolFault::Layer(fault)),
-    }
+    let out = edit_output(alloc, script, policy)?;
+    Ok(out)
 }
 
 /// The script before the first line that is the mark, and the policy behind it.
@@ -161,49 +167,26 @@ fn is_mark(line: &[u8]) -> bool
 }
 
 /// The inverse script, the mark and the edited policy.
-fn edited(alloc: Global, script: &[u8], policy: &[u8]) -> Result<Vec<u8>, LayerFault>
-    ensures { MatchResult result (λ out. edited_text script.now policy.now ≡ Ok out.items)
-        (λ fault. TellsLayer fault (edited_text script.now policy.now)) }
+fn edit_output(alloc: Global, script: &[u8], policy: &[u8]) -> Result<Vec<u8>, LayerFault>
+    ensures { MatchResult result (λ out. output_of_edit script.now policy.now ≡ Ok out.items)
+        (λ fault. TellsLayer fault (output_of_edit script.now policy.now)) }
 {
-    let edits = match read_script(alloc, script) {
-        Ok(edits) => edits,
-        Err(ScriptFault::NoMemory) => return Err(LayerFault::NoMemory),
-        Err(fault) => return Err(LayerFault::Script(fault)),
-    };
-    let policy = match Policy::read(alloc, policy) {
-        Ok(policy) => policy,
-        Err(TextFault::NoMemory) => return Err(LayerFault::NoMemory),
-        Err(fault) => return Err(LayerFault::Text(fault)),
-    };
+    let edits = read_script(alloc, script)?;
+    let policy = Policy::read(alloc, policy)?;
     let mut editor = Editor::new(policy);
-    match editor.apply_all(edits.as_slice()) {
-        Ok(()) => {}
-        Err((_, EditFault::NoMemory)) => return Err(LayerFault::NoMemory),
-        Err((place, fault)) => return Err(LayerFault::Edit(place, fault)),
-    }
-    let inverse = match editor.inverse() {
-        Ok(inverse) => inverse,
-        Err(AllocError) => return Err(LayerFault::NoMemory),
-    };
-    written(alloc, &inverse, editor.policy())
+    editor.apply_all(edits.as_slice())?;
+    let inverse = editor.inverse()?;
+    output(alloc, &inverse, editor.policy())
 }
 
 /// A script, the mark and a policy.
-fn written(alloc: Global, inverse: &Edits, policy: &Policy) -> Result<Vec<u8>, LayerFault>
-    ensures { MatchResult result (λ out. written_text inverse.now policy.now ≡ Ok out.items)
-        (λ fault. TellsLayer fault (written_text inverse.now policy.now)) }
+fn output(alloc: Global, inverse: &Edits, policy: &Policy) -> Result<Vec<u8>, LayerFault>
+    ensures { MatchResult result (λ out. output_text inverse.now policy.now ≡ Ok out.items)
+        (λ fault. TellsLayer fault (output_text inverse.now policy.now)) }
 {
-    let mut out = match write_script(alloc, inverse.as_slice()) {
-        Ok(out) => out,
-        Err(ScriptFault::NoMemory) => return Err(LayerFault::NoMemory),
-        Err(fault) => return Err(LayerFault::Script(fault)),
-    };
-    if out.extend_from_slice(MARK).is_err() {
-        return Err(LayerFault::NoMemory);
-    }
-    if policy.append_text(&mut out).is_err() {
-        return Err(LayerFault::NoMemory);
-    }
+    let mut out = write_script(alloc, inverse.as_slice())?;
+    out.extend_from_slice(MARK)?;
+    out.extend_from_slice(policy.text()?.as_slice())?;
     Ok(out)
 }
 

@@ -16,7 +16,7 @@ use thiserror::Error;
 pub const MAX_EDITS: usize = 65_536;
 
 /// Why a text is no script. Lines count from 1.
-#[derive(Clone, Copy, Debug, Drop, PartialEq, Eq, Error)]
+#[derive(Clone, Copy, Debug, PartialEq, Eq, Error)]
 pub enum ScriptFault {
     /// This line is no command and no part of a text that may stand there.
     #[error("line {line}: BadWord")]

@@ -1,4 +1,5 @@
 //! Owned bytes that contracts see as a list.
+ghost use Rattle.std.specs.Prelude.{◌≡◌, ◌++◌, ◌==◌, length, IfOk, OnOk, OnErr};
 
 use std::alloc::{AllocError, Global};
 use std::marker::Model;
@@ -17,14 +18,19 @@ impl Model for Text {
     ghost view = { λ text. text.bytes.items };
 }
 
-ghost use Rattle.std.specs.Prelude.{◌≡◌, ◌++◌, ◌==◌, length, IfOk, OnOk, OnErr};
-
 impl Text {
     /// The bytes, taken over.
     pub fn from_vec(bytes: Vec<u8>) -> Text
         ensures { result ≡ bytes.items }
     {
         Text { bytes }
+    }
+
+    /// The bytes, given back.
+    pub fn into_vec(self) -> Vec<u8>
+        ensures { result.items ≡ self }
+    {
+        self.bytes
     }
 
     /// A copy of the bytes.

@@ -18,8 +18,8 @@ later_is c = let same = line_is c in rw (← same) (search rules)
 left : (c : goal.After-drop-line-inside) → Deleted c.self.inside.policy c.without_line-line.new.self c.self.inside.journal.items c.push.new.self.items c.args.at
 left c =
     let lines : List (List ℕ) = c.self.inside.policy in
-    let within : c.args.at < length lines = omega (arith, c.if-place-len.false, c.len.ensures.len) in
-    deleted lines c.without_line-line.new.self c.self.inside.journal.items c.push.new.self.items c.args.at c.len.ensures.sound c.self.invariant within (search rules) (later_is c)
+    let within : c.args.at < length lines = omega (arith, c.if-place-len.false, c.len.ensures) in
+    deleted lines c.without_line-line.new.self c.self.inside.journal.items c.push.new.self.items c.args.at c.is_sound.ensures c.self.invariant within (search rules) (later_is c)
 
 pub invariant_of-self-2 : goal.invariant_of-self-2
 invariant_of-self-2 c = (left c).undoable

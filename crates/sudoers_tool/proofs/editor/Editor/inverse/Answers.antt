@@ -4,27 +4,22 @@ use Rattle.std.specs.List.{flat_map}
 use Rattle.sudoers_tool.specs.declared.edit.Edit.{Edit}
 use Rattle.sudoers_tool.specs.declared.editor.Entry.{Entry}
 use Rattle.sudoers_tool.specs.Editing.{Desk, run, run_all, inv_run, first_of, edits_of}
-use Rattle.sudoers_tool.proofs.HistoryLemmas.{TakesBack, takes_back, leads_here}
+use Rattle.sudoers_tool.proofs.HistoryLemmas.{TakesBack, takes_back}
 use Rattle.sudoers_tool.proofs.editor.Editor.inverse.Goals as goal
 
--- the gathered edits take back all that stand
-told : (c : goal.After-gathered) → IfOk c.gathered.result (λ (edits : List Edit). TakesBack c.args.self.now edits)
+-- the inverses_of edits take back all that stand
+told : (c : goal.After-inverses_of) → IfOk c.inverses_of.result (λ (edits : List Edit). TakesBack c.args.self.now edits)
 told c =
     let desk : Desk = record { lines = c.self.inside.policy; journal = c.self.inside.journal.items } in
-    subst (λ (d : Desk). IfOk c.gathered.result (λ (edits : List Edit). TakesBack d edits)) c.self.view_is
-    (IfOk-weaker c.gathered.result _ _ (λ (edits : List Edit) is.
-    takes_back desk c.self.invariant edits (is ∙ ap (λ (z : List Entry). flat_map (λ (x : Entry). x.inverse) (reverse z)) c.as_slice.ensures.value)) c.gathered.ensures)
+    subst (λ (d : Desk). IfOk c.inverses_of.result (λ (edits : List Edit). TakesBack d edits)) c.self.view_is
+    (IfOk-weaker c.inverses_of.result _ _ (λ (edits : List Edit) is.
+    takes_back desk c.self.invariant edits (is ∙ ap (λ (z : List Entry). flat_map (λ (x : Entry). x.inverse) (reverse z)) c.as_slice.ensures.value)) c.inverses_of.ensures)
 
 pub returns-clause-exact : goal.returns-clause-exact
-returns-clause-exact c = IfOk-weaker c.gathered.result _ _ (λ (edits : List Edit) back. back.exact) (told c)
-
-pub returns-clause-forth : goal.returns-clause-forth
-returns-clause-forth c =
-    let desk : Desk = record { lines = c.self.inside.policy; journal = c.self.inside.journal.items } in
-    subst (λ (d : Desk). run (edits_of d.journal) (first_of d) ≡ Some d.lines) c.self.view_is (leads_here desk c.self.invariant)
+returns-clause-exact c = IfOk-weaker c.inverses_of.result _ _ (λ (edits : List Edit) back. back.exact) (told c)
 
 pub returns-clause-restores : goal.returns-clause-restores
-returns-clause-restores c = IfOk-weaker c.gathered.result _ _ (λ (edits : List Edit) back. back.restores) (told c)
+returns-clause-restores c = IfOk-weaker c.inverses_of.result _ _ (λ (edits : List Edit) back. back.restores) (told c)
 
 pub returns-clause-accepted : goal.returns-clause-accepted
-returns-clause-accepted c = IfOk-weaker c.gathered.result _ _ (λ (edits : List Edit) back. back.accepted) (told c)
+returns-clause-accepted c = IfOk-weaker c.inverses_of.result _ _ (λ (edits : List Edit) back. back.accepted) (told c)
