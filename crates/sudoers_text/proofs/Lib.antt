@@ -11,4 +11,5 @@ pub mod Closed
 pub mod Outcomes
 pub mod Found
 pub mod Alone
-pub mod Rows
+pub mod Examples
+pub mod Runs

@@ -5,3 +5,4 @@ pub mod Line
 pub mod Span
 pub mod Fault
 pub mod Cut
+pub mod Run

@@ -123,6 +123,9 @@ fn line_end(text: &[u8], start: usize) -> LineEnd
     while let Some(unit) = unit_at(left, &text[at..]) {
         left = left.after(text, at, &unit);
         at += unit.len();
+        let run = left.run(&text[at..]);
+        left = left.after_run(run);
+        at += run.len();
     }
     if at < text.len() {
         LineEnd {

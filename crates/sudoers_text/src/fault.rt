@@ -9,9 +9,10 @@ use thiserror::Error;
 /// What is wrong with a text.
 #[derive(Clone, Copy, Debug, PartialEq, Eq, Error)]
 pub enum TextFault {
+    /// The text has more than 1,048,576 bytes.
     #[error("text too large")]
     TooLarge,
-    /// The logical line that begins on this physical line, from 1, passes the limit.
+    /// The logical line that begins on this physical line, from 1, has more than 65,536 bytes.
     #[error("line {line} too long")]
     LineTooLong { line: usize },
     /// The byte, from 0, is NUL.
@@ -20,6 +21,7 @@ pub enum TextFault {
     /// The text ends in a continuation, or in a lone backslash.
     #[error("the text ends in a continuation")]
     OpenContinuation,
+    /// A growth of memory was refused.
     #[error("out of memory")]
     NoMemory,
 }

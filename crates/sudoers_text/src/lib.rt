@@ -5,6 +5,7 @@ mod cutting;
 mod fault;
 mod laws;
 mod line;
+mod run;
 mod unit;
 
 pub use cutting::{LINE_LIMIT, TEXT_LIMIT};
@@ -14,3 +15,4 @@ pub use laws::{
     lines_stand_alone, one_list, one_outcome, some_list,
 };
 pub use line::{Lines, cut};
+pub use unit::ends_in_lf;

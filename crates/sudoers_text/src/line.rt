@@ -41,7 +41,7 @@ impl<'a> Lines<'a> {
         self.spans.is_empty()
     }
 
-    /// The text of a line, its line end included. Lines count from 0.
+    /// The text of a line, its line end included. Lines count from 0; none stands past the last.
     pub fn get(&self, i: usize) -> Option<&'a [u8]>
         ensures { option_copied result ≡ slice_get self.now i }
     {
@@ -57,7 +57,8 @@ impl<'a> Lines<'a> {
 ///
 /// # Errors
 ///
-/// [`TextFault`], in its order: a text that is too large first, else the fault at the least byte.
+/// [`TextFault`]: a text of more than 1,048,576 bytes first; else the fault at the least byte, where a line that is too long
+/// stands at its 65,537th byte, before a NUL there, and an open continuation at the end.
 pub fn cut(alloc: Global, text: &[u8]) -> Result<Lines<'_>, TextFault>
     // The lines are the definition's, and nothing is wrong with the text.
     ensures lines { IfOk result (λ lines. IsCut text.now lines) }

@@ -1,20 +1,28 @@
 //! The units that a line is made of.
 
-ghost use Rattle.std.specs.Prelude.{◌≡◌, ℕ, ◌+◌, ◌≤◌};
-ghost use Rattle.sudoers_text.specs.Unit.{is_blank, begins_line_end, begins_path, has_path, names_include, begins_digit, is_sign, is_separator};
+ghost use Rattle.std.specs.Prelude.{◌≡◌, ℕ, ◌+◌, ◌≤◌, List, [], ◌∷◌, ◌++◌, length, drop, take, slice_range, Option, Some, None, MatchOption, IfSome, Bool, ◌==◌, ◌&&◌, ◌||◌, true, false, if◌then◌else◌, ◌<◌, ◌^◌};
+ghost use Rattle.sudoers_text.specs.Unit.{LineUnit, text_of, up_to_line_end, quoted_part, begins_lf, line_end_size, escaped, unit_at, is_gap, begins_item, is_blank, begins_line_end, begins_path, has_path, names_include, begins_digit, is_sign, is_separator};
+ghost use Rattle.sudoers_text.specs.Ended.{ends_in_lf};
+ghost use Rattle.sudoers_text.specs.Line.{is_open, ends_behind_backslash};
+ghost use Rattle.sudoers_text.specs.Left.{Agrees, Knows, StandsAt, unit_of, unit_option};
 
+use memchr::memchr;
+
+/// Whether it is a space or a tab.
 pub fn is_blank(byte: u8) -> bool
     ensures { result ≡ is_blank byte }
 {
     byte == b' ' || byte == b'\t'
 }
 
+/// Whether it is `!`, `(` or `%`.
 pub fn is_sign(byte: u8) -> bool
     ensures { result ≡ is_sign byte }
 {
     byte == b'!' || byte == b'(' || byte == b'%'
 }
 
+/// Whether it is `,`, `:` or `=`.
 pub fn is_separator(byte: u8) -> bool
     ensures { result ≡ is_separator byte }
 {
@@ -25,15 +33,11 @@ pub fn is_separator(byte: u8) -> bool
 pub fn begins_line_end(text: &[u8]) -> bool
     ensures { result ≡ begins_line_end text.now }
 {
-    match text {
-        [b'\n', ..] => true,
-        [b'\r', b'\n', ..] => true,
-        _ => false,
-    }
+    matches!(text, [b'\n', ..] | [b'\r', b'\n', ..])
 }
 
 /// Whether a decimal digit begins the text.
-pub fn begins_digit(text: &[u8]) -> bool
+fn begins_digit(text: &[u8]) -> bool
     ensures { result ≡ begins_digit text.now }
 {
     match text {
@@ -52,6 +56,7 @@ fn has_path(text: &[u8]) -> bool
     }
 }
 
+/// Whether a byte that can begin a path begins the text, behind any blanks.
 fn begins_path(text: &[u8]) -> bool
     ensures { result ≡ begins_path text.now }
 {
@@ -64,20 +69,12 @@ fn begins_path(text: &[u8]) -> bool
 }
 
 /// Whether what follows a `#` makes an include of it.
-pub fn names_include(text: &[u8]) -> bool
+fn names_include(text: &[u8]) -> bool
     ensures { result ≡ names_include text.now }
 {
     (text.starts_with(b"include") && has_path(&text[7..]))
         || (text.starts_with(b"includedir") && has_path(&text[10..]))
 }
-
-ghost use Rattle.std.specs.Prelude.{List, [], ◌∷◌, ◌++◌, length, drop, take, slice_range, Option, Some, None, MatchOption, IfSome, Bool, ◌==◌, ◌&&◌, ◌||◌, true, false, if◌then◌else◌, ◌<◌, ◌^◌};
-ghost use Rattle.sudoers_text.specs.Unit.{LineUnit, text_of, up_to_line_end, quoted_part, begins_lf, line_end_size, escaped, unit_at, is_gap, begins_item};
-ghost use Rattle.sudoers_text.specs.Ended.{ends_in_lf};
-ghost use Rattle.sudoers_text.specs.Line.{is_open, ends_behind_backslash};
-ghost use Rattle.sudoers_text.specs.Left.{Agrees, Knows, StandsAt, unit_of, unit_option};
-
-use memchr::memchr;
 
 /// A unit of a line, as it stands in the text.
 #[derive(Clone, Copy)]
@@ -99,7 +96,7 @@ pub enum Unit<'a> {
 pub struct Left {
     /// An ID may begin here.
     pub item: bool,
-    /// The line ends open, if it ends here.
+    /// The text ends here, in a continuation or in a lone backslash.
     pub continues: bool,
     /// How many bytes the line has so far, without the blanks and continuations that it begins with.
     pub begun: usize,

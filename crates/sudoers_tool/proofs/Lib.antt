@@ -1,4 +1,5 @@
 mod EditLemmas
+mod FrontLemmas
 mod HistoryLemmas
 mod NumberLemmas
 mod OneSpelling

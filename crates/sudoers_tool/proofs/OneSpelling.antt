@@ -8,7 +8,7 @@ use Rattle.sudoers_tool.specs.Script.{payload, payload_line, spelling, AreNumber
 use Rattle.sudoers_tool.specs.ScriptReading.{sense, without_end}
 use Rattle.sudoers_tool.specs.declared.edit.Edit.{Edit}
 use Rattle.sudoers_tool.specs.declared.edit.Edit.TheVariants.{Insert, Delete}
-use Rattle.sudoers_tool.specs.declared.script.Said.TheVariants as says
+use Rattle.sudoers_tool.specs.declared.script_line.Said.TheVariants as says
 use Rattle.sudoers_tool.proofs.PhysicalLemmas.{IsLine, AreLines, join, lines-each, lines-ended, line-push, ended-push, unended_lacks, without_end-push}
 use Rattle.sudoers_tool.proofs.WordLemmas.{insert_line, delete_line, sense-insert, sense-delete}
 use Rattle.sudoers_tool.proofs.SpellingLemmas.{lines_spelled_insert, lines_spelled_delete}

@@ -10,39 +10,39 @@ use Rattle.sudoers_tool.specs.Script.{payload, payload_line, spell, spelling, Ar
 use Rattle.sudoers_tool.specs.ScriptReading.{Standing, Between, Begun, Going, Rest, before, with_room, command_line, first_line, later_line, edits_from, sense, text_in, without_end, reading, Reads}
 use Rattle.sudoers_tool.specs.declared.edit.Edit.{Edit}
 use Rattle.sudoers_tool.specs.declared.edit.Edit.TheVariants.{Insert, Delete}
-use Rattle.sudoers_tool.specs.declared.script.Said.{Said}
-use Rattle.sudoers_tool.specs.declared.script.Said.TheVariants as says
+use Rattle.sudoers_tool.specs.declared.script_line.Said.{Said}
+use Rattle.sudoers_tool.specs.declared.script_line.Said.TheVariants as says
 use Rattle.sudoers_tool.specs.declared.script.ScriptFault.{ScriptFault}
 use Rattle.sudoers_tool.specs.declared.script.ScriptFault.TheVariants as faults
 use Rattle.sudoers_tool.proofs.PhysicalLemmas.{IsLine, AreLines, join, lines-each, lines-one, lines-append, lacks_line, lacks_unended, push_lacks}
 use Rattle.sudoers_tool.proofs.WordLemmas.{insert_line, delete_line, Says, says_sense, text-last}
 
 -- what has been read of an edit that is open
-abbrev front : Standing → List ℕ
+abbrev pub front : Standing → List ℕ
 front Between = []
 front (Begun at line) = insert_line at
 front (Going at so_far) = spell (Insert at so_far)
 
 -- an open insertion counts, and is no edit yet
-abbrev opened : Standing → ℕ
+abbrev pub opened : Standing → ℕ
 opened Between = 0
 opened (Begun at line) = 1
 opened (Going at so_far) = 1
 
 -- Its number fits, and its text so far ends in LF.
-abbrev IsFair : Standing → Type 0
+abbrev pub IsFair : Standing → Type 0
 IsFair Between = Unit {0}
 IsFair (Begun at line) = at + 1 ≤ 2 ^ 32
 IsFair (Going at so_far) = (at + 1 ≤ 2 ^ 32) × (ends_in_lf so_far ≡ true)
 
 -- These lines, behind what has been read of the open edit, spell these edits.
-record Spells (standing : Standing) (lines : List (List ℕ)) (edits : List Edit) (count : ℕ) : Type 0 where
-  text : front standing ++ join lines ≡ spelling edits
-  few : length edits + count ≤ 65536 + opened standing
-  numbered : AreNumbered edits
+pub record Spells (standing : Standing) (lines : List (List ℕ)) (edits : List Edit) (count : ℕ) : Type 0 where
+  pub text : front standing ++ join lines ≡ spelling edits
+  pub few : length edits + count ≤ 65536 + opened standing
+  pub numbered : AreNumbered edits
 
 -- what the lines behind give is spelled by them
-abbrev AreSpelled : Rest → List (List ℕ) → Type 0
+abbrev pub AreSpelled : Rest → List (List ℕ) → Type 0
 AreSpelled rest lines = (standing : Standing) (count : ℕ) (edits : List Edit) → IsFair standing → count ≤ 65536 → rest standing count ≡ Ok edits → Spells standing lines edits count
 
 -- edits that begin with this one come from those behind it
@@ -275,7 +275,7 @@ one_line l lines line is behind (Going at so_far) count edits fair fits e =
     later_spelled (edits_from lines (line + 1)) lines l line count at so_far edits (sense l) (says_sense l) is behind fair.0 fair.1 fits e
 
 -- lines spell the edits that they give
-lines_spelled : (lines : List (List ℕ)) → AreLines lines → (line : ℕ) → AreSpelled (edits_from lines line) lines
+pub lines_spelled : (lines : List (List ℕ)) → AreLines lines → (line : ℕ) → AreSpelled (edits_from lines line) lines
 lines_spelled [] each line = λ standing count edits fair fits e. no_lines line standing count edits fair fits e
 lines_spelled (l ∷ lines) each line =
     λ standing count edits fair fits e. one_line l lines line each.0 (lines_spelled lines each.1 (line + 1)) standing count edits fair fits e

@@ -9,8 +9,8 @@ use Rattle.sudoers_tool.specs.Script.{payload, payload_line, spelling, AreNumber
 use Rattle.sudoers_tool.specs.ScriptReading.{Between, Begun, Going, Rest, before, with_room, command_line, first_line, later_line, edits_from, sense, text_in, reading}
 use Rattle.sudoers_tool.specs.declared.edit.Edit.{Edit}
 use Rattle.sudoers_tool.specs.declared.edit.Edit.TheVariants.{Insert, Delete}
-use Rattle.sudoers_tool.specs.declared.script.Said.{Said}
-use Rattle.sudoers_tool.specs.declared.script.Said.TheVariants as says
+use Rattle.sudoers_tool.specs.declared.script_line.Said.{Said}
+use Rattle.sudoers_tool.specs.declared.script_line.Said.TheVariants as says
 use Rattle.sudoers_tool.specs.declared.script.ScriptFault.{ScriptFault}
 use Rattle.sudoers_tool.proofs.PhysicalLemmas.{IsLine, AreLines, join, lines-each, unended_lacks}
 use Rattle.sudoers_tool.proofs.ReadingLemmas.{later_line-command}

@@ -5,8 +5,8 @@ use Rattle.std.proofs.lemmas.Bool.{false≢true, cases_Bool, eqb-true}
 use Rattle.memchr.specs.Find.{NoneBefore, Nowhere, Passes, is_byte}
 use Rattle.sudoers_tool.specs.Physical.{onto, physical_lines}
 use Rattle.std.specs.List.{list_any}
-use Rattle.sudoers_tool.specs.declared.script.Said.{Said}
-use Rattle.sudoers_tool.specs.declared.script.Said.TheVariants as says
+use Rattle.sudoers_tool.specs.declared.script_line.Said.{Said}
+use Rattle.sudoers_tool.specs.declared.script_line.Said.TheVariants as says
 use Rattle.sudoers_tool.specs.Script.{number}
 use Rattle.sudoers_tool.specs.ScriptReading.{words, command, place_or_bad, place_of_word, said_by_words, without_end, sense}
 use Rattle.sudoers_tool.proofs.NumberLemmas.{place_spelled, number_read, number_lacks}

@@ -1,5 +1,5 @@
 -- The one spelling of a list of edits.
-use Rattle.std.specs.Prelude.{ℕ, ◌+◌, ◌^◌, ◌≤◌, List, [], ◌∷◌, ◌++◌, if◌then◌else◌, codes}
+use Rattle.std.specs.Prelude.{◌≡◌, ◌⊎◌, ℕ, ◌+◌, ◌-◌, ◌^◌, ◌<◌, ◌≤◌, List, [], ◌∷◌, ◌++◌, length, take, if◌then◌else◌, codes}
 use Rattle.std.specs.List.{flat_map}
 use Rattle.std.specs.Fmt.{decimal}
 use Rattle.sudoers_text.specs.Ended.{ends_in_lf}
@@ -40,3 +40,36 @@ IsNumbered (Delete at) = at + 1 ≤ 2 ^ 32
 abbrev pub AreNumbered : List Edit → Type 0
 AreNumbered [] = Unit {0}
 AreNumbered (edit ∷ edits) = IsNumbered edit × AreNumbered edits
+
+-- FRONTS
+
+-- These physical lines are a front of a script: the first lines of the spelling of a list of edits within the limit.
+pub record IsFront (lines : List (List ℕ)) : Type 0 where
+  pub more : List (List ℕ)
+  pub edits : List Edit
+  pub numbered : AreNumbered edits
+  pub few : length edits ≤ edit_limit
+  pub whole : lines ++ more ≡ physical_lines (spelling edits)
+
+-- This line, counted from 1, is the first with which these lines are no front of a script.
+pub record IsDeadLine (line : ℕ) (lines : List (List ℕ)) : Type 0 where
+  pub counted : 0 < line
+  pub within : line ≤ length lines
+  pub before : IsFront (take (line - 1) lines)
+  pub dead : IsFront (take line lines) → ⊥
+
+-- Up to this line, counted from 1, these lines are a front of a script, and no script; and no line follows, or one
+-- with which they are no front.
+pub record WantsText (line : ℕ) (lines : List (List ℕ)) : Type 0 where
+  pub counted : 0 < line
+  pub within : line ≤ length lines
+  pub front : IsFront (take line lines)
+  pub alone : (edits : List Edit) → AreNumbered edits → length edits ≤ edit_limit → take line lines ≡ physical_lines (spelling edits) → ⊥
+  pub ends : (line ≡ length lines) ⊎ (IsFront (take (line + 1) lines) → ⊥)
+
+-- The lines before this one are a script with as many edits as there may be.
+pub record IsFullBefore (line : ℕ) (lines : List (List ℕ)) : Type 0 where
+  pub edits : List Edit
+  pub numbered : AreNumbered edits
+  pub full : length edits ≡ edit_limit
+  pub whole : take (line - 1) lines ≡ physical_lines (spelling edits)

@@ -6,8 +6,8 @@ use Rattle.sudoers_tool.specs.Physical.{onto, physical_lines}
 use Rattle.sudoers_tool.specs.Script.{edit_limit}
 use Rattle.sudoers_tool.specs.declared.edit.Edit.{Edit}
 use Rattle.sudoers_tool.specs.declared.edit.Edit.TheVariants.{Insert, Delete}
-use Rattle.sudoers_tool.specs.declared.script.Said.{Said}
-use Rattle.sudoers_tool.specs.declared.script.Said.TheVariants as says
+use Rattle.sudoers_tool.specs.declared.script_line.Said.{Said}
+use Rattle.sudoers_tool.specs.declared.script_line.Said.TheVariants as says
 use Rattle.sudoers_tool.specs.declared.script.ScriptFault.{ScriptFault}
 use Rattle.sudoers_tool.specs.declared.script.ScriptFault.TheVariants as faults
 
@@ -154,3 +154,12 @@ Tells faults.TooMany wanted = wanted ≡ Err faults.TooMany
 abbrev pub Reads : Result (List Edit) ScriptFault → Result (List Edit) ScriptFault → Type 0
 Reads (Ok edits) wanted = wanted ≡ Ok edits
 Reads (Err fault) wanted = Tells fault wanted
+
+-- A fault that is told when this line is read.
+abbrev pub IsToldAt : ℕ → Result (List Edit) ScriptFault → Type 0
+IsToldAt line (Ok edits) = ⊥
+IsToldAt line (Err (faults.BadWord at)) = at ≡ line
+IsToldAt line (Err (faults.BadNumber at)) = at ≡ line
+IsToldAt line (Err (faults.NoPayload at)) = at + 1 ≡ line
+IsToldAt line (Err faults.TooMany) = Unit {0}
+IsToldAt line (Err faults.NoMemory) = ⊥

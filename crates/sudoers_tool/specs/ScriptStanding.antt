@@ -7,8 +7,8 @@ use Rattle.sudoers_tool.specs.declared.script_line.Argument.TheVariants as argum
 use Rattle.sudoers_tool.specs.declared.script.Open.{Open}
 use Rattle.sudoers_tool.specs.declared.script.Open.TheVariants as open_at
 use Rattle.sudoers_tool.specs.declared.script.Reading.{Reading}
-use Rattle.sudoers_tool.specs.declared.script.Said.{Said}
-use Rattle.sudoers_tool.specs.declared.script.Said.TheVariants as says
+use Rattle.sudoers_tool.specs.declared.script_line.Said.{Said}
+use Rattle.sudoers_tool.specs.declared.script_line.Said.TheVariants as says
 use Rattle.sudoers_tool.specs.declared.script.ScriptFault.{ScriptFault}
 
 -- the words behind the first, of a rest that is empty or begins with a space

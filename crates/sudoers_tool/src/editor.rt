@@ -6,12 +6,11 @@ ghost use Rattle.sudoers_text.specs.Ended.{has_unended_inside};
 ghost use Rattle.sudoers_tool.specs.OneLine.{is_one_line, IsAlone};
 
 use crate::edit::{Edit, EditFault, Edits};
-use crate::physical::ends_in_lf;
 use crate::policy::Policy;
 use crate::text::Text;
 use std::alloc::{AllocError, Global};
 use std::marker::Model;
-use sudoers_text::{TEXT_LIMIT, TextFault, cut, lines_stand_alone};
+use sudoers_text::{TEXT_LIMIT, TextFault, cut, ends_in_lf, lines_stand_alone};
 
 /// An accepted edit, with the edits that take it back.
 #[derive(Debug, Drop)]

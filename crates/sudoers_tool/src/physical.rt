@@ -1,6 +1,5 @@
 //! Physical lines: a text cut behind each LF.
 ghost use Rattle.std.specs.Prelude.{◌≡◌, ◌<◌, ◌≤◌, ◌∷◌, take, drop, length};
-ghost use Rattle.sudoers_text.specs.Ended.{ends_in_lf};
 ghost use Rattle.sudoers_tool.specs.Physical.{physical_lines};
 
 use memchr::memchr;
@@ -15,15 +14,5 @@ pub fn first_line_len(text: &[u8]) -> usize
     match memchr(b'\n', text) {
         Some(at) => at + 1,
         None => text.len(),
-    }
-}
-
-/// Whether a line ends in LF.
-pub fn ends_in_lf(line: &[u8]) -> bool
-    ensures { result ≡ ends_in_lf line.now }
-{
-    match line.last() {
-        Some(last) => *last == b'\n',
-        None => false,
     }
 }

@@ -6,7 +6,7 @@ ghost use Rattle.sudoers_tool.specs.ScriptStanding.{behind, next, outcome};
 
 use crate::edit::{Edit, Edits};
 use crate::physical::first_line_len;
-use crate::script_line::{sense_of, text_of};
+use crate::script_line::{Said, sense_of, text_of};
 use crate::text::Text;
 use std::alloc::{AllocError, AllocFailed, Global};
 use std::mem::replace;
@@ -54,25 +54,6 @@ impl<T: Drop> From<AllocFailed<T>> for ScriptFault {
     fn from(_error: AllocFailed<T>) -> ScriptFault {
         ScriptFault::NoMemory
     }
-}
-
-/// What a line of a script says.
-#[derive(Clone, Copy, Debug, PartialEq, Eq)]
-pub enum Said {
-    Insert(u32),
-    Delete(u32),
-    /// A command, right but for its number.
-    BadNumber,
-    /// It begins with the word of a command, and is otherwise wrong.
-    BadCommand,
-    /// `|`, and a line of a text with its LF.
-    More,
-    /// `>`, and the rest of a text, without LF.
-    Last,
-    /// A line of a text, and the script ends without LF.
-    Unended,
-    /// Anything else.
-    Other,
 }
 
 /// What may stand next in a script.

@@ -2,11 +2,10 @@
 ghost use Rattle.std.specs.Prelude.{◌≡◌, ◌≤◌, ◌∷◌, ℕ, length, take, drop};
 ghost use Rattle.sudoers_tool.specs.ScriptReading.{sense, text_in, said_by_words, words, command, place_of_word};
 ghost use Rattle.sudoers_tool.specs.ScriptStanding.{words_behind, said_for};
-ghost use Rattle.sudoers_tool.specs.declared.script.Said.{Said as WhatIsSaid};
+ghost use Rattle.sudoers_tool.specs.declared.script_line.Said.{Said as WhatIsSaid};
 
-use crate::physical::ends_in_lf;
-use crate::script::Said;
 use memchr::memchr;
+use sudoers_text::ends_in_lf;
 
 /// The greatest number of a line.
 const MAX_NUMBER: u64 = 4_294_967_296;
@@ -14,6 +13,25 @@ const MAX_NUMBER: u64 = 4_294_967_296;
 const INSERT: &[u8] = b"insert";
 
 const DELETE: &[u8] = b"delete";
+
+/// What a line of a script says.
+#[derive(Clone, Copy, Debug, PartialEq, Eq)]
+pub enum Said {
+    Insert(u32),
+    Delete(u32),
+    /// A command, right but for its number.
+    BadNumber,
+    /// It begins with the word of a command, and is otherwise wrong.
+    BadCommand,
+    /// `|`, and a line of a text with its LF.
+    More,
+    /// `>`, and the rest of a text, without LF.
+    Last,
+    /// A line of a text, and the script ends without LF.
+    Unended,
+    /// Anything else.
+    Other,
+}
 
 /// What stands behind the first word of a command.
 #[derive(Clone, Copy, Debug, PartialEq, Eq)]

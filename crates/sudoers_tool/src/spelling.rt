@@ -1,13 +1,17 @@
 //! The spelling of a list of edits, and the laws between spelling and reading.
-ghost use Rattle.std.specs.Prelude.{◌≡◌, ◌⊎◌, ◌+◌, ◌≤◌, ◌<◌, ◌++◌, ℕ, List, length, IfOk, IfErr, OnOk, Ok, Err};
-ghost use Rattle.sudoers_tool.specs.Script.{number, payload, payload_line, spell, spelling, edit_limit, AreNumbered};
-ghost use Rattle.sudoers_tool.specs.ScriptReading.{reading};
+ghost use Rattle.std.specs.Prelude.{◌≡◌, ◌⊎◌, ◌+◌, ◌≤◌, ◌<◌, ◌++◌, ℕ, List, true, length, take, IfOk, IfErr, OnOk, Ok, Err};
+ghost use Rattle.sudoers_text.specs.Ended.{ends_in_lf as has_lf};
+ghost use Rattle.sudoers_text.specs.Line.{join};
+ghost use Rattle.sudoers_tool.specs.Physical.{physical_lines};
+ghost use Rattle.sudoers_tool.specs.Script.{number, payload, payload_line, spell, spelling, edit_limit, AreNumbered, IsFront, IsDeadLine, WantsText, IsFullBefore};
+ghost use Rattle.sudoers_tool.specs.ScriptReading.{reading, IsToldAt};
 ghost use Rattle.sudoers_tool.specs.declared.edit.Edit.{Edit as AnEdit};
 
 use crate::edit::Edit;
-use crate::physical::{ends_in_lf, first_line_len};
+use crate::physical::first_line_len;
 use crate::script::{MAX_EDITS, ScriptFault};
 use std::alloc::{AllocError, Global};
+use sudoers_text::ends_in_lf;
 
 /// Appends a line's number.
 fn append_number(alloc: Global, out: &mut Vec<u8>, at: u32) -> Result<(), AllocError>
@@ -95,4 +99,34 @@ pub fn read_is_spelling()
 /// Two lists of edits have two spellings.
 pub fn one_spelling()
     ensures { (edits others : List AnEdit) → AreNumbered edits → AreNumbered others → spelling edits ≡ spelling others → edits ≡ others }
+{}
+
+/// A line that is no command and no text, and a command with a bad number, is the first line with which the lines of
+/// the text are no front of a script.
+pub fn word_fault_is_at_the_first_dead_line()
+    ensures word { (text : List ℕ) (line : ℕ) → reading text ≡ Err (ScriptFault.BadWord line) → IsDeadLine line (physical_lines text) }
+    ensures number { (text : List ℕ) (line : ℕ) → reading text ≡ Err (ScriptFault.BadNumber line) → IsDeadLine line (physical_lines text) }
+{}
+
+/// A command that wants its text ends a front of a script that is none itself, and no line that may follow stands behind.
+pub fn payload_fault_is_at_a_command_without_text()
+    ensures { (text : List ℕ) (line : ℕ) → reading text ≡ Err (ScriptFault.NoPayload line) → WantsText line (physical_lines text) }
+{}
+
+/// Too many edits are told where a dead line stands behind a script of as many edits as there may be.
+pub fn too_many_is_behind_the_most_edits()
+    ensures { (text : List ℕ) → reading text ≡ Err ScriptFault.TooMany → (line : ℕ) × IsDeadLine line (physical_lines text) × IsFullBefore line (physical_lines text) }
+{}
+
+/// The bytes of a front begin a spelling, and the first lines of a text, if they end in LF and their bytes begin a
+/// spelling, are a front.
+pub fn front_is_by_bytes()
+    ensures bytes { (lines : List (List ℕ)) → IsFront lines → (more : List ℕ) × (edits : List AnEdit) × AreNumbered edits × (length edits ≤ edit_limit) × (join lines ++ more ≡ spelling edits) }
+    ensures lines { (text more : List ℕ) (n : ℕ) (edits : List AnEdit) → AreNumbered edits → length edits ≤ edit_limit → (n < length (physical_lines text)) ⊎ (has_lf text ≡ true) → join (take n (physical_lines text)) ++ more ≡ spelling edits → IsFront (take n (physical_lines text)) }
+{}
+
+/// Lines have at most one first dead line, and a text that has one is refused when that line is read.
+pub fn first_dead_line_is_told()
+    ensures one { (lines : List (List ℕ)) (line other : ℕ) → IsDeadLine line lines → IsDeadLine other lines → line ≡ other }
+    ensures told { (text : List ℕ) (line : ℕ) → IsDeadLine line (physical_lines text) → IsToldAt line (reading text) }
 {}

@@ -5,8 +5,10 @@ use Rattle.sudoers_text.specs.Unit.{line_end_size}
 use Rattle.sudoers_text.specs.Line.{IsLine, IsOpen}
 use Rattle.sudoers_text.specs.Left.{unit_of}
 use Rattle.sudoers_text.proofs.Reading.{Reading, agrees, stands_at, unit_here, unit_size, reading_first, reading_more, end_here, end_within, line_by_end, line_at_end, open_at_end}
+use Rattle.sudoers_text.proofs.Runs.{reading_passed}
 use Rattle.sudoers_text.proofs.Unique.{not_open_by_end, open_then_continues}
 use Rattle.sudoers_text.proofs.cutting.line_end.Goals as goal
+use Rattle.sudoers_text.proofs.cutting.line_end.Goals.{After-len-at, After-after_run-left}
 
 pub loop-unit-init : goal.loop-unit-init
 loop-unit-init c = reading_first c.args.text.now c.args.start _ c.requires (c.nothing-left.ensures c.args.text.now c.args.start)
@@ -18,8 +20,8 @@ after-left-requires-clause-stands c =
     (unit_here c.args.text.now c.loop-unit.at reading.before (Some (unit_of c.in-Some.unit)) (c.in-Some.ensures reading.before (agrees _ _ _ _ reading.knows)))
 
 -- the reading behind the unit
-read_on : (c : goal.After-len-at) → Reading c.args.text.now c.args.start (c.loop-unit.at + c.len-at.result) c.after-left.result
-read_on c =
+behind_unit : (c : goal.After-len-at) → Reading c.args.text.now c.args.start (c.loop-unit.at + c.len-at.result) c.after-left.result
+behind_unit c =
     let reading = c.loop-unit.invariant in
     let unit = unit_of c.in-Some.unit in
     let here = unit_here c.args.text.now c.loop-unit.at reading.before (Some unit) (c.in-Some.ensures reading.before (agrees _ _ _ _ reading.knows)) in
@@ -27,14 +29,32 @@ read_on c =
     subst family (sym c.len-at.ensures)
     (reading_more c.args.text.now c.args.start c.loop-unit.at c.loop-unit.left c.after-left.result reading unit here (c.after-left.ensures reading.before reading.knows))
 
+-- the reading behind the run
+behind_run : (c : goal.After-after_run-left) → Reading c.args.text.now c.args.start (c.loop-unit.at + c.len-at.result + length c.run-run.result.now) c.after_run-left.result
+behind_run c =
+    reading_passed c.args.text.now c.args.start (c.loop-unit.at + c.len-at.result) c.after-left.result c.after_run-left.result c.run-run.result.now
+    (behind_unit (goal.at.loop-unit-preserved c).After-len-at)
+    c.run-run.ensures
+    (record { item = c.after_run-left.ensures.item; continues = c.after_run-left.ensures.continues; begun = c.after_run-left.ensures.begun })
+
+pub slice_bounds-run-count : goal.slice_bounds-run-count
+slice_bounds-run-count c =
+    let reading = behind_unit (goal.at.slice_bounds-run-count c).After-len-at in
+    reading.to
+
+pub slice_bounds-run-start : goal.slice_bounds-run-start
+slice_bounds-run-start c =
+    let reading = behind_unit (goal.at.slice_bounds-run-start c).After-len-at in
+    reading.to
+
 pub loop-unit-smaller : goal.loop-unit-smaller
 loop-unit-smaller c =
     let reading = c.loop-unit.invariant in
-    let more = read_on c in
+    let more = behind_run c in
     omega (arith, more.to, unit_size (unit_of c.in-Some.unit), c.len-at.ensures)
 
 pub loop-unit-preserved : goal.loop-unit-preserved
-loop-unit-preserved c = read_on c
+loop-unit-preserved c = behind_run c
 
 -- how many bytes the line end has
 end_size : (text : List ℕ) (at n : ℕ) → n ≡ line_end_size (take (length text - at) (drop at text)) → n ≡ line_end_size (drop at text)
