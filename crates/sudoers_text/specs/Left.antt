@@ -1,4 +1,4 @@
--- What the code keeps of the units left of a place.
+-- A device of the proof, which no public contract cites: what the code keeps of the units left of a place.
 use Rattle.std.specs.Prelude.{◌≡◌, ◌≤◌, ◌-◌, ◌==◌, ℕ, List, ◌++◌, ◌+◌, drop, length, slice_range, Option, Some, None}
 use Rattle.sudoers_text.specs.Unit.{LineUnit, Continuation, Pair, Quoted, Comment, Byte, text_of, begins_item, begun, is_empty}
 use Rattle.sudoers_text.specs.Line.{is_open}

@@ -1,4 +1,4 @@
--- Lines as places in their text.
+-- A device of the proof: lines as places in their text. Contracts see the list of texts that it makes of them.
 use Rattle.std.specs.Prelude.{◌≡◌, ◌<◌, ℕ, List, [], ◌∷◌, map, slice_range}
 use Rattle.sudoers_text.specs.declared.cutting.Span.{Span}
 

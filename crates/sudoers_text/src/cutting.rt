@@ -66,7 +66,8 @@ pub fn first_fault(text: &[u8], spans: &[Span], continues: bool) -> Option<TextF
     requires cuts { Cuts text.now (texts text.now spans.now) }
     requires follow { Follow 0 spans.now (length text.now) }
     requires continues { IsTrue continues ↔ EndsOpen (texts text.now spans.now) }
-    ensures none { IfNone result ((fault : TextFault) (at : ℕ) → StandsIn (texts text.now spans.now) fault at → ⊥) }
+    ensures none { IfNone result ((fault : TextFault) (at : ℕ)
+        → StandsIn (texts text.now spans.now) fault at → ⊥) }
     ensures some { IfSome result (λ fault. IsFirstFault (texts text.now spans.now) fault) }
 {
     let nul = first_nul(text);
@@ -116,7 +117,8 @@ fn line_end(text: &[u8], start: usize) -> LineEnd
     ensures later { start < result.stop }
     ensures inside { result.stop ≤ length text.now }
     ensures line { IsLine (slice_range text.now start result.stop) (drop result.stop text.now) }
-    ensures open_text { result.stop ≡ length text.now → (IsTrue result.continues ↔ IsOpen (slice_range text.now start result.stop)) }
+    ensures open_text { result.stop ≡ length text.now
+        → (IsTrue result.continues ↔ IsOpen (slice_range text.now start result.stop)) }
 {
     let mut at = start;
     let mut left = Left::nothing();

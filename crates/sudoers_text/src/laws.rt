@@ -14,7 +14,8 @@ pub fn some_list()
 
 /// A text has one list of logical lines only.
 pub fn one_list()
-    ensures { (text : List ℕ) (lines others : List (List ℕ)) → Cuts text lines → Cuts text others → lines ≡ others }
+    ensures { (text : List ℕ) (lines others : List (List ℕ)) → Cuts text lines → Cuts text others
+        → lines ≡ others }
 {}
 
 /// A text has an outcome: its lines, or the fault with which it is refused.
@@ -24,7 +25,8 @@ pub fn cut_is()
 
 /// A text has one outcome only.
 pub fn one_outcome()
-    ensures { (text : List ℕ) (outcome other : Result (List (List ℕ)) Fault) → IsOutcome text outcome → IsOutcome text other → outcome ≡ other }
+    ensures { (text : List ℕ) (outcome other : Result (List (List ℕ)) Fault) → IsOutcome text outcome
+        → IsOutcome text other → outcome ≡ other }
 {}
 
 /// A logical line before some text is one before any text.
@@ -39,12 +41,14 @@ pub fn line_alone()
 
 /// A logical line that ends in LF and is not open is one before any text.
 pub fn closed_line_anywhere()
-    ensures { (line other : List ℕ) → IsLine line [] → ends_in_lf line ≡ true → (IsOpen line → ⊥) → IsLine line other }
+    ensures { (line other : List ℕ) → IsLine line [] → ends_in_lf line ≡ true → (IsOpen line → ⊥)
+        → IsLine line other }
 {}
 
 /// A logical line before some text ends in LF, and is not open.
 pub fn inner_line_ends()
-    ensures { (line rest : List ℕ) → IsLine line rest → rest ≢ [] → (ends_in_lf line ≡ true) × (IsOpen line → ⊥) }
+    ensures { (line rest : List ℕ) → IsLine line rest → rest ≢ [] → (ends_in_lf line ≡ true)
+        × (IsOpen line → ⊥) }
 {}
 
 /// Lines that are each the one line of a text, all but the last ending in LF, are the lines of their join.

@@ -184,7 +184,8 @@ fn ends_behind_backslash(bytes: &[u8]) -> bool
 
 /// Whether the text ends behind a unit, in a continuation or in a lone backslash.
 fn continues_after(text: &[u8], at: usize, unit: &Unit<'_>) -> bool
-    ensures { at + length (text_of (unit_of unit.now)) ≡ length text.now → (before : List LineUnit) → result ≡ is_open (unit_of unit.now ∷ before) }
+    ensures { at + length (text_of (unit_of unit.now)) ≡ length text.now → (before : List LineUnit)
+        → result ≡ is_open (unit_of unit.now ∷ before) }
 {
     unit.len() == text.len() - at.min(text.len()) && unit.is_open()
 }
@@ -285,7 +286,8 @@ impl Left {
     /// How many bytes the line has behind a unit, without the blanks and continuations that it begins with.
     fn begun_after(self, unit: &Unit<'_>) -> usize
         requires { self.begun + length (text_of (unit_of unit.now)) < 2 ^ 64 }
-        ensures { result ≡ (if self.begun == 0 && is_gap (unit_of unit.now) then 0 else self.begun + length (text_of (unit_of unit.now))) }
+        ensures { result
+            ≡ (if self.begun == 0 && is_gap (unit_of unit.now) then 0 else self.begun + length (text_of (unit_of unit.now))) }
     {
         if self.begun == 0 && unit.is_gap() {
             0
@@ -298,7 +300,8 @@ impl Left {
     fn item_after(self, text: &[u8], at: usize, unit: &Unit<'_>) -> bool
         requires within { self.begun ≤ at }
         requires inside { at ≤ length text.now }
-        ensures { (before : List LineUnit) → Knows text.now at self before → result ≡ begins_item (unit_of unit.now ∷ before) }
+        ensures { (before : List LineUnit) → Knows text.now at self before → result
+            ≡ begins_item (unit_of unit.now ∷ before) }
     {
         match unit {
             Unit::Continuation(_) => self.item,

@@ -1,16 +1,14 @@
 -- What an edit leaves of the lines, and that its inverse gives them back.
-use Rattle.std.proofs.Common.{◌≡◌, ℕ, zero, suc, ◌+◌, ◌-◌, ◌<◌, ◌≤◌, Bool, true, false, not, ◌||◌, cond, nat_lt, List, [], ◌∷◌, ◌++◌, length, take, drop, insert, remove, slice_index_or, map, reverse, Option, Some, None, Result, Ok, Err, refl, sym, ap, subst, ◌∙◌, arith, inl, inr, rules, append_assoc, append-nil, add-one, length-append, IsSomeAnd, option_and_then, unwrap_or}
-use Rattle.std.proofs.lemmas.Bool.{false≢true, cases_Bool, not-false, ltb-true, ltb-false, le-ltb, lt-ltb, or_parts as or_false}
+use Rattle.std.proofs.Common.{◌≡◌, ℕ, zero, suc, ◌+◌, ◌-◌, ◌<◌, ◌≤◌, Bool, true, false, not, ◌||◌, List, [], ◌∷◌, ◌++◌, length, insert, remove, slice_index_or, reverse, Option, Some, Ok, Err, refl, sym, ap, subst, ◌∙◌, arith, length-append, unwrap_or}
+use Rattle.std.proofs.lemmas.Bool.{le-ltb, lt-ltb, or_parts as or_false}
 use Rattle.std.proofs.lemmas.List.{reverse-append}
-use Rattle.std.specs.List.{flat_map}
 use Rattle.sudoers_text.specs.Line.{join}
 use Rattle.sudoers_text.specs.Ended.{has_unended_inside, ends_in_lf}
-use Rattle.sudoers_text.specs.Cut.{cut_of, StandAlone}
+use Rattle.sudoers_text.specs.Cut.{StandAlone}
 use Rattle.sudoers_tool.specs.declared.edit.Edit.{Edit}
 use Rattle.sudoers_tool.specs.declared.edit.Edit.TheVariants.{Insert, Delete}
-use Rattle.sudoers_tool.specs.declared.edit.EditFault.{EditFault}
-use Rattle.sudoers_tool.specs.declared.edit.EditFault.TheVariants.{NoLine, NotOneLine, OpenLine, TooLarge}
-use Rattle.sudoers_tool.specs.Editing.{lines_or_refusal, step, after, inv, run, inv_run, IsUndoable, first_lines, edits_of}
+use Rattle.sudoers_tool.specs.declared.edit.EditFault.TheVariants.{TooLarge}
+use Rattle.sudoers_tool.specs.Editing.{lines_or_refusal, step, inv, run, IsUndoable, first_lines}
 use Rattle.sudoers_tool.specs.OneLine.{is_one_line, IsAlone, IsSound}
 use Rattle.sudoers_tool.specs.declared.editor.Entry.{Entry}
 

@@ -1,5 +1,5 @@
 -- The first physical line of a text, and the text that lines make.
-use Rattle.std.proofs.Common.{◌≡◌, ℕ, zero, suc, ◌+◌, ◌<◌, true, false, ◌==◌, List, [], ◌∷◌, ◌++◌, length, take, drop, slice_index, slice_get, ◌-◌, Some, refl, sym, ap, ◌∙◌, arith, inl, inr, add-one}
+use Rattle.std.proofs.Common.{◌≡◌, ℕ, zero, suc, ◌+◌, ◌<◌, true, false, ◌==◌, List, [], ◌∷◌, ◌++◌, length, take, drop, slice_index, ◌-◌, refl, sym, ap, ◌∙◌, arith, inl, inr, add-one}
 use Rattle.std.proofs.lemmas.List.{take_all, drop_all, length-append}
 use Rattle.std.specs.List.{list_any}
 use Rattle.std.proofs.lemmas.Bool.{false≢true, cases_Bool, or_parts, eqb-true}
@@ -49,19 +49,6 @@ pub lines_missed : (text : List ℕ) → 0 < length text → Nowhere (Passes (is
 lines_missed [] l h = absurd (omega arith)
 lines_missed (b ∷ bs) l h =
     lines_none b bs (λ k m e. h k (omega arith) m e) ∙ sym (rw (take_all (length (b ∷ bs)) (b ∷ bs) (omega arith), drop_all (length (b ∷ bs)) (b ∷ bs) (omega arith)) refl)
-
--- the last byte tells whether a line ends in LF
-ended_at : (xs : List ℕ) (n b : ℕ) → suc n ≡ length xs → Some b ≡ slice_get xs n → (b == 10) ≡ ends_in_lf xs
-ended_at [] n b l h = absurd (omega arith)
-ended_at (x ∷ []) zero b l h = let e : b ≡ x = cc in ap (λ z. z == 10) e
-ended_at (x ∷ []) (suc n) b l h = absurd (omega arith)
-ended_at (x ∷ y ∷ ys) zero b l h = absurd (omega arith)
-ended_at (x ∷ y ∷ ys) (suc n) b l h = ended_at (y ∷ ys) n b (omega arith) h
-
--- the same at the last byte
-pub ended_last : (xs : List ℕ) (b : ℕ) → Some b ≡ slice_get xs (length xs - 1) → (b == 10) ≡ ends_in_lf xs
-ended_last [] b h = cc
-ended_last (x ∷ xs) b h = ended_at (x ∷ xs) (length xs) b refl (h ∙ ap (slice_get (x ∷ xs)) (let e : length (x ∷ xs) - 1 ≡ length xs = omega arith in e))
 
 -- LINES THAT MAKE A TEXT
 

@@ -1,12 +1,11 @@
 -- The mark, and what writes append.
-use Rattle.std.proofs.Common.{◌≡◌, ℕ, ◌+◌, ◌-◌, ◌<◌, ◌≤◌, Bool, true, false, nat_lt, List, [], ◌∷◌, ◌++◌, length, take, drop, Option, Some, None, Result, Ok, Err, refl, sym, ap, subst, ◌∙◌, arith, inl, inr, append_assoc, append-nil}
-use Rattle.std.proofs.lemmas.Bool.{cases_Bool, ltb-false}
+use Rattle.std.proofs.Common.{◌≡◌, ℕ, true, false, List, [], ◌∷◌, ◌++◌, Option, Some, None, refl, ap, ◌∙◌, append_assoc, append-nil}
 use Rattle.std.specs.Option.{option_map}
 use Rattle.std.specs.Io.KnownBytes.{Appends, Keeps}
 use Rattle.sudoers_text.specs.Line.{join}
 use Rattle.sudoers_tool.specs.Physical.{physical_lines}
 use Rattle.sudoers_tool.proofs.PhysicalLemmas.{lines-each}
-use Rattle.sudoers_tool.specs.Program.{is_mark, split_lines, split_text}
+use Rattle.sudoers_tool.specs.Program.{is_mark, split_lines}
 
 split_map : (front line : List ℕ) (o : Option (List (List ℕ) × List (List ℕ))) → option_map {U = List ℕ × List ℕ} (λ p. ((front ++ line) ++ join p.0, join p.1)) o ≡ option_map {U = List ℕ × List ℕ} (λ p. (front ++ join p.0, join p.1)) (option_map {U = List (List ℕ) × List (List ℕ)} (λ p. (line ∷ p.0, p.1)) o)
 split_map front line None = refl

@@ -1,10 +1,9 @@
 -- What an edit does to the lines of a policy, and what takes it back.
-use Rattle.std.specs.Prelude.{◌≡◌, ℕ, ◌+◌, Bool, true, false, nat_lt, if◌then◌else◌, List, [], ◌∷◌, ◌++◌, length, insert, remove, slice_index_or, map, reverse, Option, Some, None, Result, Ok, Err, unwrap_or, option_and_then, IsSomeAnd}
+use Rattle.std.specs.Prelude.{◌≡◌, ℕ, ◌+◌, nat_lt, if◌then◌else◌, List, [], ◌∷◌, ◌++◌, length, insert, remove, slice_index_or, map, reverse, Option, Some, Result, Ok, Err, unwrap_or, option_and_then, IsSomeAnd}
 use Rattle.std.specs.Result.{result_ok, result_unwrap_or}
 use Rattle.sudoers_text.specs.Line.{join}
 use Rattle.sudoers_text.specs.Ended.{has_unended_inside}
 use Rattle.sudoers_text.specs.Fault.{text_limit}
-use Rattle.sudoers_text.specs.Cut.{cut_of}
 use Rattle.sudoers_tool.specs.OneLine.{is_one_line}
 use Rattle.sudoers_tool.specs.declared.edit.Edit.{Edit}
 use Rattle.sudoers_tool.specs.declared.edit.Edit.TheVariants.{Insert, Delete}

@@ -182,7 +182,8 @@ impl Editor {
     /// Want of memory alone.
     pub fn inverse(&self) -> Result<Edits, AllocError>
         // They are exactly the definition's, not just some that restore.
-        ensures exact { IfOk result (λ edits. edits ≡ inv_run (edits_of self.now.journal) (first_of self.now)) }
+        ensures exact { IfOk result (λ edits. edits
+            ≡ inv_run (edits_of self.now.journal) (first_of self.now)) }
         // The inverse edits lead back, byte for byte, and none of them is refused.
         ensures restores { IfOk result (λ edits. run edits self.now.lines ≡ Some (first_of self.now)) }
         ensures accepted { IfOk result (λ edits. run_all 0 edits self.now.lines ≡ Ok (first_of self.now)) }

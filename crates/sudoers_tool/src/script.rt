@@ -79,7 +79,8 @@ impl Reading {
     /// There is room for one edit more.
     fn check_room(&self) -> Result<(), ScriptFault>
         ensures ok { OnOk result (length self.now.edits < edit_limit) }
-        ensures err { IfErr result (λ fault. (fault ≡ ScriptFault.TooMany) × (edit_limit ≤ length self.now.edits)) }
+        ensures err { IfErr result (λ fault. (fault ≡ ScriptFault.TooMany)
+            × (edit_limit ≤ length self.now.edits)) }
     {
         if self.edits.len() >= MAX_EDITS {
             return Err(ScriptFault::TooMany);
@@ -90,8 +91,11 @@ impl Reading {
     /// Takes a line where a command has to come.
     fn take_command(&mut self, said: Said) -> Result<(), ScriptFault>
         requires { self.old.pending ≡ Open.Nothing }
-        ensures ok { OnOk result ((rest : Rest) → behind self.old.edits (command_line rest self.old.line (length self.old.edits) said) ≡ next rest self.new) }
-        ensures err { IfErr result (λ fault. (rest : Rest) → Tells fault (behind self.old.edits (command_line rest self.old.line (length self.old.edits) said))) }
+        ensures ok { OnOk result ((rest : Rest)
+            → behind self.old.edits (command_line rest self.old.line (length self.old.edits) said)
+            ≡ next rest self.new) }
+        ensures err { IfErr result (λ fault. (rest : Rest)
+            → Tells fault (behind self.old.edits (command_line rest self.old.line (length self.old.edits) said))) }
         ensures line { self.new.line ≡ self.old.line }
     {
         let line = self.line;
@@ -129,8 +133,11 @@ impl Reading {
         said: Said,
     ) -> Result<(), ScriptFault>
         requires { self.old.pending ≡ Open.Nothing }
-        ensures ok { OnOk result ((rest : Rest) → behind self.old.edits (first_line rest self.old.line (length self.old.edits + 1) at begun text.now said) ≡ next rest self.new) }
-        ensures err { IfErr result (λ fault. (rest : Rest) → Tells fault (behind self.old.edits (first_line rest self.old.line (length self.old.edits + 1) at begun text.now said))) }
+        ensures ok { OnOk result ((rest : Rest)
+            → behind self.old.edits (first_line rest self.old.line (length self.old.edits + 1) at begun text.now said)
+            ≡ next rest self.new) }
+        ensures err { IfErr result (λ fault. (rest : Rest)
+            → Tells fault (behind self.old.edits (first_line rest self.old.line (length self.old.edits + 1) at begun text.now said))) }
         ensures line { self.new.line ≡ self.old.line }
     {
         match said {
@@ -157,8 +164,11 @@ impl Reading {
         said: Said,
     ) -> Result<(), ScriptFault>
         requires { self.old.pending ≡ Open.Nothing }
-        ensures ok { OnOk result ((rest : Rest) → behind self.old.edits (later_line rest self.old.line (length self.old.edits + 1) at so_far text.now said) ≡ next rest self.new) }
-        ensures err { IfErr result (λ fault. (rest : Rest) → Tells fault (behind self.old.edits (later_line rest self.old.line (length self.old.edits + 1) at so_far text.now said))) }
+        ensures ok { OnOk result ((rest : Rest)
+            → behind self.old.edits (later_line rest self.old.line (length self.old.edits + 1) at so_far text.now said)
+            ≡ next rest self.new) }
+        ensures err { IfErr result (λ fault. (rest : Rest)
+            → Tells fault (behind self.old.edits (later_line rest self.old.line (length self.old.edits + 1) at so_far text.now said))) }
         ensures line { self.new.line ≡ self.old.line }
     {
         match said {
@@ -184,8 +194,10 @@ impl Reading {
     /// Takes the next line.
     fn take_line(&mut self, alloc: Global, line: &[u8]) -> Result<(), ScriptFault>
         requires { self.old.line < 2 ^ 63 }
-        ensures ok { OnOk result ((lines : List (List ℕ)) → outcome self.old (line.now ∷ lines) ≡ outcome self.new lines) }
-        ensures err { IfErr result (λ fault. (lines : List (List ℕ)) → Tells fault (outcome self.old (line.now ∷ lines))) }
+        ensures ok { OnOk result ((lines : List (List ℕ)) → outcome self.old (line.now ∷ lines)
+            ≡ outcome self.new lines) }
+        ensures err { IfErr result (λ fault. (lines : List (List ℕ))
+            → Tells fault (outcome self.old (line.now ∷ lines))) }
         ensures line { OnOk result (self.new.line ≡ self.old.line + 1) }
     {
         let said = sense_of(line);

@@ -88,45 +88,58 @@ pub fn write_script(alloc: Global, edits: &[Edit]) -> Result<Vec<u8>, ScriptFaul
 
 /// The spelling of a list of edits is read as that list.
 pub fn spelling_is_read()
-    ensures { (edits : List AnEdit) → AreNumbered edits → length edits ≤ edit_limit → reading (spelling edits) ≡ Ok edits }
+    ensures { (edits : List AnEdit) → AreNumbered edits → length edits ≤ edit_limit
+        → reading (spelling edits) ≡ Ok edits }
 {}
 
 /// What is read as a list of edits is the spelling of that list, of at most so many edits, with numbers that fit.
 pub fn read_is_spelling()
-    ensures { (text : List ℕ) (edits : List AnEdit) → reading text ≡ Ok edits → (text ≡ spelling edits) × (length edits ≤ edit_limit) × AreNumbered edits }
+    ensures { (text : List ℕ) (edits : List AnEdit) → reading text ≡ Ok edits → (text ≡ spelling edits)
+        × (length edits ≤ edit_limit) × AreNumbered edits }
 {}
 
 /// Two lists of edits have two spellings.
 pub fn one_spelling()
-    ensures { (edits others : List AnEdit) → AreNumbered edits → AreNumbered others → spelling edits ≡ spelling others → edits ≡ others }
+    ensures { (edits others : List AnEdit) → AreNumbered edits → AreNumbered others → spelling edits
+        ≡ spelling others → edits ≡ others }
 {}
 
 /// A line that is no command and no text, and a command with a bad number, is the first line with which the lines of
 /// the text are no front of a script.
 pub fn word_fault_is_at_the_first_dead_line()
-    ensures word { (text : List ℕ) (line : ℕ) → reading text ≡ Err (ScriptFault.BadWord line) → IsDeadLine line (physical_lines text) }
-    ensures number { (text : List ℕ) (line : ℕ) → reading text ≡ Err (ScriptFault.BadNumber line) → IsDeadLine line (physical_lines text) }
+    ensures word { (text : List ℕ) (line : ℕ) → reading text ≡ Err (ScriptFault.BadWord line)
+        → IsDeadLine line (physical_lines text) }
+    ensures number { (text : List ℕ) (line : ℕ) → reading text ≡ Err (ScriptFault.BadNumber line)
+        → IsDeadLine line (physical_lines text) }
 {}
 
 /// A command that wants its text ends a front of a script that is none itself, and no line that may follow stands behind.
 pub fn payload_fault_is_at_a_command_without_text()
-    ensures { (text : List ℕ) (line : ℕ) → reading text ≡ Err (ScriptFault.NoPayload line) → WantsText line (physical_lines text) }
+    ensures { (text : List ℕ) (line : ℕ) → reading text ≡ Err (ScriptFault.NoPayload line)
+        → WantsText line (physical_lines text) }
 {}
 
 /// Too many edits are told where a dead line stands behind a script of as many edits as there may be.
 pub fn too_many_is_behind_the_most_edits()
-    ensures { (text : List ℕ) → reading text ≡ Err ScriptFault.TooMany → (line : ℕ) × IsDeadLine line (physical_lines text) × IsFullBefore line (physical_lines text) }
+    ensures { (text : List ℕ) → reading text ≡ Err ScriptFault.TooMany → (line : ℕ)
+        × IsDeadLine line (physical_lines text) × IsFullBefore line (physical_lines text) }
 {}
 
 /// The bytes of a front begin a spelling, and the first lines of a text, if they end in LF and their bytes begin a
 /// spelling, are a front.
 pub fn front_is_by_bytes()
-    ensures bytes { (lines : List (List ℕ)) → IsFront lines → (more : List ℕ) × (edits : List AnEdit) × AreNumbered edits × (length edits ≤ edit_limit) × (join lines ++ more ≡ spelling edits) }
-    ensures lines { (text more : List ℕ) (n : ℕ) (edits : List AnEdit) → AreNumbered edits → length edits ≤ edit_limit → (n < length (physical_lines text)) ⊎ (has_lf text ≡ true) → join (take n (physical_lines text)) ++ more ≡ spelling edits → IsFront (take n (physical_lines text)) }
+    ensures bytes { (lines : List (List ℕ)) → IsFront lines → (more : List ℕ) × (edits : List AnEdit)
+        × AreNumbered edits × (length edits ≤ edit_limit) × (join lines ++ more ≡ spelling edits) }
+    ensures lines { (text more : List ℕ) (n : ℕ) (edits : List AnEdit) → AreNumbered edits
+        → length edits ≤ edit_limit → (n < length (physical_lines text)) ⊎ (has_lf text ≡ true)
+        → join (take n (physical_lines text)) ++ more ≡ spelling edits
+        → IsFront (take n (physical_lines text)) }
 {}
 
 /// Lines have at most one first dead line, and a text that has one is refused when that line is read.
 pub fn first_dead_line_is_told()
-    ensures one { (lines : List (List ℕ)) (line other : ℕ) → IsDeadLine line lines → IsDeadLine other lines → line ≡ other }
-    ensures told { (text : List ℕ) (line : ℕ) → IsDeadLine line (physical_lines text) → IsToldAt line (reading text) }
+    ensures one { (lines : List (List ℕ)) (line other : ℕ) → IsDeadLine line lines
+        → IsDeadLine other lines → line ≡ other }
+    ensures told { (text : List ℕ) (line : ℕ) → IsDeadLine line (physical_lines text)
+        → IsToldAt line (reading text) }
 {}

@@ -1,5 +1,4 @@
-use Rattle.std.proofs.Common.{◌≡◌, ◌∙◌, ℕ, List, Ok, ap, sym, eqb-true, length}
-use Rattle.sudoers_text.specs.Cut.{cut_of}
+use Rattle.std.proofs.Common.{◌∙◌, sym, eqb-true}
 use Rattle.sudoers_tool.proofs.PolicyLemmas.{alone_of}
 use Rattle.sudoers_tool.proofs.editor.is_one_line.Goals as goal
 

@@ -1,5 +1,4 @@
-use Rattle.std.proofs.Common.{◌≡◌, ◌∙◌, not, ap, sym, arith}
-use Rattle.sudoers_text.specs.Ended.{ends_in_lf}
+use Rattle.std.proofs.Common.{◌∙◌, not, ap, arith}
 use Rattle.sudoers_tool.proofs.EditLemmas.{open_insert, last_decides}
 use Rattle.sudoers_tool.proofs.PolicyLemmas.{at_get}
 use Rattle.sudoers_tool.proofs.editor.leaves_unended.Goals as goal

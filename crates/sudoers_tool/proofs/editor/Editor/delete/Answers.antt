@@ -1,6 +1,5 @@
-use Rattle.std.proofs.Common.{◌≡◌, ◌∷◌, ◌++◌, ◌<◌, List, [], ℕ, length, remove, slice_index_or, ap, ◌∙◌, sym, arith, rules}
+use Rattle.std.proofs.Common.{◌≡◌, ◌∷◌, ◌++◌, ◌<◌, List, [], ℕ, length, slice_index_or, ap, ◌∙◌, sym, arith, rules}
 use Rattle.sudoers_tool.specs.declared.edit.Edit.TheVariants.{Insert, Delete}
-use Rattle.sudoers_tool.specs.declared.editor.Entry.{Entry}
 use Rattle.sudoers_tool.specs.Editing.{Desk, first_of, step, inv}
 use Rattle.sudoers_tool.proofs.EditLemmas.{Deleted, deleted}
 use Rattle.sudoers_tool.proofs.PolicyLemmas.{at_get}

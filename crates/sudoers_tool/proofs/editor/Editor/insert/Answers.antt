@@ -1,7 +1,7 @@
-use Rattle.std.proofs.Common.{◌≡◌, ◌+◌, ◌-◌, ◌≤◌, ◌<◌, List, [], ◌∷◌, ◌++◌, ℕ, length, insert, reverse, true, false, Ok, Err, ap, ◌∙◌, sym, arith, rules}
+use Rattle.std.proofs.Common.{◌≡◌, ◌+◌, ◌≤◌, ◌<◌, List, ℕ, length, insert, true, false, ap, ◌∙◌, sym, arith, rules}
 use Rattle.sudoers_text.specs.Line.{join}
 use Rattle.sudoers_text.specs.Ended.{has_unended_inside}
-use Rattle.sudoers_tool.specs.OneLine.{is_one_line, IsAlone, IsSound}
+use Rattle.sudoers_tool.specs.OneLine.{is_one_line, IsAlone}
 use Rattle.sudoers_tool.specs.declared.edit.Edit.TheVariants.{Insert}
 use Rattle.sudoers_tool.specs.Editing.{Desk, first_of, step}
 use Rattle.sudoers_tool.proofs.EditLemmas.{Inserted, inserted, step_big, size_insert}

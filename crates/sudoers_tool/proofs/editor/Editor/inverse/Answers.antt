@@ -1,9 +1,9 @@
-use Rattle.std.proofs.Common.{◌≡◌, List, reverse, IfOk, Some, ap, ◌∙◌, subst}
+use Rattle.std.proofs.Common.{List, reverse, IfOk, ap, ◌∙◌, subst}
 use Rattle.std.proofs.lemmas.Result.{IfOk-weaker}
 use Rattle.std.specs.List.{flat_map}
 use Rattle.sudoers_tool.specs.declared.edit.Edit.{Edit}
 use Rattle.sudoers_tool.specs.declared.editor.Entry.{Entry}
-use Rattle.sudoers_tool.specs.Editing.{Desk, run, run_all, inv_run, first_of, edits_of}
+use Rattle.sudoers_tool.specs.Editing.{Desk}
 use Rattle.sudoers_tool.proofs.HistoryLemmas.{TakesBack, takes_back}
 use Rattle.sudoers_tool.proofs.editor.Editor.inverse.Goals as goal
 
