@@ -16,7 +16,7 @@ mod text;
 use clap::error::ErrorKind;
 use clap::{Command, Error};
 use device::Counted;
-use fault::{LayerFault, ToolFault, fault_text};
+use fault::{ToolFault, fault_text};
 use program::run_edit;
 use std::alloc::{AllocError, Global};
 use std::io;
@@ -42,7 +42,9 @@ fn run(rt: &HostRuntime) -> Result<u8, ToolFault> {
     let mut command = command_words(rt.alloc())?;
     let words = match words(rt) {
         Ok(words) => words,
-        Err(error) if error.kind() == io::ErrorKind::OutOfMemory => return Err(no_memory()),
+        Err(error) if error.kind() == io::ErrorKind::OutOfMemory => return Err(ToolFault::from(
+            AllocError,
+        )),
         Err(_) => {
             let message = "invalid UTF-8 was detected in one or more arguments";
             let error = command.error(ErrorKind::InvalidValue, message)?;
@@ -74,7 +76,7 @@ fn words(rt: &HostRuntime) -> io::Result<Vec<String>> {
 /// Shows clap's text: of help on the standard output, of words that it does not understand on the standard error.
 fn show(rt: &HostRuntime, error: &Error) -> Result<u8, ToolFault> {
     if error.kind() == ErrorKind::OutOfMemory {
-        return Err(no_memory());
+        return Err(ToolFault::from(AllocError));
     }
     match error.print(rt) {
         Ok(()) => Ok(if error.use_stderr() { 2 } else { 0 }),
@@ -96,8 +98,4 @@ fn tell(rt: &HostRuntime, fault: &ToolFault) -> io::Result<()> {
     message.extend_from_slice(text.as_slice())?;
     message.extend_from_slice(b"\n")?;
     rt.stderr().write_all(message.as_slice())
-}
-
-fn no_memory() -> ToolFault {
-    ToolFault::Layer(LayerFault::NoMemory)
 }

@@ -73,6 +73,21 @@ fn faults_are_told_by_name_and_place(rt: HostRuntime) -> Result<(), Fail> {
     Ok(())
 }
 
+#[test]
+fn a_counted_device_passes_the_bytes_on(rt: HostRuntime) -> Result<(), Fail> {
+    let mut reader = Counted::new(b"abc".as_slice());
+    let mut buffer = [0u8; 2];
+    assert_eq!(rt; reader.read(&mut buffer)?, 2);
+    assert_eq!(rt; buffer.as_slice(), b"ab".as_slice());
+    let mut writer = Counted::new(Vec::<u8>::new(rt.alloc()));
+    assert_eq!(rt; writer.write(b"ab")?, 2);
+    writer.flush()?;
+    assert_eq!(rt; writer.device().as_slice(), b"ab".as_slice());
+    assert_eq!(rt; reader.failures(), 0);
+    assert_eq!(rt; writer.failures(), 0);
+    Ok(())
+}
+
 /// A reader that gives a byte a call, and fails once its calls are used up.
 #[derive(Drop)]
 struct Failing<'a> {
