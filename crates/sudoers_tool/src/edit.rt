@@ -30,6 +30,7 @@ pub enum EditFault {
     /// The result would pass the limit of a policy.
     #[error("TooLarge")]
     TooLarge,
+    /// A growth of memory was refused.
     #[error("NoMemory")]
     NoMemory,
 }

@@ -21,6 +21,7 @@ pub enum LayerFault {
     /// The edit at this place, from 0, is refused.
     #[error("edit at {0}: {1}")]
     Edit(usize, EditFault),
+    /// A growth of memory was refused.
     #[error("NoMemory")]
     NoMemory,
 }
@@ -37,6 +38,7 @@ pub enum ToolFault {
     /// The input has no end within the reads that are allowed.
     #[error("NoEnd")]
     NoEnd,
+    /// The policy, the script or an edit is at fault, or memory ran out.
     #[error("{0}")]
     Layer(LayerFault),
     /// No line of the input is the mark.

@@ -30,6 +30,7 @@ pub enum ScriptFault {
     /// There are more than 65,536 edits.
     #[error("TooMany")]
     TooMany,
+    /// A growth of memory was refused.
     #[error("NoMemory")]
     NoMemory,
 }
