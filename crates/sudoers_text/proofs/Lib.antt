@@ -13,3 +13,11 @@ pub mod Found
 pub mod Alone
 pub mod Examples
 pub mod Runs
+pub mod Reach
+pub mod Passed
+pub mod Steady
+pub mod Sizes
+pub mod Arguments
+pub mod Forms
+pub mod TokenLists
+pub mod Values

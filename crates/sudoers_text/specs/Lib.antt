@@ -6,3 +6,10 @@ pub mod Span
 pub mod Fault
 pub mod Cut
 pub mod Run
+pub mod Part
+pub mod Word
+pub mod Piece
+pub mod Context
+pub mod Token
+pub mod Found
+pub mod Value

@@ -1,12 +1,21 @@
 //! The text of a sudoers policy: its logical lines.
 #![tactic(auto)]
 
+mod context;
 mod cutting;
 mod fault;
+mod finding;
 mod laws;
 mod line;
+mod meaning;
+mod part;
+mod piece;
 mod run;
+mod token;
+mod token_laws;
+mod tokenizing;
 mod unit;
+mod word;
 
 pub use cutting::{LINE_LIMIT, TEXT_LIMIT};
 pub use fault::TextFault;
@@ -15,4 +24,9 @@ pub use laws::{
     lines_stand_alone, one_list, one_outcome, some_list,
 };
 pub use line::{Lines, cut};
+pub use meaning::value;
+pub use token::{Mode, Token, TokenKind};
+pub use token_laws::{one_token_list, tokens_are};
+pub use tokenizing::tokens;
 pub use unit::ends_in_lf;
+pub use word::{is_name, is_reserved};

@@ -37,7 +37,7 @@ pub fn begins_line_end(text: &[u8]) -> bool
 }
 
 /// Whether a decimal digit begins the text.
-fn begins_digit(text: &[u8]) -> bool
+pub fn begins_digit(text: &[u8]) -> bool
     ensures { result ≡ begins_digit text.now }
 {
     match text {
@@ -69,7 +69,7 @@ fn begins_path(text: &[u8]) -> bool
 }
 
 /// Whether what follows a `#` makes an include of it.
-fn names_include(text: &[u8]) -> bool
+pub fn names_include(text: &[u8]) -> bool
     ensures { result ≡ names_include text.now }
 {
     (text.starts_with(b"include") && has_path(&text[7..]))
@@ -103,7 +103,7 @@ pub struct Left {
 }
 
 /// The bytes up to the line end.
-fn up_to_line_end(text: &[u8]) -> &[u8]
+pub fn up_to_line_end(text: &[u8]) -> &[u8]
     ensures { result.now ≡ up_to_line_end text.now }
 {
     match memchr(b'\n', text) {
@@ -191,7 +191,7 @@ fn continues_after(text: &[u8], at: usize, unit: &Unit<'_>) -> bool
 }
 
 /// What a backslash begins, by the bytes behind it.
-fn escaped(rest: &[u8]) -> Unit<'_>
+pub fn escaped(rest: &[u8]) -> Unit<'_>
     ensures { unit_of result ≡ escaped rest.now }
 {
     match rest {

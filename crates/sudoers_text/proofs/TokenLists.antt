@@ -1,0 +1,126 @@
+-- A line has one list of tokens: the one that is computed.
+use Rattle.std.proofs.Common.{◌≡◌, ◌⊎◌, inl, inr, ℕ, zero, suc, ◌+◌, ◌-◌, ◌≤◌, ◌<◌, Bool, true, false, List, [], ◌∷◌, ◌++◌, length, take, drop, refl, sym, ap, subst, ◌∙◌, arith}
+use Rattle.std.specs.Prelude.{◌==◌, ◌&&◌, if◌then◌else◌, nat_lt}
+use Rattle.std.proofs.lemmas.List.{length-drop}
+use Rattle.std.proofs.lemmas.Bool.Decides.{nat_tests}
+use Rattle.sudoers_text.specs.declared.token.TokenKind.{TokenKind}
+use Rattle.sudoers_text.specs.declared.token.TokenKind.TheVariants as kind
+use Rattle.sudoers_text.specs.declared.token.Token.{Token}
+use Rattle.sudoers_text.specs.declared.token.Mode.{Mode}
+use Rattle.sudoers_text.specs.declared.context.Context.{Context}
+use Rattle.sudoers_text.specs.declared.context.Context.TheVariants as context
+use Rattle.sudoers_text.specs.Unit.{LineUnit, begins_item, begun, is_empty}
+use Rattle.sudoers_text.specs.Part.{reach, run_size, open_size, quoted_size}
+use Rattle.sudoers_text.specs.Piece.{Form, kind_of, is_piece}
+use Rattle.sudoers_text.specs.Context.{forms, behind}
+use Rattle.sudoers_text.specs.Token.{IsLongest, NoneBegins, IsToken, bad_size, passed, gap_size, is_end, AreTokens, HasTokens}
+use Rattle.sudoers_text.specs.Found.{size_of, found, found_behind, tokens_from, tokens_of}
+use Rattle.sudoers_text.proofs.Sizes.{some_positive}
+use Rattle.sudoers_text.proofs.Forms.{IsSize, is_size}
+
+-- ---- one token
+
+found_next : (form : Form) (others : List Form) (before : List LineUnit) (bytes : List ℕ) (n : ℕ) → IsSize form before bytes n → IsToken others before bytes (found_behind others before bytes).0 (found_behind others before bytes).1 → IsToken (form ∷ others) before bytes (if nat_lt 0 n then (kind_of form, n) else found_behind others before bytes).0 (if nat_lt 0 n then (kind_of form, n) else found_behind others before bytes).1
+found_next form others before bytes zero size later = inr (λ m inside h. let more = size.most m inside h in omega (arith, more.0, more.1), later)
+found_next form others before bytes (suc n) size later =
+    let some : nat_lt 0 (suc n) ≡ true = some_positive (suc n) (omega arith) in
+    rw some (inl (refl, record { inside = size.inside; piece = size.sound (omega arith); longest = λ m inside h. (size.most m inside h).1 }))
+
+-- What is found is the token.
+pub found_is : (fs : List Form) (before : List LineUnit) (bytes : List ℕ) → IsToken fs before bytes (found_behind fs before bytes).0 (found_behind fs before bytes).1
+found_is [] before bytes = (refl, refl)
+found_is (form ∷ others) before bytes =
+    found_next form others before bytes (size_of form (begins_item before) (is_empty (begun before)) bytes) (is_size form before bytes) (found_is others before bytes)
+
+-- Bytes begin with one token only.
+pub one_token : (fs : List Form) (before : List LineUnit) (bytes : List ℕ) (k l : TokenKind) (n m : ℕ) → IsToken fs before bytes k n → IsToken fs before bytes l m → (k ≡ l) × (n ≡ m)
+one_token [] before bytes k l n m x y = (x.0 ∙ sym y.0, x.1 ∙ sym y.1)
+one_token (form ∷ others) before bytes k l n m (inl x) (inl y) =
+    (x.0 ∙ sym y.0, omega (arith, x.1.longest m y.1.inside y.1.piece, y.1.longest n x.1.inside x.1.piece))
+one_token (form ∷ others) before bytes k l n m (inl x) (inr y) = absurd (y.0 n x.1.inside x.1.piece)
+one_token (form ∷ others) before bytes k l n m (inr x) (inl y) = absurd (x.0 m y.1.inside y.1.piece)
+one_token (form ∷ others) before bytes k l n m (inr x) (inr y) = one_token others before bytes k l n m x.1 y.1
+
+bad_some : (b : ℕ) (rest : List ℕ) → 0 < bad_size (b ∷ rest)
+unfolding bad_size
+bad_some b rest = by_test (b == 34 && (quoted_size (b ∷ rest) == 0))
+  where
+    by_test : (t : Bool) → 0 < (if t then reach open_size 0 rest + 1 else 1)
+    by_test true = omega arith
+    by_test false = omega arith
+
+some_next : (k : TokenKind) (n : ℕ) (other : TokenKind × ℕ) → 0 < other.1 → 0 < (if nat_lt 0 n then (k, n) else other).1
+some_next k zero other h = h
+some_next k (suc n) other h = let some : nat_lt 0 (suc n) ≡ true = some_positive (suc n) (omega arith) in rw some (omega arith)
+
+-- A token has one or more bytes.
+pub found_some : (fs : List Form) (before : List LineUnit) (bytes : List ℕ) → is_end bytes ≡ false → 0 < (found_behind fs before bytes).1
+found_some fs before [] h = absurd (cc)
+found_some [] before (b ∷ rest) h = bad_some b rest
+found_some (form ∷ others) before (b ∷ rest) h =
+    some_next (kind_of form) (size_of form (begins_item before) (is_empty (begun before)) (b ∷ rest)) (found_behind others before (b ∷ rest)) (found_some others before (b ∷ rest) h)
+
+-- ---- lists of tokens
+
+-- One token more stands before others.
+pub one_more : (here : Context) (before : List LineUnit) (at : ℕ) (bytes : List ℕ) (k : TokenKind) (size : ℕ) (ts : List Token) → is_end (drop (gap_size bytes) bytes) ≡ false → (k, size) ≡ found_behind (forms here) (passed before (take (gap_size bytes) bytes)) (drop (gap_size bytes) bytes)
+    → AreTokens (behind here k (take size (drop (gap_size bytes) bytes)) (drop size (drop (gap_size bytes) bytes))) (passed (passed before (take (gap_size bytes) bytes)) (take size (drop (gap_size bytes) bytes))) (at + gap_size bytes + size) (drop size (drop (gap_size bytes) bytes)) ts
+    → AreTokens here before at bytes (record { kind = k; start = at + gap_size bytes; stop = at + gap_size bytes + size } ∷ ts)
+one_more here before at bytes k size ts more is later =
+    let gap = gap_size bytes in
+    let body = drop gap bytes in
+    let left = passed before (take gap bytes) in
+    let some : 0 < size = subst (λ (p : TokenKind × ℕ). 0 < p.1) (sym is) (found_some (forms here) left body more) in
+    let token : IsToken (forms here) left body k size = subst (λ (p : TokenKind × ℕ). IsToken (forms here) left body p.0 p.1) (sym is) (found_is (forms here) left body) in
+    let same : size ≡ at + gap + size - (at + gap) = omega arith in (
+      more, refl, omega (arith, some),
+      subst (λ (n : ℕ). IsToken (forms here) left body k n) same token,
+      subst (λ (n : ℕ). AreTokens (behind here k (take n body) (drop n body)) (passed left (take n body)) (at + gap + size) (drop n body) ts) same later,
+    )
+
+-- by whether anything is left
+from_next : (here : Context) (before : List LineUnit) (at : ℕ) (bytes : List ℕ) (t : Bool) (found : TokenKind × ℕ) (ts : List Token) → is_end (drop (gap_size bytes) bytes) ≡ t → found ≡ found_behind (forms here) (passed before (take (gap_size bytes) bytes)) (drop (gap_size bytes) bytes)
+    → (t ≡ false → AreTokens (behind here found.0 (take found.1 (drop (gap_size bytes) bytes)) (drop found.1 (drop (gap_size bytes) bytes))) (passed (passed before (take (gap_size bytes) bytes)) (take found.1 (drop (gap_size bytes) bytes))) (at + gap_size bytes + found.1) (drop found.1 (drop (gap_size bytes) bytes)) ts)
+    → AreTokens here before at bytes (if t then [] else record { kind = found.0; start = at + gap_size bytes; stop = at + gap_size bytes + found.1 } ∷ ts)
+from_next here before at bytes true found ts e is later = e
+from_next here before at bytes false found ts e is later = one_more here before at bytes found.0 found.1 ts e is (later refl)
+
+found_from : (n : ℕ) (here : Context) (before : List LineUnit) (at : ℕ) (bytes : List ℕ) → length bytes ≤ n → AreTokens here before at bytes (tokens_from n here before at bytes)
+unfolding tokens_from run_size
+found_from zero here before at [] h = refl
+found_from zero here before at (b ∷ bytes) h = absurd (omega arith)
+found_from (suc n) here before at bytes h =
+    let gap = gap_size bytes in
+    let body = drop gap bytes in
+    let left = passed before (take gap bytes) in
+    let found = found_behind (forms here) left body in
+    from_next here before at bytes (is_end body) found
+    (tokens_from n (behind here found.0 (take found.1 body) (drop found.1 body)) (passed left (take found.1 body)) (at + gap + found.1) (drop found.1 body))
+    refl refl (λ more.
+    let some = found_some (forms here) left body more in
+    found_from n (behind here found.0 (take found.1 body) (drop found.1 body)) (passed left (take found.1 body)) (at + gap + found.1) (drop found.1 body)
+    (omega (arith, h, some, length-drop found.1 body, length-drop gap bytes)))
+
+pub tokens_are : (m : Mode) (line : List ℕ) → HasTokens m line (tokens_of m line)
+unfolding tokens_of
+tokens_are m line = found_from (length line) (context.First m) [] 0 line (omega arith)
+
+same_tokens : (ts us : List Token) (here : Context) (before : List LineUnit) (at : ℕ) (bytes : List ℕ) → AreTokens here before at bytes ts → AreTokens here before at bytes us → ts ≡ us
+same_tokens [] [] here before at bytes x y = refl
+same_tokens [] (u ∷ us) here before at bytes x y = absurd (cc)
+same_tokens (t ∷ ts) [] here before at bytes x y = absurd (cc)
+same_tokens (t ∷ ts) (u ∷ us) here before at bytes x y =
+    let body = drop (gap_size bytes) bytes in
+    let left = passed before (take (gap_size bytes) bytes) in
+    let same = one_token (forms here) left body t.kind u.kind (t.stop - t.start) (u.stop - u.start) x.3 y.3 in
+    let starts : t.start ≡ u.start = x.1 ∙ sym y.1 in
+    let stops : t.stop ≡ u.stop = omega (arith, x.2, y.2, starts, same.1) in
+    let tokens : u ≡ t = λ j. record { kind = sym same.0 j; start = sym starts j; stop = sym stops j } in
+    let after : AreTokens (behind here t.kind (take (t.stop - t.start) body) (drop (t.stop - t.start) body)) (passed left (take (t.stop - t.start) body)) t.stop (drop (t.stop - t.start) body) us =
+    subst (λ (v : Token). AreTokens (behind here v.kind (take (v.stop - v.start) body) (drop (v.stop - v.start) body)) (passed left (take (v.stop - v.start) body)) v.stop (drop (v.stop - v.start) body) us) tokens y.4 in
+    ap (λ (v : Token). v ∷ ts) (sym tokens)
+    ∙ ap (λ (vs : List Token). u ∷ vs)
+    (same_tokens ts us (behind here t.kind (take (t.stop - t.start) body) (drop (t.stop - t.start) body)) (passed left (take (t.stop - t.start) body)) t.stop (drop (t.stop - t.start) body) x.4 after)
+
+pub one_token_list : (m : Mode) (line : List ℕ) (ts us : List Token) → HasTokens m line ts → HasTokens m line us → ts ≡ us
+one_token_list m line ts us x y = same_tokens ts us (context.First m) [] 0 line x y

@@ -1,0 +1,78 @@
+-- The tokens of a line.
+use Rattle.std.specs.Prelude.{◌≡◌, ℕ, zero, suc, ◌+◌, ◌-◌, ◌<◌, ◌≤◌, ◌⊎◌, ◌==◌, ◌&&◌, Bool, true, false, List, [], ◌∷◌, length, take, drop, if◌then◌else◌}
+use Rattle.sudoers_text.specs.declared.part.Rule.TheVariants as rule
+use Rattle.sudoers_text.specs.declared.token.TokenKind.{TokenKind}
+use Rattle.sudoers_text.specs.declared.token.TokenKind.TheVariants as kind
+use Rattle.sudoers_text.specs.declared.token.Token.{Token}
+use Rattle.sudoers_text.specs.declared.token.Mode.{Mode}
+use Rattle.sudoers_text.specs.declared.context.Context.{Context}
+use Rattle.sudoers_text.specs.declared.context.Context.TheVariants as context
+use Rattle.sudoers_text.specs.Unit.{LineUnit, Byte, text_of, escaped, line_end_size}
+use Rattle.sudoers_text.specs.Part.{begins_with, reach, run_size, open_size, quoted_size}
+use Rattle.sudoers_text.specs.Piece.{Form, kind_of, is_piece}
+use Rattle.sudoers_text.specs.Context.{forms, behind}
+
+-- The first bytes, so many, are the longest piece of this form with which the bytes begin.
+pub record IsLongest (form : Form) (before : List LineUnit) (bytes : List ℕ) (size : ℕ) : Type 0 where
+  pub inside : size ≤ length bytes
+  pub piece : is_piece form before bytes size ≡ true
+  pub longest : (other : ℕ) → other ≤ length bytes → is_piece form before bytes other ≡ true → other ≤ size
+
+-- The bytes begin with no piece of this form.
+abbrev pub NoneBegins : Form → List LineUnit → List ℕ → Type 0
+NoneBegins form before bytes = (size : ℕ) → size ≤ length bytes → is_piece form before bytes size ≡ true → ⊥
+
+-- what is Bad: all from a `"` on that is never closed, else one byte
+unfoldable pub bad_size : List ℕ → ℕ
+bad_size [] = 0
+bad_size (b ∷ rest) = if b == 34 && (quoted_size (b ∷ rest) == 0) then reach open_size 0 rest + 1 else 1
+
+-- The bytes begin with a token of this kind and size: the longest piece of the first form of which one begins; it is Bad
+-- where none does.
+abbrev pub IsToken : List Form → List LineUnit → List ℕ → TokenKind → ℕ → Type 0
+IsToken [] before bytes k size = (k ≡ kind.Bad) × (size ≡ bad_size bytes)
+IsToken (form ∷ others) before bytes k size =
+    ((k ≡ kind_of form) × IsLongest form before bytes size)
+    ⊎ (NoneBegins form before bytes × IsToken others before bytes k size)
+
+-- the unit that begins with this byte, where a quoted part and a comment are no units but their bytes
+abbrev pub plain_unit : ℕ → List ℕ → LineUnit
+plain_unit b rest = if b == 92 then escaped rest else Byte b
+
+-- The units before, and behind them those of the bytes; k bytes of the first are still to pass. A quoted part or comment is
+-- read by its bytes: its last one tells as well what may stand behind it.
+abbrev pub passed_from : ℕ → List LineUnit → List ℕ → List LineUnit
+passed_from k before [] = before
+passed_from (suc k) before (b ∷ rest) = passed_from k before rest
+passed_from zero before (b ∷ rest) = passed_from (length (text_of (plain_unit b rest)) - 1) (plain_unit b rest ∷ before) rest
+
+abbrev pub passed : List LineUnit → List ℕ → List LineUnit
+passed before bytes = passed_from 0 before bytes
+
+-- how many blanks and continuations the bytes begin with, in bytes
+abbrev pub gap_size : List ℕ → ℕ
+gap_size bytes = run_size rule.Gap bytes
+
+-- Nothing is left, or a line end alone.
+abbrev pub is_end : List ℕ → Bool
+is_end bytes = line_end_size bytes == length bytes
+
+-- From this place on, behind these units, the bytes are cut into these tokens: blanks, continuations and the line end give
+-- none, and each begins with what follows the token before it.
+abbrev pub AreTokens : Context → List LineUnit → ℕ → List ℕ → List Token → Type 0
+AreTokens here before at bytes [] = is_end (drop (gap_size bytes) bytes) ≡ true
+AreTokens here before at bytes (t ∷ ts) =
+    let gap = gap_size bytes in
+    let body = drop gap bytes in
+    let size = t.stop - t.start in
+    let left = passed before (take gap bytes) in
+    (is_end body ≡ false) × (t.start ≡ at + gap) × (t.start < t.stop) × IsToken (forms here) left body t.kind size
+    × AreTokens (behind here t.kind (take size body) (drop size body)) (passed left (take size body)) t.stop (drop size body) ts
+
+-- The line has these tokens in this mode.
+abbrev pub HasTokens : Mode → List ℕ → List Token → Type 0
+HasTokens m line tokens = AreTokens (context.First m) [] 0 line tokens
+
+-- a part of a line of this length, that is not empty
+abbrev pub IsWithin : ℕ → Token → Type 0
+IsWithin len t = (t.start < t.stop) × (t.stop ≤ len)

@@ -1,0 +1,102 @@
+//! The tokens of a line.
+
+ghost use Rattle.std.specs.Prelude.{◌≡◌, ◌≤◌, ◌<◌, ◌+◌, ◌∷◌, ◌-◌, ◌==◌, ℕ, List, [], length, drop, slice_range, true, false, IfOk, IfErr, IfSome, IfNone, All};
+ghost use Rattle.sudoers_text.specs.declared.token.Token.{Token as TokenOf};
+ghost use Rattle.sudoers_text.specs.Unit.{LineUnit, line_end_size};
+ghost use Rattle.sudoers_text.specs.Left.{Knows, unit_of};
+ghost use Rattle.sudoers_text.specs.Token.{plain_unit, passed, gap_size, is_end, HasTokens, IsWithin};
+ghost use Rattle.sudoers_text.specs.Found.{tokens_of};
+
+use crate::context::Context;
+use crate::fault::TextFault;
+use crate::part::{Rule, run_len};
+use crate::token::{Mode, Token};
+use crate::unit::{Left, Unit, escaped, line_end_len};
+use std::alloc::Global;
+
+/// The unit that begins the bytes, where a quoted part and a comment are no units but their bytes.
+fn plain_unit(bytes: &[u8]) -> Unit<'_>
+    requires { 0 < length bytes.now }
+    ensures { (b : ℕ) (rest : List ℕ) → bytes.now ≡ b ∷ rest → unit_of result ≡ plain_unit b rest }
+{
+    match bytes {
+        [b'\\', rest @ ..] => escaped(rest),
+        _ => Unit::Byte(bytes[0]),
+    }
+}
+
+/// Whether nothing is left, or a line end alone.
+fn is_end(bytes: &[u8]) -> bool
+    ensures { result ≡ is_end bytes.now }
+{
+    line_end_len(bytes) == bytes.len()
+}
+
+/// Where the next token begins. None does where only blanks, continuations and the line end are left.
+fn next_start(line: &[u8], at: usize) -> Option<usize>
+    requires { at ≤ length line.now }
+    ensures some { IfSome result (λ start. (start ≡ at + gap_size (drop at line.now)) × (is_end (drop start line.now) ≡ false)) }
+    ensures none { IfNone result (is_end (drop (at + gap_size (drop at line.now)) line.now) ≡ true) }
+{
+    let start = at + run_len(Rule::Gap, &line[at..]);
+    if is_end(&line[start..]) {
+        None
+    } else {
+        Some(start)
+    }
+}
+
+impl Left {
+    /// What stands left of a place, by what stands left of one before it.
+    fn past(self, text: &[u8], from: usize, to: usize) -> Left
+        requires below { from ≤ to }
+        requires inside { to ≤ length text.now }
+        requires known { (before : List LineUnit) × Knows text.now from self before }
+        ensures { (before : List LineUnit) → Knows text.now from self before
+            → Knows text.now to result (passed before (slice_range text.now from to)) }
+    {
+        let mut left = self;
+        let mut at = from;
+        while at < to {
+            let unit = plain_unit(&text[at..to]);
+            left = left.after(text, at, &unit);
+            at += unit.len();
+        }
+        left
+    }
+}
+
+/// The tokens of a line: each is the longest piece that may stand in its place, and between them stand only blanks and
+/// continuations, and at the end the line end (sudoers(5), SUDOERS FILE FORMAT).
+///
+/// # Errors
+///
+/// [`TextFault::NoMemory`] alone, where a growth of memory was refused: what begins no piece is a token that is Bad.
+pub fn tokens(alloc: Global, line: &[u8], mode: Mode) -> Result<Vec<Token>, TextFault>
+    // They are the line's tokens.
+    ensures exact { IfOk result (λ tokens. HasTokens mode line.now tokens.items) }
+    // In one word: the tokens that are computed, of which there is one list.
+    ensures outcome { IfOk result (λ tokens. tokens.items ≡ tokens_of mode line.now) }
+    // Each is a part of the line, and not empty.
+    ensures within { IfOk result (λ tokens. All (IsWithin (length line.now)) tokens.items) }
+    // Nothing but want of memory is refused.
+    ensures only_memory { IfErr result (λ fault. fault ≡ TextFault.NoMemory) }
+{
+    let mut tokens = Vec::new(alloc);
+    let mut here = Context::First(mode);
+    let mut left = Left::nothing();
+    let mut at = 0;
+    while let Some(start) = next_start(line, at) {
+        let before = left.past(line, at, start);
+        let piece = here.piece(before, &line[start..]);
+        at = start + piece.len;
+        tokens.push(Token {
+            kind: piece.kind,
+            start,
+            stop: at,
+        })?;
+        here = here.behind(piece.kind, &line[start..at], &line[at..]);
+        left = before.past(line, start, at);
+    }
+    Ok(tokens)
+}
