@@ -21,3 +21,4 @@ pub mod Arguments
 pub mod Forms
 pub mod TokenLists
 pub mod Values
+pub mod Standing

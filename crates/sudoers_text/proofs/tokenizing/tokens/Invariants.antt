@@ -1,0 +1,9 @@
+use Rattle.std.proofs.Common.{◌-◌, length}
+use Rattle.sudoers_text.proofs.Standing.{Standing}
+use Rattle.sudoers_text.proofs.tokenizing.tokens.Given as goal
+
+abbrev pub invariant-loop-start : goal.invariant-loop-start
+invariant-loop-start l = Standing l.fn.mode l.line l.here l.left l.at l.tokens.items
+
+abbrev pub decreases-loop-start : goal.decreases-loop-start
+decreases-loop-start l = length l.line - l.at
