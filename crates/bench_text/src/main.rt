@@ -1,5 +1,5 @@
-//! Cuts the text on the standard input as often as the first word says, and tells how many lines it has. The benchmark
-//! times it.
+//! Cuts the text on the standard input as often as the first word says, and tells how many lines it has; with a second word
+//! `tokens` it reads the tokens of each line too, and tells how many there are. The benchmark times it.
 #![tactic(auto)]
 
 ghost use Rattle.std.specs.Prelude.{◌≡◌, ℕ, List, length, IfOk};
@@ -8,7 +8,7 @@ ghost use Rattle.sudoers_text.specs.Fault.{IsCut};
 use std::alloc::Global;
 use std::io;
 use std::io::Read;
-use sudoers_text::{TextFault, cut};
+use sudoers_text::{Mode, TextFault, cut, tokens};
 
 fn main(rt: HostRuntime) -> io::Result<()> {
     let mut words = std::env::args(&rt)?;
@@ -16,13 +16,18 @@ fn main(rt: HostRuntime) -> io::Result<()> {
         Some(word) => word.as_str().parse::<u32>().unwrap_or(1),
         None => 1,
     };
+    let reads_tokens = words.next().is_some();
     let mut text = Vec::new(rt.alloc());
     rt.stdin().read_to_end(&mut text)?;
     let mut count = 0;
     for _ in 0..times {
-        count = line_count(rt.alloc(), text.as_slice()).unwrap_or(0);
+        count = if reads_tokens {
+            token_count(rt.alloc(), text.as_slice()).unwrap_or(0)
+        } else {
+            line_count(rt.alloc(), text.as_slice()).unwrap_or(0)
+        };
     }
-    println!(rt; "{count} lines")
+    println!(rt; "{count} {}", if reads_tokens { "tokens" } else { "lines" })
 }
 
 /// How many lines a text has.
@@ -35,4 +40,34 @@ fn line_count(alloc: Global, text: &[u8]) -> Result<usize, TextFault>
 {
     let lines = cut(alloc, text)?;
     Ok(lines.len())
+}
+
+/// The mode in which a line is read, by its first bytes: as ordinary policies write it.
+fn mode_of(line: &[u8]) -> Mode {
+    if line.starts_with(b"Defaults") {
+        Mode::Parameters
+    } else if line.starts_with(b"User_Alias")
+        || line.starts_with(b"Runas_Alias")
+        || line.starts_with(b"Host_Alias")
+    {
+        Mode::Words
+    } else {
+        Mode::Commands
+    }
+}
+
+/// How many tokens the lines of a text have.
+///
+/// # Errors
+///
+/// As `cut` and `tokens`.
+fn token_count(alloc: Global, text: &[u8]) -> Result<usize, TextFault> {
+    let lines = cut(alloc, text)?;
+    let mut count: usize = 0;
+    for i in 0..lines.len() {
+        if let Some(line) = lines.get(i) {
+            count = count.wrapping_add(tokens(alloc, line, mode_of(line))?.len());
+        }
+    }
+    Ok(count)
 }

@@ -7,10 +7,12 @@ use Rattle.sudoers_text.specs.declared.unit.Left.{Left}
 use Rattle.sudoers_text.specs.Unit.{LineUnit, Byte, text_of, escaped}
 use Rattle.sudoers_text.specs.Left.{Knows, StandsAt}
 use Rattle.sudoers_text.specs.Token.{plain_unit, passed, passed_from}
+use Rattle.sudoers_text.specs.Run.{is_plain, plain_part}
 use Rattle.sudoers_text.proofs.Reading.{unit_at-front, unit_size}
+use Rattle.sudoers_text.proofs.Runs.{IsNoSign, Passes, Carried, carried_passed, knows_byte, knows_none}
 
 -- At this place these units stand left, of which what follows up to another place makes the whole.
-pub record Passes (text : List ℕ) (at to : ℕ) (left : Left) (whole : List LineUnit) : Type 0 where
+pub record Stands (text : List ℕ) (at to : ℕ) (left : Left) (whole : List LineUnit) : Type 0 where
   pub units : List LineUnit
   pub knows : Knows text at left units
   pub same : passed units (slice_range text at to) ≡ whole
@@ -82,8 +84,64 @@ plain_step text at to u below inside is =
     let front = some_slice text at to below inside in
     subst (λ (v : LineUnit). PlainStep text at to v) (sym (is front.0 front.1 front.2)) (step_by text at to front.0 front.1 below inside front.2)
 
+-- ---- plain bytes passed at once
+
+stands_byte : (text : List ℕ) (to : ℕ) (whole : List LineUnit) → to ≤ length text → (at : ℕ) (left next : Left) (b : ℕ) (rest : List ℕ) → Stands text at to left whole → slice_range text at to ≡ b ∷ rest → IsNoSign b → 0 < left.begun → Passes left (b ∷ []) next → Stands text (at + 1) to next whole
+stands_byte text to whole inside at left next b rest stands here is some passes =
+    let below : at < to = some_below text at to b rest here in
+    let unit : plain_unit b rest ≡ Byte b = ap (λ (t : Bool). if t then escaped rest else Byte b) is.backslash in
+    let step : PlainStep text at to (Byte b) = subst (λ (u : LineUnit). PlainStep text at to u) unit (step_by text at to b rest below inside here) in
+    record {
+      units = Byte b ∷ stands.units;
+      knows = knows_byte text at b stands.units left next is some step.stands stands.knows passes;
+      same = sym (step.passes stands.units) ∙ stands.same;
+    }
+  where
+    some_below : (text : List ℕ) (at to b : ℕ) (rest : List ℕ) → slice_range text at to ≡ b ∷ rest → at < to
+    some_below text at to b rest here = by_size (to - at) refl here
+      where
+        by_size : (n : ℕ) → to - at ≡ n → take n (drop at text) ≡ b ∷ rest → at < to
+        by_size zero e h = absurd (cc)
+        by_size (suc n) e h = omega arith
+
+slice_behind : (text : List ℕ) (to at b : ℕ) (rest : List ℕ) → slice_range text at to ≡ b ∷ rest → slice_range text (at + 1) to ≡ rest
+slice_behind text to at b rest here = by_size (to - at) (drop at text) refl refl here
+  where
+    by_size : (n : ℕ) (xs : List ℕ) → to - at ≡ n → drop at text ≡ xs → take n xs ≡ b ∷ rest → slice_range text (at + 1) to ≡ rest
+    by_size zero xs e f h = absurd (cc)
+    by_size (suc n) [] e f h = absurd (cc)
+    by_size (suc n) (x ∷ xs) e f h =
+        let less : to - (at + 1) ≡ n = omega arith in
+        let behind : drop (at + 1) text ≡ xs = sym (drop-drop 1 at text) ∙ ap (drop 1) f in
+        ap (λ (m : ℕ). take m (drop (at + 1) text)) less ∙ ap (take n) behind ∙ ap (drop 1) h
+
+stands_carried : (text : List ℕ) (to : ℕ) (whole : List LineUnit) → to ≤ length text → Carried (λ at left. Stands text at to left whole) (λ at. slice_range text at to)
+stands_carried text to whole inside = record {
+  behind = slice_behind text to;
+  byte = stands_byte text to whole inside;
+  none = λ at left next stands passes. record { units = stands.units; knows = knows_none text at stands.units left next stands.knows passes; same = stands.same };
+}
+
+pub stands_passed : (text : List ℕ) (at to : ℕ) (left next : Left) (run : List ℕ) (whole : List LineUnit) → to ≤ length text → Stands text at to left whole → run ≡ (if left.begun == 0 then [] else plain_part (slice_range text at to)) → Passes left run next → Stands text (at + length run) to next whole
+stands_passed text at to left next run whole inside stands is passes =
+    carried_passed (λ at left. Stands text at to left whole) (λ at. slice_range text at to) (stands_carried text to whole inside) at left next run stands is passes
+
+part_more : (t : Bool) (b n : ℕ) (xs : List ℕ) → length xs ≤ n → length (if t then b ∷ xs else []) ≤ suc n
+part_more true b n xs h = omega arith
+part_more false b n xs h = omega arith
+
+part_size : (xs : List ℕ) → length (plain_part xs) ≤ length xs
+part_size [] = omega arith
+part_size (b ∷ xs) = part_more (is_plain b) b (length xs) (plain_part xs) (part_size xs)
+
+-- A run lies before the end.
+pub run_fits : (text : List ℕ) (at to : ℕ) (t : Bool) (run : List ℕ) → at ≤ to → to ≤ length text → run ≡ (if t then [] else plain_part (slice_range text at to)) → at + length run ≤ to
+run_fits text at to true run below inside is = omega (arith, ap length is)
+run_fits text at to false run below inside is =
+    omega (arith, ap length is, part_size (slice_range text at to), length-take-le (to - at) (drop at text) (omega (arith, length-drop at text)))
+
 -- all has been passed
-pub passes_all : (text : List ℕ) (at to : ℕ) (left : Left) (whole : List LineUnit) → to ≤ at → at ≤ to → Passes text at to left whole → Knows text to left whole
+pub passes_all : (text : List ℕ) (at to : ℕ) (left : Left) (whole : List LineUnit) → to ≤ at → at ≤ to → Stands text at to left whole → Knows text to left whole
 passes_all text at to left whole past below passes =
     let here : at ≡ to = omega arith in
     let none : to - at ≡ 0 = omega arith in

@@ -70,7 +70,7 @@ pub record Passes (left : Left) (run : List ℕ) (next : Left) : Type 0 where
   pub continues : next.continues ≡ (is_empty run && left.continues)
   pub begun : next.begun ≡ left.begun + length run
 
-knows_byte : (text : List ℕ) (at b : ℕ) (before : List LineUnit) (left next : Left) → IsNoSign b → 0 < left.begun → StandsAt text at (Byte b) → Knows text at left before → Passes left (b ∷ []) next → Knows text (at + 1) next (Byte b ∷ before)
+pub knows_byte : (text : List ℕ) (at b : ℕ) (before : List LineUnit) (left next : Left) → IsNoSign b → 0 < left.begun → StandsAt text at (Byte b) → Knows text at left before → Passes left (b ∷ []) next → Knows text (at + 1) next (Byte b ∷ before)
 knows_byte text at b before left next is some stands knows passes =
     let same : (if left.begun == 0 && is_gap (Byte b) then 0 else left.begun + 1) ≡ next.begun =
     ap (λ (t : Bool). if t && is_gap (Byte b) then 0 else left.begun + 1) (ne_eqb left.begun 0 (λ none. omega arith)) ∙ sym passes.begun in
@@ -86,40 +86,34 @@ knows_byte text at b before left next is some stands knows passes =
       begins = begins.2;
     }
 
--- one plain byte read
-reading_byte : (text : List ℕ) (start at : ℕ) (left next : Left) (b : ℕ) (rest : List ℕ) → Reading text start at left → drop at text ≡ b ∷ rest → IsNoSign b → 0 < left.begun → Passes left (b ∷ []) next → Reading text start (at + 1) next
-reading_byte text start at left next b rest reading here is some passes =
-    let unit : unit_at reading.before (drop at text) ≡ Some (Byte b) = ap (λ (xs : List ℕ). unit_at reading.before xs) here ∙ unit_plain reading.before b rest is in
-    let stands = stands_at text at reading.before (Byte b) reading.to unit in
-    reading_more text start at left next reading (Byte b) unit (knows_byte text at b reading.before left next is some stands reading.knows passes)
-
--- nothing read
-reading_none : (text : List ℕ) (start at : ℕ) (left next : Left) → Reading text start at left → Passes left [] next → Reading text start (at + 0) next
-reading_none text start at left next reading passes =
-    let knows = reading.knows in
+-- Nothing passed tells nothing new.
+pub knows_none : (text : List ℕ) (at : ℕ) (before : List LineUnit) (left next : Left) → Knows text at left before → Passes left [] next → Knows text at next before
+knows_none text at before left next knows passes =
     let same : left.begun ≡ next.begun = omega (arith, passes.begun) in
-    let begins = subst (λ (m : ℕ). LastBytes text at m (begun reading.before)) same (knows.within, knows.size, knows.begins) in
-    let next_knows : Knows text at next reading.before = record {
+    let begins = subst (λ (m : ℕ). LastBytes text at m (begun before)) same (knows.within, knows.size, knows.begins) in
+    record {
       item = passes.item ∙ knows.item;
       continues = λ all. passes.continues ∙ knows.continues all;
       within = begins.0;
       size = begins.1;
       begins = begins.2;
-    } in
-    let read : Reading text start at next = record {
-      before = reading.before;
-      each = reading.each;
-      whole = reading.whole;
-      knows = next_knows;
-      from = reading.from;
-      to = reading.to;
-    } in
-    let place : at ≡ at + 0 = omega arith in
-    subst (λ (n : ℕ). Reading text start n next) place read
+    }
 
--- one plain byte read, and then those behind it
-reading_on : (text : List ℕ) (start at : ℕ) (left next : Left) (b : ℕ) (run : List ℕ) → Passes left (b ∷ run) next → ((middle : Left) → Passes left (b ∷ []) middle → 0 < middle.begun → Passes middle run next → Reading text start (at + 1 + length run) next) → Reading text start (at + length (b ∷ run)) next
-reading_on text start at left next b run passes read =
+-- What holds of a place and of what is known there, behind a plain byte and where nothing is passed. bytes: what stands at a
+-- place.
+pub record Carried (P : ℕ → Left → Type 0) (bytes : ℕ → List ℕ) : Type 0 where
+  pub behind : (at b : ℕ) (rest : List ℕ) → bytes at ≡ b ∷ rest → bytes (at + 1) ≡ rest
+  pub byte : (at : ℕ) (left next : Left) (b : ℕ) (rest : List ℕ) → P at left → bytes at ≡ b ∷ rest → IsNoSign b → 0 < left.begun → Passes left (b ∷ []) next → P (at + 1) next
+  pub none : (at : ℕ) (left next : Left) → P at left → Passes left [] next → P at next
+
+carried_none : (P : ℕ → Left → Type 0) (bytes : ℕ → List ℕ) → Carried P bytes → (at : ℕ) (left next : Left) → P at left → Passes left [] next → P (at + 0) next
+carried_none P bytes carried at left next holds passes =
+    let place : at ≡ at + 0 = omega arith in
+    subst (λ (n : ℕ). P n next) place (carried.none at left next holds passes)
+
+-- one plain byte, and then those behind it
+carried_on : (P : ℕ → Left → Type 0) (at : ℕ) (left next : Left) (b : ℕ) (run : List ℕ) → Passes left (b ∷ run) next → ((middle : Left) → Passes left (b ∷ []) middle → 0 < middle.begun → Passes middle run next → P (at + 1 + length run) next) → P (at + length (b ∷ run)) next
+carried_on P at left next b run passes read =
     let middle : Left = record { item = if keeps_item b then left.item else is_separator b; continues = false; begun = left.begun + 1 } in
     let place : at + 1 + length run ≡ at + length (b ∷ run) = omega arith in
     let here : Passes left (b ∷ []) middle = record { item = refl; continues = refl; begun = refl } in
@@ -128,38 +122,65 @@ reading_on text start at left next b run passes read =
       continues = passes.continues ∙ sym (and_right (is_empty run) false refl);
       begun = omega (arith, passes.begun);
     } in
-    subst (λ (n : ℕ). Reading text start n next) place (read middle here (omega arith) later)
+    subst (λ (n : ℕ). P n next) place (read middle here (omega arith) later)
 
--- the plain bytes at a place read
-reading_run : (text : List ℕ) (start at : ℕ) (left next : Left) (xs : List ℕ) → Reading text start at left → drop at text ≡ xs → 0 < left.begun → Passes left (plain_part xs) next → Reading text start (at + length (plain_part xs)) next
-reading_run text start at left next [] reading here some passes = reading_none text start at left next reading passes
-reading_run text start at left next (b ∷ rest) reading here some passes =
-    let family : List ℕ → Type 0 = λ run. Passes left run next → Reading text start (at + length run) next in
+-- It holds behind the plain bytes at a place.
+carried_run : (P : ℕ → Left → Type 0) (bytes : ℕ → List ℕ) → Carried P bytes → (at : ℕ) (left next : Left) (xs : List ℕ) → P at left → bytes at ≡ xs → 0 < left.begun → Passes left (plain_part xs) next → P (at + length (plain_part xs)) next
+carried_run P bytes carried at left next [] holds here some passes = carried_none P bytes carried at left next holds passes
+carried_run P bytes carried at left next (b ∷ rest) holds here some passes =
+    let family : List ℕ → Type 0 = λ run. Passes left run next → P (at + length run) next in
     elim (cases_Bool (is_plain b)) [
       | inl is ↦
           let some_part : plain_part (b ∷ rest) ≡ b ∷ plain_part rest = ap (λ (t : Bool). if t then b ∷ plain_part rest else []) is in
-          let behind : drop (at + 1) text ≡ rest = sym (drop-drop 1 at text) ∙ ap (λ (xs : List ℕ). drop 1 xs) here in
           subst family (sym some_part) (λ passing.
-          reading_on text start at left next b (plain_part rest) passing (λ middle first begun later.
-          reading_run text start (at + 1) middle next rest (reading_byte text start at left middle b rest reading here (no_sign b is) some first) behind begun later)) passes
+          carried_on P at left next b (plain_part rest) passing (λ middle first begun later.
+          carried_run P bytes carried (at + 1) middle next rest (carried.byte at left middle b rest holds here (no_sign b is) some first) (carried.behind at b rest here) begun later)) passes
       | inr isnt ↦
           let no_part : plain_part (b ∷ rest) ≡ [] = ap (λ (t : Bool). if t then b ∷ plain_part rest else []) isnt in
-          subst family (sym no_part) (λ passing. reading_none text start at left next reading passing) passes
+          subst family (sym no_part) (λ passing. carried_none P bytes carried at left next holds passing) passes
     ]
 
--- What is passed at a place, read: before the line has begun nothing is.
-passed_cases : (text : List ℕ) (start at : ℕ) (left next : Left) → Reading text start at left → Passes left (if left.begun == 0 then [] else plain_part (drop at text)) next → Reading text start (at + length (if left.begun == 0 then [] else plain_part (drop at text))) next
-passed_cases text start at left next reading passes =
-    let run : Bool → List ℕ = λ t. if t then [] else plain_part (drop at text) in
-    let family : Bool → Type 0 = λ t. Passes left (run t) next → Reading text start (at + length (run t)) next in
-    elim (eqb_tells left.begun 0) [
-      | inl w ↦ subst family (sym w.0) (λ passing. reading_none text start at left next reading passing) passes
-      | inr w ↦ subst family (sym w.0) (λ passing. reading_run text start at left next (drop at text) reading refl (omega (arith, w.1)) passing) passes
-    ]
+-- It holds behind what is passed at a place; before the line has begun that is nothing.
+pub carried_passed : (P : ℕ → Left → Type 0) (bytes : ℕ → List ℕ) → Carried P bytes → (at : ℕ) (left next : Left) (run : List ℕ) → P at left → run ≡ (if left.begun == 0 then [] else plain_part (bytes at)) → Passes left run next → P (at + length run) next
+carried_passed P bytes carried at left next run holds is passes =
+    let of : Bool → List ℕ = λ t. if t then [] else plain_part (bytes at) in
+    let family : List ℕ → Type 0 = λ xs. Passes left xs next → P (at + length xs) next in
+    let cases : Bool → Type 0 = λ t. family (of t) in
+    subst family (sym is)
+    (elim (eqb_tells left.begun 0) [
+      | inl w ↦ subst cases (sym w.0) (λ passing. carried_none P bytes carried at left next holds passing)
+      | inr w ↦ subst cases (sym w.0) (λ passing. carried_run P bytes carried at left next (bytes at) holds refl (omega (arith, w.1)) passing)
+    ]) passes
+
+-- ---- a line read
+
+-- one plain byte read
+reading_byte : (text : List ℕ) (start at : ℕ) (left next : Left) (b : ℕ) (rest : List ℕ) → Reading text start at left → drop at text ≡ b ∷ rest → IsNoSign b → 0 < left.begun → Passes left (b ∷ []) next → Reading text start (at + 1) next
+reading_byte text start at left next b rest reading here is some passes =
+    let unit : unit_at reading.before (drop at text) ≡ Some (Byte b) = ap (λ (xs : List ℕ). unit_at reading.before xs) here ∙ unit_plain reading.before b rest is in
+    let stands = stands_at text at reading.before (Byte b) reading.to unit in
+    reading_more text start at left next reading (Byte b) unit (knows_byte text at b reading.before left next is some stands reading.knows passes)
+
+-- nothing read
+reading_none : (text : List ℕ) (start at : ℕ) (left next : Left) → Reading text start at left → Passes left [] next → Reading text start at next
+reading_none text start at left next reading passes = record {
+  before = reading.before;
+  each = reading.each;
+  whole = reading.whole;
+  knows = knows_none text at reading.before left next reading.knows passes;
+  from = reading.from;
+  to = reading.to;
+}
+
+reading_carried : (text : List ℕ) (start : ℕ) → Carried (λ at left. Reading text start at left) (λ at. drop at text)
+reading_carried text start = record {
+  behind = λ at b rest here. sym (drop-drop 1 at text) ∙ ap (λ (xs : List ℕ). drop 1 xs) here;
+  byte = reading_byte text start;
+  none = reading_none text start;
+}
 
 pub reading_passed : (text : List ℕ) (start at : ℕ) (left next : Left) (run : List ℕ) → Reading text start at left → run ≡ (if left.begun == 0 then [] else plain_part (take (length text - at) (drop at text))) → Passes left run next → Reading text start (at + length run) next
 reading_passed text start at left next run reading is passes =
-    let family : List ℕ → Type 0 = λ xs. Passes left xs next → Reading text start (at + length xs) next in
     let whole : run ≡ (if left.begun == 0 then [] else plain_part (drop at text)) =
     is ∙ ap (λ (xs : List ℕ). if left.begun == 0 then [] else plain_part xs) (take_rest text at) in
-    subst family (sym whole) (passed_cases text start at left next reading) passes
+    carried_passed (λ at left. Reading text start at left) (λ at. drop at text) (reading_carried text start) at left next run reading whole passes

@@ -61,6 +61,9 @@ impl Left {
             let unit = plain_unit(&text[at..to]);
             left = left.after(text, at, &unit);
             at += unit.len();
+            let run = left.run(&text[at..to]);
+            left = left.after_run(run);
+            at += run.len();
         }
         left
     }

@@ -3,7 +3,7 @@ use Rattle.std.specs.Prelude.{slice_range}
 use Rattle.sudoers_text.specs.Unit.{LineUnit}
 use Rattle.sudoers_text.specs.Left.{Knows}
 use Rattle.sudoers_text.specs.Token.{passed}
-use Rattle.sudoers_text.proofs.Passed.{Passes}
+use Rattle.sudoers_text.proofs.Passed.{Stands}
 use Rattle.sudoers_text.proofs.unit.Left.past.Given as goal
 
 -- what is known of the units so far, and that what follows makes of them what the whole makes
@@ -11,7 +11,7 @@ abbrev pub invariant-loop-at : goal.invariant-loop-at
 invariant-loop-at l = record {
   below : l.at ≤ l.to;
   passes : (before : List LineUnit) → Knows l.text l.fn.from l.fn.self before
-      → Passes l.text l.at l.to l.left (passed before (slice_range l.text l.fn.from l.to));
+      → Stands l.text l.at l.to l.left (passed before (slice_range l.text l.fn.from l.to));
 }
 
 abbrev pub decreases-loop-at : goal.decreases-loop-at
