@@ -58,12 +58,14 @@ impl Left {
         let mut left = self;
         let mut at = from;
         while at < to {
-            let unit = plain_unit(&text[at..to]);
-            left = left.after(text, at, &unit);
-            at += unit.len();
             let run = left.run(&text[at..to]);
             left = left.after_run(run);
             at += run.len();
+            if at < to {
+                let unit = plain_unit(&text[at..to]);
+                left = left.after(text, at, &unit);
+                at += unit.len();
+            }
         }
         left
     }
@@ -85,7 +87,7 @@ pub fn tokens(alloc: Global, line: &[u8], mode: Mode) -> Result<Vec<Token>, Text
     // Nothing but want of memory is refused.
     ensures only_memory { IfErr result (λ fault. fault ≡ TextFault.NoMemory) }
 {
-    let mut tokens = Vec::new(alloc);
+    let mut tokens = Vec::with_capacity(alloc, line.len() / 4)?;
     let mut here = Context::First(mode);
     let mut left = Left::nothing();
     let mut at = 0;

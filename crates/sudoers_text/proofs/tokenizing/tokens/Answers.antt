@@ -8,7 +8,7 @@ use Rattle.sudoers_text.proofs.tokenizing.tokens.Goals as goal
 
 pub loop-start-init : goal.loop-start-init
 loop-start-init c =
-    subst (λ (ts : List Token). Standing c.args.mode c.args.line.now (context.First c.args.mode) c.nothing-left.result 0 ts) (sym c.new-tokens.ensures.items)
+    subst (λ (ts : List Token). Standing c.args.mode c.args.line.now (context.First c.args.mode) c.nothing-left.result 0 ts) (sym c.in_ok-tokens.ensures.items)
     (begins c.args.mode c.args.line.now c.nothing-left.result (c.nothing-left.ensures c.args.line.now 0))
 
 pub next_start-requires : goal.next_start-requires

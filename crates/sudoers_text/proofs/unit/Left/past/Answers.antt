@@ -8,37 +8,36 @@ use Rattle.sudoers_text.proofs.unit.Left.past.Goals as goal
 
 pub after-left-requires-clause-stands : goal.after-left-requires-clause-stands
 after-left-requires-clause-stands c =
-    (plain_step c.args.text.now c.loop-at.at c.args.to (unit_of c.plain_unit-unit.result) c.loop-at-test.true c.requires.inside c.plain_unit-unit.ensures).stands
+    (plain_step c.args.text.now (c.loop-at.at + length c.run-run.result.now) c.args.to (unit_of c.plain_unit-unit.result) c.if-at-to.true c.requires.inside c.plain_unit-unit.ensures).stands
 
-pub slice_bounds-run-count : goal.slice_bounds-run-count
-slice_bounds-run-count c =
-    let step = plain_step c.args.text.now c.loop-at.at c.args.to (unit_of c.plain_unit-unit.result) c.loop-at-test.true c.requires.inside c.plain_unit-unit.ensures in
-    omega (arith, step.inside, c.len-at.ensures)
-
-pub slice_bounds-run-start : goal.slice_bounds-run-start
-slice_bounds-run-start c =
-    let step = plain_step c.args.text.now c.loop-at.at c.args.to (unit_of c.plain_unit-unit.result) c.loop-at-test.true c.requires.inside c.plain_unit-unit.ensures in
-    omega (arith, step.inside, c.len-at.ensures, c.requires.inside)
+pub loop-at-preserved-then-at-to : goal.loop-at-preserved-then-at-to
+loop-at-preserved-then-at-to c =
+    let text : List ℕ = c.args.text.now in
+    let at : ℕ = c.loop-at.at + length c.run-run.result.now in
+    let u : LineUnit = unit_of c.plain_unit-unit.result in
+    let step : PlainStep text at c.args.to u = plain_step text at c.args.to u c.if-at-to.true c.requires.inside c.plain_unit-unit.ensures in
+    let size : c.len-at.result ≡ length (text_of u) = c.len-at.ensures in
+    record {
+      below = subst (λ (n : ℕ). at + n ≤ c.args.to) (sym size) step.inside;
+      passes = λ before known.
+          let whole = passed before (slice_range text c.args.from c.args.to) in
+          let here : Stands text at c.args.to c.after_run-left.result whole =
+          stands_passed text c.loop-at.at c.args.to c.loop-at.left c.after_run-left.result c.run-run.result.now whole c.requires.inside (c.loop-at.invariant.passes before known) c.run-run.ensures
+          (record { item = c.after_run-left.ensures.item; continues = c.after_run-left.ensures.continues; begun = c.after_run-left.ensures.begun }) in
+          record {
+            units = u ∷ here.units;
+            knows = subst (λ (n : ℕ). Knows text (at + n) c.after-left.result (u ∷ here.units)) (sym size) (c.after-left.ensures here.units here.knows);
+            same = ap (λ (n : ℕ). passed (u ∷ here.units) (slice_range text (at + n) c.args.to)) size ∙ sym (step.passes here.units) ∙ here.same;
+          };
+    }
 
 pub loop-at-preserved : goal.loop-at-preserved
 loop-at-preserved c =
     let text : List ℕ = c.args.text.now in
-    let u : LineUnit = unit_of c.plain_unit-unit.result in
-    let step : PlainStep text c.loop-at.at c.args.to u = plain_step text c.loop-at.at c.args.to u c.loop-at-test.true c.requires.inside c.plain_unit-unit.ensures in
-    let size : c.len-at.result ≡ length (text_of u) = c.len-at.ensures in
-    let at : ℕ = c.loop-at.at + c.len-at.result in
-    let inside : at ≤ c.args.to = subst (λ (n : ℕ). c.loop-at.at + n ≤ c.args.to) (sym size) step.inside in
     record {
-      below = run_fits text at c.args.to (c.after-left.result.begun == 0) c.run-run.result.now inside c.requires.inside c.run-run.ensures;
+      below = run_fits text c.loop-at.at c.args.to (c.loop-at.left.begun == 0) c.run-run.result.now c.loop-at.invariant.below c.requires.inside c.run-run.ensures;
       passes = λ before known.
-          let here = c.loop-at.invariant.passes before known in
-          let whole = passed before (slice_range text c.args.from c.args.to) in
-          let stands : Stands text at c.args.to c.after-left.result whole = record {
-            units = u ∷ here.units;
-            knows = subst (λ (n : ℕ). Knows text (c.loop-at.at + n) c.after-left.result (u ∷ here.units)) (sym size) (c.after-left.ensures here.units here.knows);
-            same = ap (λ (n : ℕ). passed (u ∷ here.units) (slice_range text (c.loop-at.at + n) c.args.to)) size ∙ sym (step.passes here.units) ∙ here.same;
-          } in
-          stands_passed text at c.args.to c.after-left.result c.after_run-left.result c.run-run.result.now whole c.requires.inside stands c.run-run.ensures
+          stands_passed text c.loop-at.at c.args.to c.loop-at.left c.after_run-left.result c.run-run.result.now (passed before (slice_range text c.args.from c.args.to)) c.requires.inside (c.loop-at.invariant.passes before known) c.run-run.ensures
           (record { item = c.after_run-left.ensures.item; continues = c.after_run-left.ensures.continues; begun = c.after_run-left.ensures.begun });
     }
 
