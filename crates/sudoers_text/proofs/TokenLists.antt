@@ -73,7 +73,9 @@ one_more here before at bytes k size ts more is later =
     let some : 0 < size = subst (λ (p : TokenKind × ℕ). 0 < p.1) (sym is) (found_some (forms here) left body more) in
     let token : IsToken (forms here) left body k size = subst (λ (p : TokenKind × ℕ). IsToken (forms here) left body p.0 p.1) (sym is) (found_is (forms here) left body) in
     let same : size ≡ at + gap + size - (at + gap) = omega arith in (
-      more, refl, omega (arith, some),
+      more,
+      refl,
+      omega (arith, some),
       subst (λ (n : ℕ). IsToken (forms here) left body k n) same token,
       subst (λ (n : ℕ). AreTokens (behind here k (take n body) (drop n body)) (passed left (take n body)) (at + gap + size) (drop n body) ts) same later,
     )

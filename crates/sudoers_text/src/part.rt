@@ -31,6 +31,7 @@ pub enum Rule {
 }
 
 /// Whether it is one of `!`, `=`, `:`, `,`, `(` and `)`.
+#[inline(always)]
 pub fn is_punct(byte: u8) -> bool
     ensures { result ≡ is_punct byte }
 {
@@ -38,6 +39,7 @@ pub fn is_punct(byte: u8) -> bool
 }
 
 /// Whether it stands for itself in the path of an include.
+#[inline(always)]
 fn is_include_byte(byte: u8) -> bool
     ensures { result ≡ is_include_byte byte }
 {
@@ -45,6 +47,7 @@ fn is_include_byte(byte: u8) -> bool
 }
 
 /// Whether it stands for itself in a word.
+#[inline(always)]
 fn is_word_byte(byte: u8) -> bool
     ensures { result ≡ is_word_byte byte }
 {
@@ -52,6 +55,7 @@ fn is_word_byte(byte: u8) -> bool
 }
 
 /// Whether it stands for itself in a command's path, and in an argument.
+#[inline(always)]
 fn is_path_byte(byte: u8) -> bool
     ensures { result ≡ is_path_byte byte }
 {
@@ -59,6 +63,7 @@ fn is_path_byte(byte: u8) -> bool
 }
 
 /// Whether it stands for itself in a parameter's value.
+#[inline(always)]
 fn is_value_byte(byte: u8) -> bool
     ensures { result ≡ is_value_byte byte }
 {
@@ -66,6 +71,7 @@ fn is_value_byte(byte: u8) -> bool
 }
 
 /// Whether it stands for itself in a quoted part.
+#[inline(always)]
 fn is_quoted_byte(byte: u8) -> bool
     ensures { result ≡ is_quoted_byte byte }
 {
@@ -73,6 +79,7 @@ fn is_quoted_byte(byte: u8) -> bool
 }
 
 /// The same, but for `,`, `:` and `=`.
+#[inline(always)]
 fn is_clean_byte(byte: u8) -> bool
     ensures { result ≡ is_clean_byte byte }
 {
@@ -80,6 +87,7 @@ fn is_clean_byte(byte: u8) -> bool
 }
 
 /// Whether it is an upper-case letter.
+#[inline(always)]
 pub fn is_upper(byte: u8) -> bool
     ensures { result ≡ is_upper byte }
 {
@@ -87,6 +95,7 @@ pub fn is_upper(byte: u8) -> bool
 }
 
 /// Whether it is a letter or a digit.
+#[inline(always)]
 fn is_alphanumeric(byte: u8) -> bool
     ensures { result ≡ is_alphanumeric byte }
 {
@@ -94,6 +103,7 @@ fn is_alphanumeric(byte: u8) -> bool
 }
 
 /// Whether it may stand in a parameter's name.
+#[inline(always)]
 fn is_name_byte(byte: u8) -> bool
     ensures { result ≡ is_name_byte byte }
 {
@@ -101,6 +111,7 @@ fn is_name_byte(byte: u8) -> bool
 }
 
 /// Whether it may stand in a digest.
+#[inline(always)]
 fn is_digest_byte(byte: u8) -> bool
     ensures { result ≡ is_digest_byte byte }
 {
@@ -165,6 +176,7 @@ fn open_unit(bytes: &[u8]) -> usize
 
 /// How many bytes the unit has that begins the bytes, or none.
 #[tactic(auto, using(crate::proofs::Reach::unit_within))]
+#[inline(always)]
 fn unit_len(rule: Rule, bytes: &[u8]) -> usize
     ensures value { result ≡ unit_size rule bytes.now }
     ensures within { result ≤ length bytes.now }
@@ -189,6 +201,7 @@ fn unit_len(rule: Rule, bytes: &[u8]) -> usize
 
 /// How many bytes the units have that begin the bytes, one after another.
 #[tactic(auto, unfolding(crate::specs::Part::run_size))]
+#[inline(always)]
 pub fn run_len(rule: Rule, bytes: &[u8]) -> usize
     ensures value { result ≡ run_size rule bytes.now }
     ensures within { result ≤ length bytes.now }
@@ -258,6 +271,7 @@ pub fn quoted_len(bytes: &[u8]) -> usize
 }
 
 /// How many bytes the unit of an argument has that begins the bytes, or none.
+#[inline(always)]
 fn argument_unit(bytes: &[u8]) -> usize
     ensures value { result ≡ argument_unit bytes.now }
     ensures within { result ≤ length bytes.now }

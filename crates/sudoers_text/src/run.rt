@@ -7,6 +7,7 @@ ghost use Rattle.sudoers_text.specs.Run.{is_plain, plain_part, keeps_item, item_
 use crate::unit::{Left, is_blank, is_separator, is_sign};
 
 /// Whether the byte is a unit of its own, wherever it stands behind a line's beginning, and asks for nothing left of it.
+#[inline(always)]
 fn is_plain(byte: u8) -> bool
     ensures { result ≡ is_plain byte }
 {
@@ -14,6 +15,7 @@ fn is_plain(byte: u8) -> bool
 }
 
 /// The plain bytes that begin the text, up to the first that is none.
+#[inline(always)]
 fn plain_part(text: &[u8]) -> &[u8]
     ensures { result.now ≡ plain_part text.now }
 {
@@ -26,6 +28,7 @@ fn plain_part(text: &[u8]) -> &[u8]
 }
 
 /// Whether an ID may begin behind the byte where it may before it.
+#[inline(always)]
 fn keeps_item(byte: u8) -> bool
     ensures { result ≡ keeps_item byte }
 {
@@ -33,6 +36,7 @@ fn keeps_item(byte: u8) -> bool
 }
 
 /// Whether an ID may begin behind plain bytes, by whether it may before them.
+#[inline(always)]
 fn item_behind(item: bool, run: &[u8]) -> bool
     ensures { result ≡ item_behind item run.now }
 {
@@ -50,6 +54,7 @@ fn item_behind(item: bool, run: &[u8]) -> bool
 impl Left {
     /// The plain bytes that begin the text and can be passed at once. Before the line has begun there are none: a blank
     /// counts there for nothing.
+    #[inline(always)]
     pub fn run<'a>(self, text: &'a [u8]) -> &'a [u8]
         ensures { result.now ≡ (if self.begun == 0 then [] else plain_part text.now) }
     {
@@ -61,6 +66,7 @@ impl Left {
     }
 
     /// What stands left behind plain bytes.
+    #[inline(always)]
     pub fn after_run(self, run: &[u8]) -> Self
         requires { self.begun + length run.now < 2 ^ 64 }
         ensures item { result.item ≡ item_behind self.item run.now }

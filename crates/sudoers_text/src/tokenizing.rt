@@ -15,6 +15,7 @@ use crate::unit::{Left, Unit, escaped, line_end_len};
 use std::alloc::Global;
 
 /// The unit that begins the bytes, where a quoted part and a comment are no units but their bytes.
+#[inline(always)]
 fn plain_unit(bytes: &[u8]) -> Unit<'_>
     requires { 0 < length bytes.now }
     ensures { (b : ℕ) (rest : List ℕ) → bytes.now ≡ b ∷ rest → unit_of result ≡ plain_unit b rest }
@@ -26,6 +27,7 @@ fn plain_unit(bytes: &[u8]) -> Unit<'_>
 }
 
 /// Whether nothing is left, or a line end alone.
+#[inline(always)]
 fn is_end(bytes: &[u8]) -> bool
     ensures { result ≡ is_end bytes.now }
 {
@@ -33,6 +35,7 @@ fn is_end(bytes: &[u8]) -> bool
 }
 
 /// Where the next token begins. None does where only blanks, continuations and the line end are left.
+#[inline(always)]
 fn next_start(line: &[u8], at: usize) -> Option<usize>
     requires { at ≤ length line.now }
     ensures some { IfSome result (λ start. (start ≡ at + gap_size (drop at line.now)) × (is_end (drop start line.now) ≡ false)) }

@@ -9,6 +9,7 @@ ghost use Rattle.sudoers_text.specs.Left.{Agrees, Knows, StandsAt, unit_of, unit
 use memchr::memchr;
 
 /// Whether it is a space or a tab.
+#[inline(always)]
 pub fn is_blank(byte: u8) -> bool
     ensures { result ≡ is_blank byte }
 {
@@ -16,6 +17,7 @@ pub fn is_blank(byte: u8) -> bool
 }
 
 /// Whether it is `!`, `(` or `%`.
+#[inline(always)]
 pub fn is_sign(byte: u8) -> bool
     ensures { result ≡ is_sign byte }
 {
@@ -23,6 +25,7 @@ pub fn is_sign(byte: u8) -> bool
 }
 
 /// Whether it is `,`, `:` or `=`.
+#[inline(always)]
 pub fn is_separator(byte: u8) -> bool
     ensures { result ≡ is_separator byte }
 {
@@ -30,6 +33,7 @@ pub fn is_separator(byte: u8) -> bool
 }
 
 /// Whether LF or CR LF begins the text.
+#[inline(always)]
 pub fn begins_line_end(text: &[u8]) -> bool
     ensures { result ≡ begins_line_end text.now }
 {
@@ -183,6 +187,7 @@ fn ends_behind_backslash(bytes: &[u8]) -> bool
 }
 
 /// Whether the text ends behind a unit, in a continuation or in a lone backslash.
+#[inline]
 fn continues_after(text: &[u8], at: usize, unit: &Unit<'_>) -> bool
     ensures { at + length (text_of (unit_of unit.now)) ≡ length text.now → (before : List LineUnit)
         → result ≡ is_open (unit_of unit.now ∷ before) }
@@ -246,6 +251,7 @@ impl Unit<'_> {
     }
 
     /// Whether it is a blank or a continuation.
+    #[inline]
     fn is_gap(&self) -> bool
         ensures { result ≡ is_gap (unit_of self.now) }
     {
@@ -270,6 +276,7 @@ impl Left {
     }
 
     /// What stands left behind a unit.
+    #[inline]
     pub fn after(self, text: &[u8], at: usize, unit: &Unit<'_>) -> Self
         requires within { self.begun ≤ at }
         requires stands { StandsAt text.now at (unit_of unit.now) }
@@ -284,6 +291,7 @@ impl Left {
     }
 
     /// How many bytes the line has behind a unit, without the blanks and continuations that it begins with.
+    #[inline]
     fn begun_after(self, unit: &Unit<'_>) -> usize
         requires { self.begun + length (text_of (unit_of unit.now)) < 2 ^ 64 }
         ensures { result
@@ -297,6 +305,7 @@ impl Left {
     }
 
     /// Whether an ID may begin behind a unit.
+    #[inline]
     fn item_after(self, text: &[u8], at: usize, unit: &Unit<'_>) -> bool
         requires within { self.begun ≤ at }
         requires inside { at ≤ length text.now }
