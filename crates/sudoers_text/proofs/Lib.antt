@@ -22,3 +22,4 @@ pub mod Forms
 pub mod TokenLists
 pub mod Values
 pub mod Standing
+pub mod Reached

@@ -23,7 +23,7 @@ passed_past (suc k) units [] = refl
 passed_past (suc k) units (b ∷ bytes) = passed_past k units bytes
 
 -- what a plain unit leaves of the bytes
-plain_front : (b : ℕ) (rest : List ℕ) → (after : List ℕ) × ((b ∷ rest) ≡ text_of (plain_unit b rest) ++ after)
+pub plain_front : (b : ℕ) (rest : List ℕ) → (after : List ℕ) × ((b ∷ rest) ≡ text_of (plain_unit b rest) ++ after)
 plain_front b rest = by_test (b == 92) refl
   where
     by_test : (t : Bool) → (b == 92) ≡ t → (after : List ℕ) × ((b ∷ rest) ≡ text_of (if t then escaped rest else Byte b) ++ after)

@@ -36,7 +36,7 @@ one_steady test = record { within = one_within test; stable = one_stable test; o
 -- ---- what a backslash begins
 
 -- what may stand behind a backslash
-by_escape : (P : List ℕ → Type 0) → P [] → ((more : List ℕ) → P (10 ∷ more)) → ((more : List ℕ) → P (13 ∷ 10 ∷ more)) → ((more : List ℕ) → begins_lf more ≡ false → P (13 ∷ more)) → ((c : ℕ) (more : List ℕ) → (c == 10) ≡ false → (c == 13) ≡ false → P (c ∷ more)) → (rest : List ℕ) → P rest
+pub by_escape : (P : List ℕ → Type 0) → P [] → ((more : List ℕ) → P (10 ∷ more)) → ((more : List ℕ) → P (13 ∷ 10 ∷ more)) → ((more : List ℕ) → begins_lf more ≡ false → P (13 ∷ more)) → ((c : ℕ) (more : List ℕ) → (c == 10) ≡ false → (c == 13) ≡ false → P (c ∷ more)) → (rest : List ℕ) → P rest
 by_escape P none lf crlf cr other [] = none
 by_escape P none lf crlf cr other (c ∷ more) =
     elim (eqb_tells c 10) [
@@ -68,7 +68,7 @@ record Measure (size : LineUnit → ℕ) : Type 0 where
 other_line : (c : ℕ) (more : List ℕ) → (c == 10) ≡ false → (c == 13) ≡ false → begins_line_end (c ∷ more) ≡ false
 other_line c more e f = rw e (rw f refl)
 
-other_escaped : (c : ℕ) (more : List ℕ) → (c == 10) ≡ false → (c == 13) ≡ false → escaped (c ∷ more) ≡ Pair c
+pub other_escaped : (c : ℕ) (more : List ℕ) → (c == 10) ≡ false → (c == 13) ≡ false → escaped (c ∷ more) ≡ Pair c
 other_escaped c more e f = ap (λ (t : Bool). if t then Continuation (c == 13) else Pair c) (other_line c more e f)
 
 cr_escaped : (more : List ℕ) → begins_lf more ≡ false → escaped (13 ∷ more) ≡ Pair 13

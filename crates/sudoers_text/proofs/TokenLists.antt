@@ -1,7 +1,7 @@
 -- A line has one list of tokens: the one that is computed.
 use Rattle.std.proofs.Common.{◌≡◌, ◌⊎◌, inl, inr, ℕ, zero, suc, ◌+◌, ◌-◌, ◌≤◌, ◌<◌, Bool, true, false, List, [], ◌∷◌, ◌++◌, length, take, drop, refl, sym, ap, subst, ◌∙◌, arith}
 use Rattle.std.specs.Prelude.{◌==◌, ◌&&◌, if◌then◌else◌, nat_lt}
-use Rattle.std.proofs.lemmas.List.{length-drop}
+use Rattle.std.proofs.lemmas.List.{length-drop, drop_all}
 use Rattle.std.proofs.lemmas.Bool.Decides.{nat_tests}
 use Rattle.sudoers_text.specs.declared.token.TokenKind.{TokenKind}
 use Rattle.sudoers_text.specs.declared.token.TokenKind.TheVariants as kind
@@ -13,7 +13,7 @@ use Rattle.sudoers_text.specs.Unit.{LineUnit, begins_item, begun, is_empty}
 use Rattle.sudoers_text.specs.Part.{reach, run_size, open_size, quoted_size}
 use Rattle.sudoers_text.specs.Piece.{Form, kind_of, is_piece}
 use Rattle.sudoers_text.specs.Context.{forms, behind}
-use Rattle.sudoers_text.specs.Token.{IsLongest, NoneBegins, IsToken, bad_size, passed, gap_size, is_end, AreTokens, HasTokens}
+use Rattle.sudoers_text.specs.Token.{IsLongest, NoneBegins, IsToken, bad_size, units_left, next_start, is_end, AreTokens, HasTokens}
 use Rattle.sudoers_text.specs.Found.{size_of, found, found_behind, tokens_from, tokens_of}
 use Rattle.sudoers_text.proofs.Sizes.{some_positive}
 use Rattle.sudoers_text.proofs.Forms.{IsSize, is_size}
@@ -63,66 +63,66 @@ found_some (form ∷ others) before (b ∷ rest) h =
 -- ---- lists of tokens
 
 -- One token more stands before others.
-pub one_more : (here : Context) (before : List LineUnit) (at : ℕ) (bytes : List ℕ) (k : TokenKind) (size : ℕ) (ts : List Token) → is_end (drop (gap_size bytes) bytes) ≡ false → (k, size) ≡ found_behind (forms here) (passed before (take (gap_size bytes) bytes)) (drop (gap_size bytes) bytes)
-    → AreTokens (behind here k (take size (drop (gap_size bytes) bytes)) (drop size (drop (gap_size bytes) bytes))) (passed (passed before (take (gap_size bytes) bytes)) (take size (drop (gap_size bytes) bytes))) (at + gap_size bytes + size) (drop size (drop (gap_size bytes) bytes)) ts
-    → AreTokens here before at bytes (record { kind = k; start = at + gap_size bytes; stop = at + gap_size bytes + size } ∷ ts)
-one_more here before at bytes k size ts more is later =
-    let gap = gap_size bytes in
-    let body = drop gap bytes in
-    let left = passed before (take gap bytes) in
-    let some : 0 < size = subst (λ (p : TokenKind × ℕ). 0 < p.1) (sym is) (found_some (forms here) left body more) in
-    let token : IsToken (forms here) left body k size = subst (λ (p : TokenKind × ℕ). IsToken (forms here) left body p.0 p.1) (sym is) (found_is (forms here) left body) in
-    let same : size ≡ at + gap + size - (at + gap) = omega arith in (
+pub one_more : (here : Context) (line : List ℕ) (at start : ℕ) (k : TokenKind) (size : ℕ) (ts : List Token) → start ≡ next_start line at → is_end (drop start line) ≡ false → (k, size) ≡ found_behind (forms here) (units_left line start) (drop start line)
+    → AreTokens (behind here k (take size (drop start line)) (drop size (drop start line))) line (start + size) ts → AreTokens here line at (record { kind = k; start = start; stop = start + size } ∷ ts)
+one_more here line at start k size ts here_is more is later =
+    let body = drop start line in
+    let units = units_left line start in
+    let some : 0 < size = subst (λ (p : TokenKind × ℕ). 0 < p.1) (sym is) (found_some (forms here) units body more) in
+    let token : IsToken (forms here) units body k size = subst (λ (p : TokenKind × ℕ). IsToken (forms here) units body p.0 p.1) (sym is) (found_is (forms here) units body) in
+    let same : size ≡ start + size - start = omega arith in (
+      here_is,
       more,
-      refl,
       omega (arith, some),
-      subst (λ (n : ℕ). IsToken (forms here) left body k n) same token,
-      subst (λ (n : ℕ). AreTokens (behind here k (take n body) (drop n body)) (passed left (take n body)) (at + gap + size) (drop n body) ts) same later,
+      subst (λ (n : ℕ). IsToken (forms here) units body k n) same token,
+      subst (λ (n : ℕ). AreTokens (behind here k (take n body) (drop n body)) line (start + size) ts) same later,
     )
 
 -- by whether anything is left
-from_next : (here : Context) (before : List LineUnit) (at : ℕ) (bytes : List ℕ) (t : Bool) (found : TokenKind × ℕ) (ts : List Token) → is_end (drop (gap_size bytes) bytes) ≡ t → found ≡ found_behind (forms here) (passed before (take (gap_size bytes) bytes)) (drop (gap_size bytes) bytes)
-    → (t ≡ false → AreTokens (behind here found.0 (take found.1 (drop (gap_size bytes) bytes)) (drop found.1 (drop (gap_size bytes) bytes))) (passed (passed before (take (gap_size bytes) bytes)) (take found.1 (drop (gap_size bytes) bytes))) (at + gap_size bytes + found.1) (drop found.1 (drop (gap_size bytes) bytes)) ts)
-    → AreTokens here before at bytes (if t then [] else record { kind = found.0; start = at + gap_size bytes; stop = at + gap_size bytes + found.1 } ∷ ts)
-from_next here before at bytes true found ts e is later = e
-from_next here before at bytes false found ts e is later = one_more here before at bytes found.0 found.1 ts e is (later refl)
+from_next : (here : Context) (line : List ℕ) (at start : ℕ) (t : Bool) (found : TokenKind × ℕ) (ts : List Token) → start ≡ next_start line at → is_end (drop start line) ≡ t → found ≡ found_behind (forms here) (units_left line start) (drop start line)
+    → (t ≡ false → AreTokens (behind here found.0 (take found.1 (drop start line)) (drop found.1 (drop start line))) line (start + found.1) ts)
+    → AreTokens here line at (if t then [] else record { kind = found.0; start = start; stop = start + found.1 } ∷ ts)
+from_next here line at start true found ts here_is e is later = ap (λ (n : ℕ). is_end (drop n line)) (sym here_is) ∙ e
+from_next here line at start false found ts here_is e is later = one_more here line at start found.0 found.1 ts here_is e is (later refl)
 
-found_from : (n : ℕ) (here : Context) (before : List LineUnit) (at : ℕ) (bytes : List ℕ) → length bytes ≤ n → AreTokens here before at bytes (tokens_from n here before at bytes)
-unfolding tokens_from run_size
-found_from zero here before at [] h = refl
-found_from zero here before at (b ∷ bytes) h = absurd (omega arith)
-found_from (suc n) here before at bytes h =
-    let gap = gap_size bytes in
-    let body = drop gap bytes in
-    let left = passed before (take gap bytes) in
-    let found = found_behind (forms here) left body in
-    from_next here before at bytes (is_end body) found
-    (tokens_from n (behind here found.0 (take found.1 body) (drop found.1 body)) (passed left (take found.1 body)) (at + gap + found.1) (drop found.1 body))
-    refl refl (λ more.
-    let some = found_some (forms here) left body more in
-    found_from n (behind here found.0 (take found.1 body) (drop found.1 body)) (passed left (take found.1 body)) (at + gap + found.1) (drop found.1 body)
-    (omega (arith, h, some, length-drop found.1 body, length-drop gap bytes)))
+-- nothing is left behind the end
+end_there : (line : List ℕ) (at : ℕ) → length line ≤ at → is_end (drop (next_start line at) line) ≡ true
+end_there line at past = ap is_end (drop_all (next_start line at) line (omega arith))
+
+found_from : (n : ℕ) (here : Context) (line : List ℕ) (at : ℕ) → length line - at ≤ n → AreTokens here line at (tokens_from n here line at)
+unfolding tokens_from
+found_from zero here line at h = end_there line at (omega arith)
+found_from (suc n) here line at h =
+    let start = next_start line at in
+    let body = drop start line in
+    let found = found_behind (forms here) (units_left line start) body in
+    from_next here line at start (is_end body) found
+    (tokens_from n (behind here found.0 (take found.1 body) (drop found.1 body)) line (start + found.1))
+    refl refl refl (λ more.
+    let some = found_some (forms here) (units_left line start) body more in
+    found_from n (behind here found.0 (take found.1 body) (drop found.1 body)) line (start + found.1) (omega (arith, h, some)))
 
 pub tokens_are : (m : Mode) (line : List ℕ) → HasTokens m line (tokens_of m line)
 unfolding tokens_of
-tokens_are m line = found_from (length line) (context.First m) [] 0 line (omega arith)
+tokens_are m line = found_from (length line) (context.First m) line 0 (omega arith)
 
-same_tokens : (ts us : List Token) (here : Context) (before : List LineUnit) (at : ℕ) (bytes : List ℕ) → AreTokens here before at bytes ts → AreTokens here before at bytes us → ts ≡ us
-same_tokens [] [] here before at bytes x y = refl
-same_tokens [] (u ∷ us) here before at bytes x y = absurd (cc)
-same_tokens (t ∷ ts) [] here before at bytes x y = absurd (cc)
-same_tokens (t ∷ ts) (u ∷ us) here before at bytes x y =
-    let body = drop (gap_size bytes) bytes in
-    let left = passed before (take (gap_size bytes) bytes) in
-    let same = one_token (forms here) left body t.kind u.kind (t.stop - t.start) (u.stop - u.start) x.3 y.3 in
-    let starts : t.start ≡ u.start = x.1 ∙ sym y.1 in
+same_tokens : (ts us : List Token) (here : Context) (line : List ℕ) (at : ℕ) → AreTokens here line at ts → AreTokens here line at us → ts ≡ us
+same_tokens [] [] here line at x y = refl
+same_tokens [] (u ∷ us) here line at x y = absurd (let other : is_end (drop (next_start line at) line) ≡ false = ap (λ (n : ℕ). is_end (drop n line)) (sym y.0) ∙ y.1 in cc)
+same_tokens (t ∷ ts) [] here line at x y = absurd (let other : is_end (drop (next_start line at) line) ≡ false = ap (λ (n : ℕ). is_end (drop n line)) (sym x.0) ∙ x.1 in cc)
+same_tokens (t ∷ ts) (u ∷ us) here line at x y =
+    let body = drop t.start line in
+    let size = t.stop - t.start in
+    let starts : t.start ≡ u.start = x.0 ∙ sym y.0 in
+    let mine : IsToken (forms here) (units_left line t.start) body u.kind (u.stop - u.start) =
+    subst (λ (n : ℕ). IsToken (forms here) (units_left line n) (drop n line) u.kind (u.stop - u.start)) (sym starts) y.3 in
+    let same = one_token (forms here) (units_left line t.start) body t.kind u.kind size (u.stop - u.start) x.3 mine in
     let stops : t.stop ≡ u.stop = omega (arith, x.2, y.2, starts, same.1) in
     let tokens : u ≡ t = λ j. record { kind = sym same.0 j; start = sym starts j; stop = sym stops j } in
-    let after : AreTokens (behind here t.kind (take (t.stop - t.start) body) (drop (t.stop - t.start) body)) (passed left (take (t.stop - t.start) body)) t.stop (drop (t.stop - t.start) body) us =
-    subst (λ (v : Token). AreTokens (behind here v.kind (take (v.stop - v.start) body) (drop (v.stop - v.start) body)) (passed left (take (v.stop - v.start) body)) v.stop (drop (v.stop - v.start) body) us) tokens y.4 in
+    let after : AreTokens (behind here t.kind (take size body) (drop size body)) line t.stop us =
+    subst (λ (v : Token). AreTokens (behind here v.kind (take (v.stop - v.start) (drop v.start line)) (drop (v.stop - v.start) (drop v.start line))) line v.stop us) tokens y.4 in
     ap (λ (v : Token). v ∷ ts) (sym tokens)
-    ∙ ap (λ (vs : List Token). u ∷ vs)
-    (same_tokens ts us (behind here t.kind (take (t.stop - t.start) body) (drop (t.stop - t.start) body)) (passed left (take (t.stop - t.start) body)) t.stop (drop (t.stop - t.start) body) x.4 after)
+    ∙ ap (λ (vs : List Token). u ∷ vs) (same_tokens ts us (behind here t.kind (take size body) (drop size body)) line t.stop x.4 after)
 
 pub one_token_list : (m : Mode) (line : List ℕ) (ts us : List Token) → HasTokens m line ts → HasTokens m line us → ts ≡ us
-one_token_list m line ts us x y = same_tokens ts us (context.First m) [] 0 line x y
+one_token_list m line ts us x y = same_tokens ts us (context.First m) line 0 x y

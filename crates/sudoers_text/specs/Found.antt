@@ -13,7 +13,7 @@ use Rattle.sudoers_text.specs.Unit.{LineUnit, begins_item, begun, is_empty, begi
 use Rattle.sudoers_text.specs.Part.{begins_with, one_if, or_else, run_size, quoted_size, whole_size, broken_size}
 use Rattle.sudoers_text.specs.Piece.{Form, Mark, Operator, Number, NonUnixGroup, Run, CommandPath, QuotedPart, CommentPart, IncludeWord, FirstWord, Argument, QuotedRest, kind_of, operator_size, first_word_size, quoted_rest_size}
 use Rattle.sudoers_text.specs.Context.{forms, behind}
-use Rattle.sudoers_text.specs.Token.{bad_size, passed, gap_size, is_end}
+use Rattle.sudoers_text.specs.Token.{bad_size, units_left, next_start, is_end}
 
 -- with this many bytes before it, where there is any
 abbrev pub behind_prefix : ℕ → ℕ → ℕ
@@ -85,17 +85,16 @@ abbrev pub found_behind : List Form → List LineUnit → List ℕ → TokenKind
 found_behind fs before bytes = found fs (begins_item before) (is_empty (begun before)) bytes
 
 -- the tokens from a place on, no more than so many
-unfoldable pub tokens_from : ℕ → Context → List LineUnit → ℕ → List ℕ → List Token
-tokens_from zero here before at bytes = []
-tokens_from (suc most) here before at bytes =
-    let gap = gap_size bytes in
-    let body = drop gap bytes in
-    let left = passed before (take gap bytes) in
-    let token = found_behind (forms here) left body in
+unfoldable pub tokens_from : ℕ → Context → List ℕ → ℕ → List Token
+tokens_from zero here line at = []
+tokens_from (suc most) here line at =
+    let start = next_start line at in
+    let body = drop start line in
+    let token = found_behind (forms here) (units_left line start) body in
     if is_end body then []
-    else record { kind = token.0; start = at + gap; stop = at + gap + token.1 }
-    ∷ tokens_from most (behind here token.0 (take token.1 body) (drop token.1 body)) (passed left (take token.1 body)) (at + gap + token.1) (drop token.1 body)
+    else record { kind = token.0; start = start; stop = start + token.1 }
+    ∷ tokens_from most (behind here token.0 (take token.1 body) (drop token.1 body)) line (start + token.1)
 
 -- the tokens of a line
 unfoldable pub tokens_of : Mode → List ℕ → List Token
-tokens_of m line = tokens_from (length line) (context.First m) [] 0 line
+tokens_of m line = tokens_from (length line) (context.First m) line 0

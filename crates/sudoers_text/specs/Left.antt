@@ -1,5 +1,5 @@
 -- A device of the proof, which no public contract cites: what the code keeps of the units left of a place.
-use Rattle.std.specs.Prelude.{◌≡◌, ◌≤◌, ◌-◌, ◌==◌, ℕ, List, ◌++◌, ◌+◌, drop, length, slice_range, Option, Some, None}
+use Rattle.std.specs.Prelude.{◌≡◌, ◌≤◌, ◌-◌, ◌==◌, ◌||◌, not, ℕ, Bool, true, false, List, [], ◌∷◌, ◌++◌, ◌+◌, drop, length, slice_range, Option, Some, None}
 use Rattle.sudoers_text.specs.Unit.{LineUnit, Continuation, Pair, Quoted, Comment, Byte, text_of, begins_item, begun, is_empty}
 use Rattle.sudoers_text.specs.Line.{is_open}
 use Rattle.sudoers_text.specs.declared.unit.Left.{Left}
@@ -35,3 +35,14 @@ pub record Knows (text : List ℕ) (at : ℕ) (left : Left) (before : List LineU
 pub record StandsAt (text : List ℕ) (at : ℕ) (unit : LineUnit) : Type 0 where
   pub inside : at ≤ length text
   pub reads : drop at text ≡ text_of unit ++ drop (at + length (text_of unit)) text
+
+-- the last byte is neither a backslash nor a CR, so that it is the last of a unit whatever follows
+abbrev pub ends_apart : List ℕ → Bool
+ends_apart [] = true
+ends_apart (b ∷ []) = not (b == 92 || b == 13)
+ends_apart (b ∷ c ∷ rest) = ends_apart (c ∷ rest)
+
+-- `#` or `%` begins the bytes
+abbrev pub begins_sign : List ℕ → Bool
+begins_sign [] = false
+begins_sign (b ∷ rest) = b == 35 || b == 37

@@ -39,8 +39,7 @@ IsToken (form ∷ others) before bytes k size =
 abbrev pub plain_unit : ℕ → List ℕ → LineUnit
 plain_unit b rest = if b == 92 then escaped rest else Byte b
 
--- The units before, and behind them those of the bytes; k bytes of the first are still to pass. A quoted part or comment is
--- read by its bytes: its last one tells as well what may stand behind it.
+-- The units before, and behind them those of the bytes; k bytes of the first are still to pass.
 abbrev pub passed_from : ℕ → List LineUnit → List ℕ → List LineUnit
 passed_from k before [] = before
 passed_from (suc k) before (b ∷ rest) = passed_from k before rest
@@ -48,6 +47,10 @@ passed_from zero before (b ∷ rest) = passed_from (length (text_of (plain_unit 
 
 abbrev pub passed : List LineUnit → List ℕ → List LineUnit
 passed before bytes = passed_from 0 before bytes
+
+-- What stands left of a place. Quoted parts and comments are read by their bytes: going left nothing is reached past the last.
+abbrev pub units_left : List ℕ → ℕ → List LineUnit
+units_left line at = passed [] (take at line)
 
 -- how many blanks and continuations the bytes begin with, in bytes
 abbrev pub gap_size : List ℕ → ℕ
@@ -57,21 +60,24 @@ gap_size bytes = run_size rule.Gap bytes
 abbrev pub is_end : List ℕ → Bool
 is_end bytes = line_end_size bytes == length bytes
 
--- From this place on, behind these units, the bytes are cut into these tokens: blanks, continuations and the line end give
--- none, and each begins with what follows the token before it.
-abbrev pub AreTokens : Context → List LineUnit → ℕ → List ℕ → List Token → Type 0
-AreTokens here before at bytes [] = is_end (drop (gap_size bytes) bytes) ≡ true
-AreTokens here before at bytes (t ∷ ts) =
-    let gap = gap_size bytes in
-    let body = drop gap bytes in
+-- where a token begins that is the next one from a place on
+abbrev pub next_start : List ℕ → ℕ → ℕ
+next_start line at = at + gap_size (drop at line)
+
+-- From this place of the line on stand these tokens: blanks, continuations and the line end give none; what may stand at
+-- each goes by the token before it.
+abbrev pub AreTokens : Context → List ℕ → ℕ → List Token → Type 0
+AreTokens here line at [] = is_end (drop (next_start line at) line) ≡ true
+AreTokens here line at (t ∷ ts) =
+    let body = drop t.start line in
     let size = t.stop - t.start in
-    let left = passed before (take gap bytes) in
-    (is_end body ≡ false) × (t.start ≡ at + gap) × (t.start < t.stop) × IsToken (forms here) left body t.kind size
-    × AreTokens (behind here t.kind (take size body) (drop size body)) (passed left (take size body)) t.stop (drop size body) ts
+    (t.start ≡ next_start line at) × (is_end body ≡ false) × (t.start < t.stop)
+    × IsToken (forms here) (units_left line t.start) body t.kind size
+    × AreTokens (behind here t.kind (take size body) (drop size body)) line t.stop ts
 
 -- The line has these tokens in this mode.
 abbrev pub HasTokens : Mode → List ℕ → List Token → Type 0
-HasTokens m line tokens = AreTokens (context.First m) [] 0 line tokens
+HasTokens m line tokens = AreTokens (context.First m) line 0 tokens
 
 -- a part of a line of this length, that is not empty
 abbrev pub IsWithin : ℕ → Token → Type 0

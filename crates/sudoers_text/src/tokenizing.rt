@@ -1,11 +1,12 @@
 //! The tokens of a line.
 
-ghost use Rattle.std.specs.Prelude.{◌≡◌, ◌≤◌, ◌<◌, ◌+◌, ◌∷◌, ◌-◌, ◌==◌, ℕ, List, [], length, drop, slice_range, true, false, IfOk, IfErr, IfSome, IfNone, All};
+ghost use Rattle.std.specs.Prelude.{◌≡◌, ◌≤◌, ◌<◌, ◌+◌, ◌∷◌, ◌-◌, ◌==◌, ◌||◌, not, ℕ, List, [], length, drop, slice_range, true, false, IfOk, IfErr, IfSome, IfNone, All};
 ghost use Rattle.sudoers_text.specs.declared.token.Token.{Token as TokenOf};
 ghost use Rattle.sudoers_text.specs.Unit.{LineUnit, line_end_size};
-ghost use Rattle.sudoers_text.specs.Left.{Knows, unit_of};
-ghost use Rattle.sudoers_text.specs.Token.{plain_unit, passed, gap_size, is_end, HasTokens, IsWithin};
-ghost use Rattle.sudoers_text.specs.Found.{tokens_of};
+ghost use Rattle.sudoers_text.specs.Left.{Knows, unit_of, ends_apart, begins_sign};
+ghost use Rattle.sudoers_text.specs.Piece.{Form};
+ghost use Rattle.sudoers_text.specs.Token.{plain_unit, passed, units_left, next_start, is_end, HasTokens, IsWithin};
+ghost use Rattle.sudoers_text.specs.Found.{found, found_behind, tokens_of};
 
 use crate::context::Context;
 use crate::fault::TextFault;
@@ -36,10 +37,10 @@ fn is_end(bytes: &[u8]) -> bool
 
 /// Where the next token begins. None does where only blanks, continuations and the line end are left.
 #[inline(always)]
-fn next_start(line: &[u8], at: usize) -> Option<usize>
+fn token_start(line: &[u8], at: usize) -> Option<usize>
     requires { at ≤ length line.now }
-    ensures some { IfSome result (λ start. (start ≡ at + gap_size (drop at line.now)) × (is_end (drop start line.now) ≡ false)) }
-    ensures none { IfNone result (is_end (drop (at + gap_size (drop at line.now)) line.now) ≡ true) }
+    ensures some { IfSome result (λ start. (start ≡ next_start line.now at) × (is_end (drop start line.now) ≡ false)) }
+    ensures none { IfNone result (is_end (drop (next_start line.now at) line.now) ≡ true) }
 {
     let start = at + run_len(Rule::Gap, &line[at..]);
     if is_end(&line[start..]) {
@@ -74,6 +75,83 @@ impl Left {
     }
 }
 
+/// Whether it is neither a backslash nor a CR.
+fn is_apart(byte: u8) -> bool
+    ensures { result ≡ not (byte == 92 || byte == 13) }
+{
+    !matches!(byte, b'\\' | b'\r')
+}
+
+/// Whether the last byte is neither a backslash nor a CR.
+fn ends_apart(text: &[u8]) -> bool
+    ensures { result ≡ ends_apart text.now }
+{
+    match text.last() {
+        Some(last) => is_apart(*last),
+        None => true,
+    }
+}
+
+/// Whether `#` or `%` begins the bytes.
+fn begins_sign(bytes: &[u8]) -> bool
+    ensures { result ≡ begins_sign bytes.now }
+{
+    matches!(bytes, [b'#' | b'%', ..])
+}
+
+/// What stands left of a place of a line.
+#[derive(Clone, Copy)]
+struct Reached {
+    left: Left,
+    at: usize,
+}
+
+impl Reached {
+    /// Nothing stands left of a line's beginning.
+    fn beginning() -> Self
+        ensures place { result.at ≡ 0 }
+        ensures knows { (line : List ℕ) → Knows line result.at result.left (units_left line result.at) }
+    {
+        Reached {
+            left: Left::nothing(),
+            at: 0,
+        }
+    }
+
+    /// What stands left of a later place. It goes on from here, but where a backslash or a CR might be part of a longer unit.
+    fn to(self, line: &[u8], at: usize) -> Self
+        requires below { self.at ≤ at }
+        requires inside { at ≤ length line.now }
+        requires knows { Knows line.now self.at self.left (units_left line.now self.at) }
+        ensures place { result.at ≡ at }
+        ensures knows { Knows line.now at result.left (units_left line.now at) }
+    {
+        let left = if ends_apart(&line[..self.at]) {
+            self.left.past(line, self.at, at)
+        } else {
+            Left::nothing().past(line, 0, at)
+        };
+        Reached { left, at }
+    }
+
+    /// The same, unless what stands there does not ask for it: `#` and `%` alone do.
+    fn for_token(self, line: &[u8], start: usize) -> Self
+        requires below { self.at ≤ start }
+        requires inside { start ≤ length line.now }
+        requires knows { Knows line.now self.at self.left (units_left line.now self.at) }
+        ensures place { result.at ≤ start }
+        ensures knows { Knows line.now result.at result.left (units_left line.now result.at) }
+        ensures found { (fs : List Form) → found fs result.left.item (result.left.begun == 0) (drop start line.now)
+            ≡ found_behind fs (units_left line.now start) (drop start line.now) }
+    {
+        if begins_sign(&line[start..]) {
+            self.to(line, start)
+        } else {
+            self
+        }
+    }
+}
+
 /// The tokens of a line: each is the longest piece that may stand in its place, and between them stand only blanks and
 /// continuations, and at the end the line end (sudoers(5), SUDOERS FILE FORMAT).
 ///
@@ -92,11 +170,11 @@ pub fn tokens(alloc: Global, line: &[u8], mode: Mode) -> Result<Vec<Token>, Text
 {
     let mut tokens = Vec::with_capacity(alloc, line.len() / 4)?;
     let mut here = Context::First(mode);
-    let mut left = Left::nothing();
+    let mut reached = Reached::beginning();
     let mut at = 0;
-    while let Some(start) = next_start(line, at) {
-        let before = left.past(line, at, start);
-        let piece = here.piece(before, &line[start..]);
+    while let Some(start) = token_start(line, at) {
+        reached = reached.for_token(line, start);
+        let piece = here.piece(reached.left, &line[start..]);
         at = start + piece.len;
         tokens.push(Token {
             kind: piece.kind,
@@ -104,7 +182,6 @@ pub fn tokens(alloc: Global, line: &[u8], mode: Mode) -> Result<Vec<Token>, Text
             stop: at,
         })?;
         here = here.behind(piece.kind, &line[start..at], &line[at..]);
-        left = before.past(line, start, at);
     }
     Ok(tokens)
 }

@@ -7,3 +7,27 @@ mod faults;
 mod given;
 #[cfg(test)]
 mod lines;
+#[cfg(test)]
+mod tokens_bad;
+#[cfg(test)]
+mod tokens_commands;
+#[cfg(test)]
+mod tokens_given;
+#[cfg(test)]
+mod tokens_ids;
+#[cfg(test)]
+mod tokens_includes;
+#[cfg(test)]
+mod tokens_lines;
+#[cfg(test)]
+mod tokens_options;
+#[cfg(test)]
+mod tokens_parameters;
+#[cfg(test)]
+mod tokens_scopes;
+#[cfg(test)]
+mod tokens_tags;
+#[cfg(test)]
+mod tokens_words;
+#[cfg(test)]
+mod words;

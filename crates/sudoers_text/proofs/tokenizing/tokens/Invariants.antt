@@ -1,9 +1,15 @@
-use Rattle.std.proofs.Common.{◌-◌, length}
+use Rattle.std.proofs.Common.{◌-◌, ◌≤◌, length}
+use Rattle.sudoers_text.specs.Left.{Knows}
+use Rattle.sudoers_text.specs.Token.{units_left}
 use Rattle.sudoers_text.proofs.Standing.{Standing}
 use Rattle.sudoers_text.proofs.tokenizing.tokens.Given as goal
 
 abbrev pub invariant-loop-start : goal.invariant-loop-start
-invariant-loop-start l = Standing l.fn.mode l.line l.here l.left l.at l.tokens.items
+invariant-loop-start l = record {
+  standing : Standing l.fn.mode l.line l.here l.at l.tokens.items;
+  below : l.reached.at ≤ l.at;
+  knows : Knows l.line l.reached.at l.reached.left (units_left l.line l.reached.at);
+}
 
 abbrev pub decreases-loop-start : goal.decreases-loop-start
 decreases-loop-start l = length l.line - l.at
