@@ -76,6 +76,7 @@ impl Left {
 }
 
 /// Whether it is neither a backslash nor a CR.
+#[inline(always)]
 fn is_apart(byte: u8) -> bool
     ensures { result ≡ not (byte == 92 || byte == 13) }
 {
@@ -93,6 +94,7 @@ fn ends_apart(text: &[u8]) -> bool
 }
 
 /// Whether `#` or `%` begins the bytes.
+#[inline(always)]
 fn begins_sign(bytes: &[u8]) -> bool
     ensures { result ≡ begins_sign bytes.now }
 {
@@ -135,6 +137,7 @@ impl Reached {
     }
 
     /// The same, unless what stands there does not ask for it: `#` and `%` alone do.
+    #[inline(always)]
     fn for_token(self, line: &[u8], start: usize) -> Self
         requires below { self.at ≤ start }
         requires inside { start ≤ length line.now }
