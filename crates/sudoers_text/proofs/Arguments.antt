@@ -1,17 +1,17 @@
 -- The argument that is found is the longest.
 use Rattle.std.proofs.Common.{◌≡◌, ◌⊎◌, inl, inr, ℕ, zero, suc, ◌+◌, ◌-◌, ◌≤◌, ◌<◌, Bool, true, false, ◌&&◌, ◌||◌, not, List, [], ◌∷◌, ◌++◌, length, take, drop, refl, sym, ap, subst, ◌∙◌, arith}
 use Rattle.std.specs.Prelude.{◌==◌, if◌then◌else◌, nat_lt}
-use Rattle.std.proofs.lemmas.List.{length-append, length-drop, length-take-le, take-append-drop, drop_all}
+use Rattle.std.proofs.lemmas.List.{length-drop, length-take-le, take-append-drop, drop_all}
 use Rattle.std.proofs.lemmas.Bool.{eqb-true}
 use Rattle.std.proofs.lemmas.Bool.Decides.{nat_tests}
 use Rattle.sudoers_text.specs.declared.part.Rule.TheVariants as rule
-use Rattle.sudoers_text.specs.Part.{or_else, unit_size, reach, run_size, begins_with, between_quotes, quoted_size, argument_unit, whole_size, broken_size}
+use Rattle.sudoers_text.specs.Part.{unit_size, reach, run_size, between_quotes, quoted_size, argument_unit, whole_size, broken_size}
 use Rattle.sudoers_text.specs.Piece.{is_argument}
 use Rattle.sudoers_text.specs.Found.{argument_size}
 use Rattle.sudoers_text.proofs.Units.{and_parts}
 use Rattle.sudoers_text.proofs.Reach.{chosen_within, reach_within, run_within, whole_within, front_ends}
 use Rattle.sudoers_text.proofs.Steady.{unit_steady, run_split, longest, whole, take_more}
-use Rattle.sudoers_text.proofs.Sizes.{Quotes, quotes_or_none, argument_steady, positive, some_positive, eq_same, both}
+use Rattle.sudoers_text.proofs.Sizes.{quotes_or_none, argument_steady, positive, some_positive, eq_same, both}
 
 -- a quoted part with a `,`, `:` or `=` in it begins the bytes
 record Broken (bytes : List ℕ) : Type 0 where

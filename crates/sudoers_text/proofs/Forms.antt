@@ -1,20 +1,17 @@
 -- Each form's computed size is that of its longest piece.
-use Rattle.std.proofs.Common.{◌≡◌, ◌⊎◌, inl, inr, ℕ, zero, suc, ◌+◌, ◌-◌, ◌≤◌, ◌<◌, Bool, true, false, ◌&&◌, ◌||◌, List, [], ◌∷◌, ◌++◌, length, take, drop, refl, sym, ap, subst, ◌∙◌, arith}
+use Rattle.std.proofs.Common.{◌≡◌, ℕ, zero, suc, ◌+◌, ◌≤◌, ◌<◌, Bool, true, false, ◌&&◌, ◌||◌, List, [], ◌∷◌, length, take, drop, refl, sym, ap, subst, ◌∙◌, arith}
 use lib.Pointwise.{pointwise_long}
 use Rattle.std.specs.Prelude.{◌==◌, if◌then◌else◌, nat_lt, nat_eq}
 use Rattle.std.specs.List.{starts_with}
-use Rattle.std.proofs.lemmas.List.{length-append, length-drop, length-take-le, take_at, drop_at, take-append-drop, append_assoc}
 use Rattle.std.proofs.lemmas.Bool.{eqb-true}
-use Rattle.std.proofs.lemmas.Bool.Decides.{eqb_tells, nat_tests}
-use Rattle.sudoers_text.specs.declared.part.Rule.{Rule}
 use Rattle.sudoers_text.specs.declared.part.Rule.TheVariants as rule
 use Rattle.sudoers_text.specs.Unit.{LineUnit, Byte, begins_item, begun, is_empty, begins_comment, names_include, up_to_line_end, includedir_word, include_word, has_path, defaults_word}
-use Rattle.sudoers_text.specs.Part.{one_if, unit_size, reach, run_size, is_run, is_some_run, begins_with, between_quotes, quoted_size, argument_unit, whole_size, broken_size}
+use Rattle.sudoers_text.specs.Part.{one_if, run_size, is_some_run, begins_with, quoted_size}
 use Rattle.sudoers_text.specs.Piece.{Form, Mark, Operator, Number, NonUnixGroup, Run, CommandPath, QuotedPart, CommentPart, IncludeWord, FirstWord, Argument, QuotedRest, is_piece, is_hash_number, is_colon_number, is_number, is_colon_word, is_group_word, operator_size, comment_size, include_size, first_word_size, quoted_rest_size, begins_scope, is_argument}
 use Rattle.sudoers_text.specs.Word.{is_among, at_includes}
 use Rattle.sudoers_text.specs.Found.{behind_prefix, hash_number_size, colon_number_size, number_size, colon_word_size, group_size, command_path_size, comment_at, include_at, argument_size, size_of}
 use Rattle.sudoers_text.proofs.Units.{and_parts}
-use Rattle.sudoers_text.proofs.Reach.{chosen_within, both_within, run_within, between_within, whole_within, begins_inside, up_within}
+use Rattle.sudoers_text.proofs.Reach.{chosen_within, run_within, between_within, begins_inside, up_within}
 use Rattle.sudoers_text.proofs.Arguments.{argument_piece}
 use Rattle.sudoers_text.proofs.Sizes.{PieceSize, none_size, same_size, run_piece, positive, some_positive, eq_same, both}
 

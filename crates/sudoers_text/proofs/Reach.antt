@@ -1,12 +1,10 @@
 -- Units lie within the bytes; how far they go, one after another.
-use Rattle.std.proofs.Common.{◌≡◌, ℕ, zero, suc, ◌+◌, ◌-◌, ◌≤◌, ◌<◌, Bool, true, false, cond, ◌&&◌, List, [], ◌∷◌, ◌++◌, length, take, drop, refl, sym, ap, subst, ◌∙◌, arith, inl, inr}
+use Rattle.std.proofs.Common.{◌≡◌, ℕ, zero, suc, ◌+◌, ◌-◌, ◌≤◌, ◌<◌, Bool, true, false, cond, ◌&&◌, List, [], ◌∷◌, length, take, drop, refl, sym, ap, ◌∙◌, arith}
 use Rattle.std.specs.Prelude.{◌==◌, if◌then◌else◌}
-use Rattle.std.proofs.lemmas.List.{length-drop, length-append, take_all, drop-drop, take-append-drop, take_at, length-take-le}
-use Rattle.std.proofs.lemmas.Bool.{eqb-true}
-use Rattle.std.proofs.lemmas.Bool.Decides.{eqb_tells}
+use Rattle.std.proofs.lemmas.List.{length-drop, length-append, take_all, drop-drop}
 use Rattle.sudoers_text.specs.declared.part.Rule.{Rule}
 use Rattle.sudoers_text.specs.declared.part.Rule.TheVariants as rule
-use Rattle.sudoers_text.specs.Unit.{LineUnit, Continuation, Pair, Quoted, Comment, Byte, text_of, begins_lf, begins_line_end, escaped, is_blank, is_digit, up_to_line_end}
+use Rattle.sudoers_text.specs.Unit.{LineUnit, Continuation, Pair, Quoted, Comment, Byte, text_of, begins_line_end, escaped, is_blank, is_digit, up_to_line_end}
 use Rattle.sudoers_text.specs.Part.{one_if, or_else, pair_in, continuation_in, escape_in, by_backslash, open_size, unit_size, past_unit, reach, run_size, is_word_byte, is_include_byte, is_path_byte, is_value_byte, is_quoted_byte, is_clean_byte, is_name_byte, is_digest_byte, begins_with, between_quotes, argument_unit, whole_size}
 use Rattle.sudoers_text.proofs.Reading.{unit_at-front}
 

@@ -1,12 +1,12 @@
 -- What stands left of a place, from what stood left of one before it.
-use Rattle.std.proofs.Common.{◌≡◌, ℕ, zero, suc, ◌+◌, ◌-◌, ◌≤◌, ◌<◌, Bool, true, false, ◌||◌, not, List, [], ◌∷◌, ◌++◌, length, take, drop, get_or, refl, sym, ap, subst, ◌∙◌, arith, inl, inr}
+use Rattle.std.proofs.Common.{◌≡◌, ℕ, zero, suc, ◌-◌, ◌≤◌, Bool, true, false, ◌||◌, not, List, [], ◌∷◌, ◌++◌, length, take, refl, sym, ap, subst, ◌∙◌, arith, inl, inr}
 use Rattle.std.specs.Prelude.{◌==◌, if◌then◌else◌, nat_lt, slice_range, slice_get, Some}
 use Rattle.std.proofs.lemmas.Bool.{or_parts}
 use Rattle.std.proofs.lemmas.Bool.Decides.{eqb_tells}
 use Rattle.sudoers_text.specs.declared.token.TokenKind.{TokenKind}
 use Rattle.std.proofs.lemmas.List.{length-append}
 use Rattle.sudoers_text.specs.declared.unit.Left.{Left}
-use Rattle.sudoers_text.specs.Unit.{LineUnit, Continuation, Pair, Byte, text_of, begins_lf, begins_item, begun, is_empty, escaped}
+use Rattle.sudoers_text.specs.Unit.{LineUnit, text_of, begins_lf, begins_item, begun, is_empty, escaped}
 use Rattle.sudoers_text.specs.Left.{Knows, ends_apart, begins_sign}
 use Rattle.sudoers_text.specs.Piece.{Form, Mark, Operator, Number, NonUnixGroup, Run, CommandPath, QuotedPart, CommentPart, IncludeWord, FirstWord, Argument, QuotedRest, kind_of}
 use Rattle.sudoers_text.specs.Token.{plain_unit, passed, passed_from, units_left}

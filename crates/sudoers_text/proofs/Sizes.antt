@@ -1,15 +1,14 @@
 -- The sizes that are computed are those of the longest pieces.
-use Rattle.std.proofs.Common.{◌≡◌, ◌⊎◌, inl, inr, ℕ, zero, suc, ◌+◌, ◌-◌, ◌≤◌, ◌<◌, Bool, true, false, ◌&&◌, ◌||◌, List, [], ◌∷◌, ◌++◌, length, take, drop, refl, sym, ap, subst, ◌∙◌, arith, append-nil}
-use Rattle.std.specs.Prelude.{◌==◌, if◌then◌else◌, nat_lt, nat_eq, codes}
-use Rattle.std.specs.List.{starts_with}
-use Rattle.std.proofs.lemmas.List.{length-append, length-drop, length-take-le, take_at, drop_at, take-append-drop, append_assoc, take_all}
+use Rattle.std.proofs.Common.{◌≡◌, ◌⊎◌, inl, inr, ℕ, zero, suc, ◌+◌, ◌≤◌, ◌<◌, Bool, true, false, ◌&&◌, List, [], ◌∷◌, ◌++◌, length, take, drop, refl, sym, ap, subst, ◌∙◌, arith}
+use Rattle.std.specs.Prelude.{◌==◌, nat_lt}
+use Rattle.std.proofs.lemmas.List.{length-append, length-take-le, take_at, drop_at, take-append-drop, append_assoc}
 use Rattle.std.proofs.lemmas.Bool.{eqb-true}
 use Rattle.std.proofs.lemmas.Bool.Decides.{eqb_tells, nat_tests}
 use Rattle.sudoers_text.specs.declared.part.Rule.{Rule}
 use Rattle.sudoers_text.specs.declared.part.Rule.TheVariants as rule
-use Rattle.sudoers_text.specs.Part.{or_else, unit_size, past_unit, reach, run_size, is_run, is_some_run, begins_with, between_quotes, quoted_size, argument_unit, whole_size, broken_size}
+use Rattle.sudoers_text.specs.Part.{unit_size, past_unit, reach, run_size, is_run, is_some_run, begins_with, between_quotes, argument_unit}
 use Rattle.sudoers_text.proofs.Units.{and_parts}
-use Rattle.sudoers_text.proofs.Reach.{Within, reach_within, run_within, between_within, argument_within, whole_within, begins_inside}
+use Rattle.sudoers_text.proofs.Reach.{run_within, between_within}
 use Rattle.sudoers_text.proofs.Steady.{Steady, Exclusive, unit_steady, or_steady, run_split, longest, whole}
 
 -- The first n bytes are the longest piece by this test with which the bytes begin; 0: none is.

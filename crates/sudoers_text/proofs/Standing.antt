@@ -1,5 +1,5 @@
 -- How far the tokens of a line have been read.
-use Rattle.std.proofs.Common.{◌≡◌, ℕ, zero, suc, ◌+◌, ◌-◌, ◌≤◌, ◌<◌, Bool, true, false, List, [], ◌∷◌, ◌++◌, length, take, drop, refl, sym, ap, subst, ◌∙◌, arith, append-nil, All}
+use Rattle.std.proofs.Common.{◌≡◌, ℕ, ◌+◌, ◌-◌, ◌≤◌, ◌<◌, true, false, List, [], ◌∷◌, ◌++◌, length, take, drop, sym, ap, subst, ◌∙◌, arith, append-nil, All}
 use Rattle.std.specs.Prelude.{◌==◌, slice_range}
 use Rattle.std.proofs.lemmas.List.{length-drop, drop-drop, append_assoc}
 use Rattle.std.proofs.lemmas.List.Elements.{All-nil, All-push}
@@ -12,7 +12,7 @@ use Rattle.sudoers_text.specs.declared.context.Context.{Context}
 use Rattle.sudoers_text.specs.declared.context.Context.TheVariants as context
 use Rattle.sudoers_text.specs.Piece.{Form}
 use Rattle.sudoers_text.specs.Context.{forms, behind}
-use Rattle.sudoers_text.specs.Token.{gap_size, units_left, next_start, is_end, AreTokens, HasTokens, IsWithin}
+use Rattle.sudoers_text.specs.Token.{units_left, next_start, is_end, AreTokens, HasTokens, IsWithin}
 use Rattle.sudoers_text.specs.Found.{found, found_behind, tokens_of}
 use Rattle.sudoers_text.proofs.Reach.{run_within, left}
 use Rattle.sudoers_text.proofs.TokenLists.{found_some, one_more, one_token_list, tokens_are}

@@ -1,14 +1,12 @@
 -- A unit is one whatever follows it, and so a run is the longest of its kind.
-use Rattle.std.proofs.Common.{◌≡◌, ◌⊎◌, inl, inr, ℕ, zero, suc, ◌+◌, ◌-◌, ◌≤◌, ◌<◌, Bool, true, false, ◌&&◌, ◌||◌, List, [], ◌∷◌, ◌++◌, length, take, drop, refl, sym, ap, subst, ◌∙◌, arith, append-nil}
+use Rattle.std.proofs.Common.{◌≡◌, ◌⊎◌, inl, inr, ℕ, zero, suc, ◌+◌, ◌-◌, ◌≤◌, ◌<◌, Bool, true, false, List, [], ◌∷◌, ◌++◌, length, take, drop, refl, sym, ap, subst, ◌∙◌, arith, append-nil}
 use Rattle.std.specs.Prelude.{◌==◌, if◌then◌else◌}
-use Rattle.std.proofs.lemmas.List.{length-append, length-drop, length-take-le, append_assoc, take-append-drop, drop-drop}
-use Rattle.std.proofs.lemmas.Bool.{eqb-true}
 use Rattle.std.proofs.lemmas.Bool.Decides.{eqb_tells}
 use Rattle.sudoers_text.specs.declared.part.Rule.{Rule}
 use Rattle.sudoers_text.specs.declared.part.Rule.TheVariants as rule
 use Rattle.sudoers_text.specs.Unit.{LineUnit, Continuation, Pair, Byte, begins_lf, begins_line_end, escaped, is_blank, is_digit}
 use Rattle.sudoers_text.specs.Part.{one_if, or_else, pair_in, continuation_in, escape_in, by_backslash, unit_size, past_unit, reach, is_word_byte, is_include_byte, is_path_byte, is_value_byte, is_quoted_byte, is_clean_byte, is_name_byte, is_digest_byte}
-use Rattle.sudoers_text.proofs.Reach.{Within, one_within, backslash_within, pair_bounded, continuation_bounded, escape_bounded, reach_within, reach_some}
+use Rattle.sudoers_text.proofs.Reach.{Within, one_within, backslash_within, pair_bounded, continuation_bounded, escape_bounded, reach_some}
 
 -- A unit stays one before any bytes, and is one by itself.
 pub record Steady (unit : List ℕ → ℕ) : Type 0 where

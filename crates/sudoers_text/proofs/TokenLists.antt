@@ -1,19 +1,17 @@
 -- A line has one list of tokens: the one that is computed.
-use Rattle.std.proofs.Common.{◌≡◌, ◌⊎◌, inl, inr, ℕ, zero, suc, ◌+◌, ◌-◌, ◌≤◌, ◌<◌, Bool, true, false, List, [], ◌∷◌, ◌++◌, length, take, drop, refl, sym, ap, subst, ◌∙◌, arith}
+use Rattle.std.proofs.Common.{◌≡◌, inl, inr, ℕ, zero, suc, ◌+◌, ◌-◌, ◌≤◌, ◌<◌, Bool, true, false, List, [], ◌∷◌, length, take, drop, refl, sym, ap, subst, ◌∙◌, arith}
 use Rattle.std.specs.Prelude.{◌==◌, ◌&&◌, if◌then◌else◌, nat_lt}
-use Rattle.std.proofs.lemmas.List.{length-drop, drop_all}
-use Rattle.std.proofs.lemmas.Bool.Decides.{nat_tests}
+use Rattle.std.proofs.lemmas.List.{drop_all}
 use Rattle.sudoers_text.specs.declared.token.TokenKind.{TokenKind}
-use Rattle.sudoers_text.specs.declared.token.TokenKind.TheVariants as kind
 use Rattle.sudoers_text.specs.declared.token.Token.{Token}
 use Rattle.sudoers_text.specs.declared.token.Mode.{Mode}
 use Rattle.sudoers_text.specs.declared.context.Context.{Context}
 use Rattle.sudoers_text.specs.declared.context.Context.TheVariants as context
 use Rattle.sudoers_text.specs.Unit.{LineUnit, begins_item, begun, is_empty}
-use Rattle.sudoers_text.specs.Part.{reach, run_size, open_size, quoted_size}
-use Rattle.sudoers_text.specs.Piece.{Form, kind_of, is_piece}
+use Rattle.sudoers_text.specs.Part.{reach, open_size, quoted_size}
+use Rattle.sudoers_text.specs.Piece.{Form, kind_of}
 use Rattle.sudoers_text.specs.Context.{forms, behind}
-use Rattle.sudoers_text.specs.Token.{IsLongest, NoneBegins, IsToken, bad_size, units_left, next_start, is_end, AreTokens, HasTokens}
+use Rattle.sudoers_text.specs.Token.{NoneBegins, IsToken, LongestOrNone, bad_size, units_left, next_start, is_end, AreTokens, HasTokens}
 use Rattle.sudoers_text.specs.Found.{size_of, found, found_behind, tokens_from, tokens_of}
 use Rattle.sudoers_text.proofs.Sizes.{some_positive}
 use Rattle.sudoers_text.proofs.Forms.{IsSize, is_size}
@@ -40,6 +38,16 @@ one_token (form ∷ others) before bytes k l n m (inl x) (inl y) =
 one_token (form ∷ others) before bytes k l n m (inl x) (inr y) = absurd (y.0 n x.1.inside x.1.piece)
 one_token (form ∷ others) before bytes k l n m (inr x) (inl y) = absurd (x.0 m y.1.inside y.1.piece)
 one_token (form ∷ others) before bytes k l n m (inr x) (inr y) = one_token others before bytes k l n m x.1 y.1
+
+longest_next : (form : Form) (others : List Form) (before : List LineUnit) (bytes : List ℕ) (k : TokenKind) (n : ℕ) → NoneBegins form before bytes → LongestOrNone others before bytes k n → LongestOrNone (form ∷ others) before bytes k n
+longest_next form others before bytes k n none (inl x) = inl x
+longest_next form others before bytes k n none (inr x) = inr (x.0, (none, x.1))
+
+pub longest_or_none : (fs : List Form) (before : List LineUnit) (bytes : List ℕ) (k : TokenKind) (n : ℕ) → IsToken fs before bytes k n → LongestOrNone fs before bytes k n
+longest_or_none [] before bytes k n x = inr (x.0, tt)
+longest_or_none (form ∷ others) before bytes k n (inl x) = inl (form, x.0, x.1)
+longest_or_none (form ∷ others) before bytes k n (inr x) =
+    longest_next form others before bytes k n x.0 (longest_or_none others before bytes k n x.1)
 
 bad_some : (b : ℕ) (rest : List ℕ) → 0 < bad_size (b ∷ rest)
 unfolding bad_size

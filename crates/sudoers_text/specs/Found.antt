@@ -1,6 +1,6 @@
 -- What the tokens of a line are, as a function that computes. Of its own it defines nothing: that it gives the line's tokens
 -- is a law (`tokens_are`), and that there are no others is one too (`one_token_list`).
-use Rattle.std.specs.Prelude.{ℕ, zero, suc, ◌+◌, ◌-◌, ◌==◌, ◌&&◌, not, nat_lt, nat_eq, Bool, true, List, [], ◌∷◌, length, take, drop, if◌then◌else◌, codes}
+use Rattle.std.specs.Prelude.{ℕ, zero, suc, ◌+◌, ◌==◌, ◌&&◌, not, nat_lt, nat_eq, Bool, true, List, [], ◌∷◌, length, take, drop, if◌then◌else◌}
 use Rattle.std.specs.List.{starts_with}
 use Rattle.sudoers_text.specs.declared.part.Rule.TheVariants as rule
 use Rattle.sudoers_text.specs.declared.token.TokenKind.{TokenKind}
@@ -10,7 +10,7 @@ use Rattle.sudoers_text.specs.declared.token.Mode.{Mode}
 use Rattle.sudoers_text.specs.declared.context.Context.{Context}
 use Rattle.sudoers_text.specs.declared.context.Context.TheVariants as context
 use Rattle.sudoers_text.specs.Unit.{LineUnit, begins_item, begun, is_empty, begins_digit, names_include, up_to_line_end, includedir_word}
-use Rattle.sudoers_text.specs.Part.{begins_with, one_if, or_else, run_size, quoted_size, whole_size, broken_size}
+use Rattle.sudoers_text.specs.Part.{begins_with, one_if, run_size, quoted_size, whole_size, broken_size}
 use Rattle.sudoers_text.specs.Piece.{Form, Mark, Operator, Number, NonUnixGroup, Run, CommandPath, QuotedPart, CommentPart, IncludeWord, FirstWord, Argument, QuotedRest, kind_of, operator_size, first_word_size, quoted_rest_size}
 use Rattle.sudoers_text.specs.Context.{forms, behind}
 use Rattle.sudoers_text.specs.Token.{bad_size, units_left, next_start, is_end}

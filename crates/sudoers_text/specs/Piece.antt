@@ -1,12 +1,12 @@
 -- The pieces of a line: which bytes may begin each, and which may stand in it.
-use Rattle.std.specs.Prelude.{ℕ, ◌+◌, ◌==◌, ◌&&◌, ◌||◌, not, nat_lt, nat_eq, Bool, true, false, List, [], ◌∷◌, length, take, drop, if◌then◌else◌, codes}
+use Rattle.std.specs.Prelude.{ℕ, ◌+◌, ◌==◌, ◌&&◌, ◌||◌, nat_lt, nat_eq, Bool, false, List, [], ◌∷◌, length, take, drop, if◌then◌else◌}
 use Rattle.std.specs.List.{starts_with}
 use Rattle.sudoers_text.specs.declared.part.Rule.{Rule}
 use Rattle.sudoers_text.specs.declared.part.Rule.TheVariants as rule
 use Rattle.sudoers_text.specs.declared.token.TokenKind.{TokenKind}
 use Rattle.sudoers_text.specs.declared.token.TokenKind.TheVariants as kind
 use Rattle.sudoers_text.specs.Unit.{LineUnit, Byte, begun, is_empty, begins_item, begins_comment, names_include, up_to_line_end, defaults_word, includedir_word}
-use Rattle.sudoers_text.specs.Part.{begins_with, run_size, is_run, is_some_run, quoted_size, whole_size, broken_size, between_quotes}
+use Rattle.sudoers_text.specs.Part.{begins_with, run_size, is_some_run, quoted_size, whole_size, broken_size}
 use Rattle.sudoers_text.specs.Word.{is_among, at_includes}
 
 -- The forms that pieces have.

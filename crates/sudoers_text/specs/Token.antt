@@ -8,7 +8,7 @@ use Rattle.sudoers_text.specs.declared.token.Mode.{Mode}
 use Rattle.sudoers_text.specs.declared.context.Context.{Context}
 use Rattle.sudoers_text.specs.declared.context.Context.TheVariants as context
 use Rattle.sudoers_text.specs.Unit.{LineUnit, Byte, text_of, escaped, line_end_size}
-use Rattle.sudoers_text.specs.Part.{begins_with, reach, run_size, open_size, quoted_size}
+use Rattle.sudoers_text.specs.Part.{reach, run_size, open_size, quoted_size}
 use Rattle.sudoers_text.specs.Piece.{Form, kind_of, is_piece}
 use Rattle.sudoers_text.specs.Context.{forms, behind}
 
@@ -34,6 +34,17 @@ IsToken [] before bytes k size = (k ≡ kind.Bad) × (size ≡ bad_size bytes)
 IsToken (form ∷ others) before bytes k size =
     ((k ≡ kind_of form) × IsLongest form before bytes size)
     ⊎ (NoneBegins form before bytes × IsToken others before bytes k size)
+
+-- The bytes begin with no piece of these forms.
+abbrev pub NoneOf : List Form → List LineUnit → List ℕ → Type 0
+NoneOf [] before bytes = Unit {0}
+NoneOf (form ∷ others) before bytes = NoneBegins form before bytes × NoneOf others before bytes
+
+-- This many bytes are the longest piece of a form of this kind, or no piece of the forms begins and it is Bad.
+abbrev pub LongestOrNone : List Form → List LineUnit → List ℕ → TokenKind → ℕ → Type 0
+LongestOrNone fs before bytes k size =
+    ((form : Form) × (k ≡ kind_of form) × IsLongest form before bytes size)
+    ⊎ ((k ≡ kind.Bad) × NoneOf fs before bytes)
 
 -- the unit that begins with this byte, where a quoted part and a comment are no units but their bytes
 abbrev pub plain_unit : ℕ → List ℕ → LineUnit

@@ -1,5 +1,5 @@
 -- What a word stands for, without its quotes and escapes.
-use Rattle.std.specs.Prelude.{ℕ, zero, suc, ◌+◌, ◌-◌, ◌*◌, ◌==◌, ◌&&◌, ◌||◌, not, nat_le, Bool, true, false, List, [], ◌∷◌, ◌++◌, drop, if◌then◌else◌}
+use Rattle.std.specs.Prelude.{ℕ, zero, suc, ◌+◌, ◌-◌, ◌*◌, ◌==◌, ◌&&◌, ◌||◌, not, nat_le, Bool, false, List, [], ◌∷◌, ◌++◌, drop, if◌then◌else◌}
 use Rattle.sudoers_text.specs.Unit.{is_blank, is_digit, begins_line_end, line_end_size}
 
 -- a hexadecimal digit, and its number

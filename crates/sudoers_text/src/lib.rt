@@ -1,4 +1,4 @@
-//! The text of a sudoers policy: its logical lines.
+//! The text of a sudoers policy: its logical lines, and the tokens of each.
 #![tactic(auto)]
 
 mod context;
@@ -26,7 +26,7 @@ pub use laws::{
 pub use line::{Lines, cut};
 pub use meaning::value;
 pub use token::{Mode, Token, TokenKind};
-pub use token_laws::{one_token_list, tokens_are};
+pub use token_laws::{longest_or_none, one_token_list, tokens_are};
 pub use tokenizing::tokens;
 pub use unit::ends_in_lf;
 pub use word::{is_name, is_reserved};

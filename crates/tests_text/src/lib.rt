@@ -30,4 +30,6 @@ mod tokens_tags;
 #[cfg(test)]
 mod tokens_words;
 #[cfg(test)]
+mod values;
+#[cfg(test)]
 mod words;

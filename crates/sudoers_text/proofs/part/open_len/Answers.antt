@@ -1,4 +1,4 @@
-use Rattle.sudoers_text.specs.Part.{reach, open_size}
+use Rattle.sudoers_text.specs.Part.{open_size}
 use Rattle.sudoers_text.proofs.Reach.{next_unit, open_within}
 use Rattle.sudoers_text.proofs.part.open_len.Goals as goal
 

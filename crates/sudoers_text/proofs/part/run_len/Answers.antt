@@ -1,4 +1,4 @@
-use Rattle.sudoers_text.specs.Part.{reach, unit_size}
+use Rattle.sudoers_text.specs.Part.{unit_size}
 use Rattle.sudoers_text.proofs.Reach.{next_unit, unit_within}
 use Rattle.sudoers_text.proofs.part.run_len.Goals as goal
 

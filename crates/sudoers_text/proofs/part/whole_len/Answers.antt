@@ -1,4 +1,4 @@
-use Rattle.sudoers_text.specs.Part.{reach, argument_unit}
+use Rattle.sudoers_text.specs.Part.{argument_unit}
 use Rattle.sudoers_text.proofs.Reach.{next_unit, argument_within}
 use Rattle.sudoers_text.proofs.part.whole_len.Goals as goal
 

@@ -1,7 +1,7 @@
-use Rattle.std.proofs.Common.{◌+◌, ◌≤◌, ℕ, List, arith, subst, sym}
+use Rattle.std.proofs.Common.{◌+◌, ℕ, List, arith, subst, sym}
 use Rattle.sudoers_text.specs.declared.token.Token.{Token}
 use Rattle.sudoers_text.specs.declared.context.Context.TheVariants as context
-use Rattle.sudoers_text.proofs.Standing.{Standing, NextAt, start_within, next_standing, done, computed, begins}
+use Rattle.sudoers_text.proofs.Standing.{Standing, NextAt, next_standing, done, computed, begins}
 use Rattle.sudoers_text.proofs.tokenizing.tokens.Goals as goal
 
 pub loop-start-init : goal.loop-start-init

@@ -1,4 +1,4 @@
-use Rattle.std.proofs.Common.{◌≡◌, ◌∙◌, ◌-◌, List, ℕ, Bool, false, length, take, drop, ap, sym}
+use Rattle.std.proofs.Common.{◌≡◌, ◌∙◌, List, ℕ, false, drop, ap, sym}
 use Rattle.sudoers_text.specs.Left.{begins_sign}
 use Rattle.sudoers_text.specs.Token.{units_left}
 use Rattle.sudoers_text.proofs.Reach.{left}

@@ -1,4 +1,4 @@
-use Rattle.std.proofs.Common.{◌≡◌, ◌+◌, ◌≤◌, ◌<◌, ◌∙◌, ◌∷◌, ℕ, List, length, ap, subst, sym, arith}
+use Rattle.std.proofs.Common.{◌≡◌, ◌+◌, ◌≤◌, ◌∙◌, ◌∷◌, ℕ, List, length, ap, subst, sym}
 use Rattle.std.specs.Prelude.{◌==◌, slice_range}
 use Rattle.sudoers_text.specs.Unit.{LineUnit, text_of}
 use Rattle.sudoers_text.specs.Left.{Knows, unit_of}

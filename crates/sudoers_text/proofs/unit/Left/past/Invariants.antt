@@ -1,4 +1,4 @@
-use Rattle.std.proofs.Common.{◌≡◌, ◌-◌, ◌≤◌, List}
+use Rattle.std.proofs.Common.{◌-◌, ◌≤◌, List}
 use Rattle.std.specs.Prelude.{slice_range}
 use Rattle.sudoers_text.specs.Unit.{LineUnit}
 use Rattle.sudoers_text.specs.Left.{Knows}
