@@ -86,7 +86,7 @@ fn push_escape(value: &mut Vec<u8>, quoted: bool, rest: &[u8]) -> Result<(), All
     Ok(())
 }
 
-/// What a word stands for, without its quotes and escapes (sudoers(5), Quoting and escapes).
+/// What a word stands for, without its quotes and escapes (sudoers(5), Aliases; Other special characters and reserved words).
 ///
 /// # Errors
 ///
