@@ -37,6 +37,14 @@ take_short (suc n) (b ∷ bytes) = omega (arith, take_short n bytes)
 starts_long : (bytes needle : List ℕ) → starts_with nat_eq bytes needle ≡ true → length needle ≤ length bytes
 starts_long bytes needle h = omega (arith, pointwise_long nat_eq needle (take (length needle) bytes) h, take_short (length needle) bytes)
 
+-- nothing begins where nothing is left
+nothing_size : (is : List ℕ → Bool) → is [] ≡ false → PieceSize is [] 0
+nothing_size is none = none_size is [] absent
+  where
+    absent : (m : ℕ) → m ≤ 0 → is (take m []) ≡ true → ⊥
+    absent zero inside h = absurd (cc)
+    absent (suc m) inside h = absurd (omega arith)
+
 -- ---- one byte and more behind it
 
 take_some : (b m : ℕ) (rest : List ℕ) → take (suc m) (b ∷ rest) ≡ b ∷ take m rest
@@ -62,11 +70,7 @@ behind_byte is other b rest (suc n) none same size = record {
 
 hash_number : (before : List LineUnit) (bytes : List ℕ) → PieceSize (is_hash_number before) bytes (hash_number_size (begins_item before) bytes)
 unfolding hash_number_size
-hash_number before [] = none_size (is_hash_number before) [] absent
-  where
-    absent : (m : ℕ) → m ≤ 0 → is_hash_number before (take m []) ≡ true → ⊥
-    absent zero inside h = absurd (cc)
-    absent (suc m) inside h = absurd (omega arith)
+hash_number before [] = nothing_size (is_hash_number before) refl
 hash_number before (b ∷ rest) = by_tests (b == 35) (begins_item before) refl refl
   where
     by_tests : (s t : Bool) → (b == 35) ≡ s → begins_item before ≡ t → PieceSize (is_hash_number before) (b ∷ rest) (if s && t then behind_prefix 1 (run_size rule.Digits rest) else 0)
@@ -76,11 +80,7 @@ hash_number before (b ∷ rest) = by_tests (b == 35) (begins_item before) refl r
 
 colon_number : (before : List LineUnit) (bytes : List ℕ) → PieceSize (is_colon_number before) bytes (colon_number_size (begins_item before) bytes)
 unfolding colon_number_size
-colon_number before [] = none_size (is_colon_number before) [] absent
-  where
-    absent : (m : ℕ) → m ≤ 0 → is_colon_number before (take m []) ≡ true → ⊥
-    absent zero inside h = absurd (cc)
-    absent (suc m) inside h = absurd (omega arith)
+colon_number before [] = nothing_size (is_colon_number before) refl
 colon_number before (b ∷ rest) = by_test (b == 58) refl
   where
     by_test : (s : Bool) → (b == 58) ≡ s → PieceSize (is_colon_number before) (b ∷ rest) (if s then behind_prefix 1 (hash_number_size true rest) else hash_number_size (begins_item before) (b ∷ rest))
@@ -93,11 +93,7 @@ colon_number before (b ∷ rest) = by_test (b == 58) refl
 
 number : (before : List LineUnit) (bytes : List ℕ) → PieceSize (is_number before) bytes (number_size (begins_item before) bytes)
 unfolding number_size
-number before [] = none_size (is_number before) [] absent
-  where
-    absent : (m : ℕ) → m ≤ 0 → is_number before (take m []) ≡ true → ⊥
-    absent zero inside h = absurd (cc)
-    absent (suc m) inside h = absurd (omega arith)
+number before [] = nothing_size (is_number before) refl
 number before (b ∷ rest) = by_test (b == 37) refl
   where
     by_test : (s : Bool) → (b == 37) ≡ s → PieceSize (is_number before) (b ∷ rest) (if s then behind_prefix 1 (colon_number_size (begins_item before) rest) else hash_number_size (begins_item before) (b ∷ rest))
@@ -111,11 +107,7 @@ number before (b ∷ rest) = by_test (b == 37) refl
 -- ---- words of non-Unix groups
 
 prefixed : (is other : List ℕ → Bool) (mark : ℕ) (bytes : List ℕ) (n : List ℕ → ℕ) → is [] ≡ false → ((b : ℕ) (text : List ℕ) → is (b ∷ text) ≡ (b == mark && other text)) → ((rest : List ℕ) → PieceSize other rest (n rest)) → (size : List ℕ → ℕ) → size [] ≡ 0 → ((b : ℕ) (rest : List ℕ) → size (b ∷ rest) ≡ (if b == mark then behind_prefix 1 (n rest) else 0)) → PieceSize is bytes (size bytes)
-prefixed is other mark [] n none same later size nothing told = subst (PieceSize is []) (sym nothing) (none_size is [] absent)
-  where
-    absent : (m : ℕ) → m ≤ 0 → is (take m []) ≡ true → ⊥
-    absent zero inside h = absurd (cc)
-    absent (suc m) inside h = absurd (omega arith)
+prefixed is other mark [] n none same later size nothing told = subst (PieceSize is []) (sym nothing) (nothing_size is none)
 prefixed is other mark (b ∷ rest) n none same later size nothing told = subst (PieceSize is (b ∷ rest)) (sym (told b rest)) (by_test (b == mark) refl)
   where
     by_test : (s : Bool) → (b == mark) ≡ s → PieceSize is (b ∷ rest) (if s then behind_prefix 1 (n rest) else 0)

@@ -1,7 +1,7 @@
-use Rattle.std.proofs.Common.{◌+◌, ℕ, List, arith, subst, sym}
+use Rattle.std.proofs.Common.{◌+◌, List, [], ◌∷◌, ◌++◌, arith, subst, sym}
 use Rattle.sudoers_text.specs.declared.token.Token.{Token}
 use Rattle.sudoers_text.specs.declared.context.Context.TheVariants as context
-use Rattle.sudoers_text.proofs.Standing.{Standing, NextAt, next_standing, done, computed, begins}
+use Rattle.sudoers_text.proofs.Standing.{Standing, Next, next_standing, done, computed, begins}
 use Rattle.sudoers_text.proofs.tokenizing.tokens.Goals as goal
 
 pub loop-start-init : goal.loop-start-init
@@ -14,24 +14,24 @@ loop-start-init c = record {
 pub token_start-requires : goal.token_start-requires
 token_start-requires c = c.loop-start.invariant.standing.inside
 
+-- one token more
+next : (c : goal.After-behind-here) → Next c.args.mode c.args.line.now c.behind-here.result c.in-Some.start c.piece-piece.result.len (c.loop-start.tokens.items ++ record { kind = c.piece-piece.result.kind; start = c.in-Some.start; stop = c.in-Some.start + c.piece-piece.result.len } ∷ [])
+next c =
+    next_standing c.args.mode c.args.line.now c.loop-start.here c.behind-here.result c.for_token-reached.result.left
+    c.loop-start.at c.in-Some.start c.piece-piece.result.len c.piece-piece.result.kind c.loop-start.tokens.items c.loop-start.invariant.standing
+    (record { is = c.in-Some.ensures.some.0; more = c.in-Some.ensures.some.1 })
+    c.for_token-reached.ensures.found c.piece-piece.ensures.found c.piece-piece.ensures.within c.behind-here.ensures
+
 pub loop-start-smaller : goal.loop-start-smaller
 loop-start-smaller c =
-    let line : List ℕ = c.args.line.now in
-    let next : NextAt line c.loop-start.at c.in-Some.start = record { is = c.in-Some.ensures.some.0; more = c.in-Some.ensures.some.1 } in
-    let more = next_standing c.args.mode line c.loop-start.here c.behind-here.result c.for_token-reached.result.left
-    c.loop-start.at c.in-Some.start c.piece-piece.result.len c.piece-piece.result.kind c.loop-start.tokens.items c.loop-start.invariant.standing next
-    c.for_token-reached.ensures.found c.piece-piece.ensures.found c.piece-piece.ensures.within c.behind-here.ensures in
-    omega (arith, more.some, more.inside, next.is)
+    let more = next c in
+    omega (arith, more.some, more.inside, c.in-Some.ensures.some.0)
 
 pub loop-start-preserved : goal.loop-start-preserved
 loop-start-preserved c =
-    let line : List ℕ = c.args.line.now in
-    let next : NextAt line c.loop-start.at c.in-Some.start = record { is = c.in-Some.ensures.some.0; more = c.in-Some.ensures.some.1 } in
-    let more = next_standing c.args.mode line c.loop-start.here c.behind-here.result c.for_token-reached.result.left
-    c.loop-start.at c.in-Some.start c.piece-piece.result.len c.piece-piece.result.kind c.loop-start.tokens.items c.loop-start.invariant.standing next
-    c.for_token-reached.ensures.found c.piece-piece.ensures.found c.piece-piece.ensures.within c.behind-here.ensures in
+    let more = next c in
     record {
-      standing = subst (λ (ts : List Token). Standing c.args.mode line c.behind-here.result (c.in-Some.start + c.piece-piece.result.len) ts)
+      standing = subst (λ (ts : List Token). Standing c.args.mode c.args.line.now c.behind-here.result (c.in-Some.start + c.piece-piece.result.len) ts)
           (sym c.in_ok-push.ensures.items) more.standing;
       below = omega (arith, c.for_token-reached.ensures.place);
       knows = c.for_token-reached.ensures.knows;
