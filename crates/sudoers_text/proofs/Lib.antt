@@ -23,3 +23,4 @@ pub mod TokenLists
 pub mod Values
 pub mod Standing
 pub mod Reached
+pub mod TokenExamples
