@@ -52,6 +52,7 @@ pub enum Context {
 }
 
 /// Whether the token is this mark.
+#[inline(always)]
 fn is_mark(mark: u8, kind: TokenKind, text: &[u8]) -> bool
     ensures { result ≡ is_mark mark kind text.now }
 {
@@ -59,6 +60,7 @@ fn is_mark(mark: u8, kind: TokenKind, text: &[u8]) -> bool
 }
 
 /// Behind a mark where commands stand.
+#[inline(always)]
 fn behind_mark(colon: Context, equals: Context, text: &[u8]) -> Context
     ensures { result ≡ behind_mark colon equals text.now }
 {
@@ -142,6 +144,7 @@ fn behind_parameter(kind: TokenKind, text: &[u8]) -> Context
 }
 
 /// Whether a token is a member of a list.
+#[inline(always)]
 fn is_member(kind: TokenKind) -> bool
     ensures { result ≡ is_member kind }
 {

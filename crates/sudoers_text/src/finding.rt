@@ -104,6 +104,7 @@ fn word_piece(left: Left, bytes: &[u8]) -> Piece
 }
 
 /// Whether one of `!`, `=`, `:`, `,`, `(` and `)` begins the bytes.
+#[inline(always)]
 fn begins_punct(bytes: &[u8]) -> bool
     ensures value { result ≡ nat_lt 0 (one_if is_punct bytes.now) }
     ensures some { IsTrue result → 0 < length bytes.now }
@@ -115,6 +116,7 @@ fn begins_punct(bytes: &[u8]) -> bool
 }
 
 /// Among commands.
+#[inline(always)]
 fn command_piece(left: Left, bytes: &[u8]) -> Piece
     ensures found { (result.kind, result.len) ≡ found command_forms left.item (left.begun == 0) bytes.now }
     ensures within { result.len ≤ length bytes.now }

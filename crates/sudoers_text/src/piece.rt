@@ -10,6 +10,7 @@ use crate::unit::{Left, begins_digit, names_include, up_to_line_end};
 use crate::word::is_at_include;
 
 /// With a prefix of so many bytes, where there is any.
+#[inline(always)]
 fn behind_prefix(prefix: usize, len: usize) -> usize
     requires { prefix + len < 2 ^ 64 }
     ensures { result ≡ behind_prefix prefix len }
@@ -19,6 +20,7 @@ fn behind_prefix(prefix: usize, len: usize) -> usize
 
 /// `#` and digits. Item: an ID may begin there.
 #[tactic(auto, unfolding(crate::specs::Found::hash_number_size))]
+#[inline(always)]
 fn hash_number_len(item: bool, bytes: &[u8]) -> usize
     ensures value { result ≡ hash_number_size item bytes.now }
     ensures within { result ≤ length bytes.now }
@@ -31,6 +33,7 @@ fn hash_number_len(item: bool, bytes: &[u8]) -> usize
 
 /// The same, or behind `:`.
 #[tactic(auto, unfolding(crate::specs::Found::colon_number_size))]
+#[inline(always)]
 fn colon_number_len(item: bool, bytes: &[u8]) -> usize
     ensures value { result ≡ colon_number_size item bytes.now }
     ensures within { result ≤ length bytes.now }
@@ -43,6 +46,7 @@ fn colon_number_len(item: bool, bytes: &[u8]) -> usize
 
 /// A number: `#`, `%#` or `%:#`, and digits. Item: an ID may begin there.
 #[tactic(auto, unfolding(crate::specs::Found::number_size))]
+#[inline(always)]
 pub fn number_len(item: bool, bytes: &[u8]) -> usize
     ensures value { result ≡ number_size item bytes.now }
     ensures within { result ≤ length bytes.now }
@@ -55,6 +59,7 @@ pub fn number_len(item: bool, bytes: &[u8]) -> usize
 
 /// `:` and a word.
 #[tactic(auto, unfolding(crate::specs::Found::colon_word_size))]
+#[inline(always)]
 fn colon_word_len(bytes: &[u8]) -> usize
     ensures value { result ≡ colon_word_size bytes.now }
     ensures within { result ≤ length bytes.now }
@@ -67,6 +72,7 @@ fn colon_word_len(bytes: &[u8]) -> usize
 
 /// A non-Unix group: `%:` and a word.
 #[tactic(auto, unfolding(crate::specs::Found::group_size))]
+#[inline(always)]
 pub fn group_len(bytes: &[u8]) -> usize
     ensures value { result ≡ group_size bytes.now }
     ensures within { result ≤ length bytes.now }
@@ -79,6 +85,7 @@ pub fn group_len(bytes: &[u8]) -> usize
 
 /// A command's path.
 #[tactic(auto, unfolding(crate::specs::Found::command_path_size))]
+#[inline(always)]
 pub fn command_path_len(bytes: &[u8]) -> usize
     ensures value { result ≡ command_path_size bytes.now }
     ensures within { result ≤ length bytes.now }
