@@ -1,6 +1,6 @@
 -- What stands left of a place, from what stood left of one before it.
-use Rattle.std.proofs.Common.{◌≡◌, ℕ, zero, suc, ◌-◌, ◌≤◌, Bool, true, false, ◌||◌, not, List, [], ◌∷◌, ◌++◌, length, take, refl, sym, ap, subst, ◌∙◌, arith, inl, inr}
-use Rattle.std.specs.Prelude.{◌==◌, if◌then◌else◌, nat_lt, slice_range, slice_get, Some}
+use Rattle.std.proofs.Common.{◌≡◌, ℕ, zero, suc, ◌-◌, ◌≤◌, ◌<◌, Bool, true, false, ◌||◌, not, List, [], ◌∷◌, ◌++◌, length, take, refl, sym, ap, subst, ◌∙◌, arith, inl, inr}
+use Rattle.std.specs.Prelude.{◌==◌, if◌then◌else◌, nat_lt, slice_range, slice_index_or}
 use Rattle.std.proofs.lemmas.Bool.{or_parts}
 use Rattle.std.proofs.lemmas.Bool.Decides.{eqb_tells}
 use Rattle.sudoers_text.specs.declared.token.TokenKind.{TokenKind}
@@ -59,24 +59,25 @@ passed_split zero before (b ∷ text) more h e =
     ∙ passed_split (length (text_of u) - 1) (u ∷ before) text more (omega (arith, plain_within b text)) (apart_tail b text e)
 
 -- the last byte tells
-apart_last_at : (xs : List ℕ) (n b : ℕ) → suc n ≡ length xs → Some b ≡ slice_get xs n → not (b == 92 || b == 13) ≡ ends_apart xs
-apart_last_at [] n b l h = absurd (omega arith)
-apart_last_at (x ∷ []) zero b l h = let e : b ≡ x = cc in ap (λ (z : ℕ). not (z == 92 || z == 13)) e
-apart_last_at (x ∷ []) (suc n) b l h = absurd (omega arith)
-apart_last_at (x ∷ y ∷ ys) zero b l h = absurd (omega arith)
-apart_last_at (x ∷ y ∷ ys) (suc n) b l h = apart_last_at (y ∷ ys) n b (omega arith) h
+abbrev is_apart : ℕ → Bool
+is_apart b = not (b == 92 || b == 13)
 
-pub apart_last : (xs : List ℕ) (b : ℕ) → Some b ≡ slice_get xs (length xs - 1) → not (b == 92 || b == 13) ≡ ends_apart xs
-apart_last [] b h = cc
-apart_last (x ∷ xs) b h = apart_last_at (x ∷ xs) (length xs) b refl (h ∙ ap (slice_get (x ∷ xs)) (let e : length (x ∷ xs) - 1 ≡ length xs = omega arith in e))
+apart_at : (line : List ℕ) (n : ℕ) → n < length line → is_apart (slice_index_or line n 0) ≡ true → ends_apart (take (suc n) line) ≡ true
+apart_at [] n l e = absurd (omega arith)
+apart_at (x ∷ line) zero l e = e
+apart_at (x ∷ []) (suc n) l e = absurd (omega arith)
+apart_at (x ∷ y ∷ line) (suc n) l e = apart_at (y ∷ line) n (omega arith) e
+
+pub apart_behind : (line : List ℕ) (from place : ℕ) → from < place → place ≤ length line → not (slice_index_or line (place - 1) 0 == 92 || slice_index_or line (place - 1) 0 == 13) ≡ true → ends_apart (take place line) ≡ true
+apart_behind line from zero l i e = absurd (omega arith)
+apart_behind line from (suc n) l i e =
+    let same : suc n - 1 ≡ n = omega arith in
+    apart_at line n (omega arith) (subst (λ (k : ℕ). is_apart (slice_index_or line k 0) ≡ true) same e)
 
 -- a place behind a byte that ends a unit
 pub units_on : (line : List ℕ) (from to : ℕ) → from ≤ to → ends_apart (take from line) ≡ true → passed (units_left line from) (slice_range line from to) ≡ units_left line to
 units_on line from to below apart =
     sym (passed_split 0 [] (take from line) (slice_range line from to) (omega arith) apart) ∙ ap (passed []) (take_more from to line below)
-
-pub from_beginning : (line : List ℕ) (at : ℕ) → passed [] (slice_range line 0 at) ≡ units_left line at
-from_beginning line at = let same : at - 0 ≡ at = omega arith in ap (λ (n : ℕ). passed [] (take n line)) same
 
 -- ---- what is found where nothing left of the place counts
 

@@ -1,6 +1,7 @@
 pub mod Unit
 pub mod Ended
 pub mod Left
+pub mod Reached
 pub mod Line
 pub mod Span
 pub mod Fault

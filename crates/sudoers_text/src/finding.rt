@@ -3,8 +3,7 @@
 ghost use Rattle.std.specs.Prelude.{◌≡◌, ◌<◌, ◌≤◌, List, [], ◌∷◌, ◌==◌, false, length, nat_lt, IsTrue};
 ghost use Rattle.sudoers_text.specs.declared.part.Rule.TheVariants as rules;
 ghost use Rattle.sudoers_text.specs.declared.token.TokenKind.TheVariants as kinds;
-ghost use Rattle.sudoers_text.specs.Unit.{LineUnit, is_separator};
-ghost use Rattle.sudoers_text.specs.Left.{Agrees};
+ghost use Rattle.sudoers_text.specs.Unit.{is_separator};
 ghost use Rattle.sudoers_text.specs.Part.{is_punct, one_if};
 ghost use Rattle.sudoers_text.specs.Piece.{Form, Mark, Operator, Number, NonUnixGroup, Run, CommandPath, QuotedPart, CommentPart, IncludeWord, FirstWord, Argument, QuotedRest};
 ghost use Rattle.sudoers_text.specs.Context.{is_scope_sign, is_parameter_mark, is_comma, word_forms, command_forms, parameter_forms, first_forms, scope_forms, forms};

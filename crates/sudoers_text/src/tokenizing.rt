@@ -1,9 +1,10 @@
 //! The tokens of a line.
 
-ghost use Rattle.std.specs.Prelude.{◌≡◌, ◌≤◌, ◌<◌, ◌+◌, ◌∷◌, ◌-◌, ◌==◌, ◌||◌, not, ℕ, List, [], length, drop, slice_range, true, false, IfOk, IfErr, IfSome, IfNone, All};
+ghost use Rattle.std.specs.Prelude.{◌≡◌, ◌≤◌, ◌<◌, ◌+◌, ◌∷◌, ◌-◌, ◌==◌, ◌||◌, not, ℕ, List, [], length, drop, take, slice_range, true, false, IfOk, IfErr, IfSome, IfNone, All};
 ghost use Rattle.sudoers_text.specs.declared.token.Token.{Token as TokenOf};
 ghost use Rattle.sudoers_text.specs.Unit.{LineUnit, line_end_size};
 ghost use Rattle.sudoers_text.specs.Left.{Knows, unit_of, ends_apart, begins_sign};
+ghost use Rattle.sudoers_text.specs.Reached.{Reaches};
 ghost use Rattle.sudoers_text.specs.Piece.{Form};
 ghost use Rattle.sudoers_text.specs.Token.{plain_unit, passed, units_left, next_start, is_end, HasTokens, IsWithin};
 ghost use Rattle.sudoers_text.specs.Found.{found, found_behind, tokens_of};
@@ -83,14 +84,20 @@ fn is_apart(byte: u8) -> bool
     !matches!(byte, b'\\' | b'\r')
 }
 
-/// Whether the last byte is neither a backslash nor a CR.
-fn ends_apart(text: &[u8]) -> bool
-    ensures { result ≡ ends_apart text.now }
+/// The last place behind no backslash and no CR, from one such place up to another place.
+fn apart_before(line: &[u8], from: usize, at: usize) -> usize
+    requires below { from ≤ at }
+    requires inside { at ≤ length line.now }
+    requires apart { ends_apart (take from line.now) ≡ true }
+    ensures not_before { from ≤ result }
+    ensures not_behind { result ≤ at }
+    ensures apart { ends_apart (take result line.now) ≡ true }
 {
-    match text.last() {
-        Some(last) => is_apart(*last),
-        None => true,
+    let mut place = at;
+    while from < place && !is_apart(line[place - 1]) {
+        place -= 1;
     }
+    place
 }
 
 /// Whether `#` or `%` begins the bytes.
@@ -101,7 +108,7 @@ fn begins_sign(bytes: &[u8]) -> bool
     matches!(bytes, [b'#' | b'%', ..])
 }
 
-/// What stands left of a place of a line.
+/// What stands left of a place of a line, behind no backslash and no CR: what stands left of a later place goes on from there.
 #[derive(Clone, Copy)]
 struct Reached {
     left: Left,
@@ -112,7 +119,7 @@ impl Reached {
     /// Nothing stands left of a line's beginning.
     fn beginning() -> Self
         ensures place { result.at ≡ 0 }
-        ensures knows { (line : List ℕ) → Knows line result.at result.left (units_left line result.at) }
+        ensures knows { (line : List ℕ) → Reaches line result }
     {
         Reached {
             left: Left::nothing(),
@@ -120,43 +127,43 @@ impl Reached {
         }
     }
 
-    /// What stands left of a later place. It goes on from here, but where a backslash or a CR might be part of a longer unit.
+    /// What stands left of the last such place up to a later place.
     fn to(self, line: &[u8], at: usize) -> Self
         requires below { self.at ≤ at }
         requires inside { at ≤ length line.now }
-        requires knows { Knows line.now self.at self.left (units_left line.now self.at) }
-        ensures place { result.at ≡ at }
-        ensures knows { Knows line.now at result.left (units_left line.now at) }
+        requires knows { Reaches line.now self }
+        ensures place { result.at ≤ at }
+        ensures knows { Reaches line.now result }
     {
-        let left = if ends_apart(&line[..self.at]) {
-            self.left.past(line, self.at, at)
-        } else {
-            Left::nothing().past(line, 0, at)
-        };
-        Reached { left, at }
+        let place = apart_before(line, self.at, at);
+        Reached {
+            left: self.left.past(line, self.at, place),
+            at: place,
+        }
     }
 
-    /// The same, unless what stands there does not ask for it: `#` and `%` alone do.
+    /// What is known left of a token, and what it tells of the token. Nothing has to be known, unless `#` or `%` begins it.
     #[inline(always)]
-    fn for_token(self, line: &[u8], start: usize) -> Self
+    fn for_token(self, line: &[u8], start: usize) -> (Self, Left)
         requires below { self.at ≤ start }
         requires inside { start ≤ length line.now }
-        requires knows { Knows line.now self.at self.left (units_left line.now self.at) }
-        ensures place { result.at ≤ start }
-        ensures knows { Knows line.now result.at result.left (units_left line.now result.at) }
-        ensures found { (fs : List Form) → found fs result.left.item (result.left.begun == 0) (drop start line.now)
+        requires knows { Reaches line.now self }
+        ensures place { result.0.at ≤ start }
+        ensures knows { Reaches line.now result.0 }
+        ensures found { (fs : List Form) → found fs result.1.item (result.1.begun == 0) (drop start line.now)
             ≡ found_behind fs (units_left line.now start) (drop start line.now) }
     {
         if begins_sign(&line[start..]) {
-            self.to(line, start)
+            let here = self.to(line, start);
+            (here, here.left.past(line, here.at, start))
         } else {
-            self
+            (self, self.left)
         }
     }
 }
 
-/// The tokens of a line: each is the longest piece that may stand in its place, and between them stand only blanks and
-/// continuations, and at the end the line end (sudoers(5), SUDOERS FILE FORMAT).
+/// The tokens of a line: each is the longest piece of the first form of which one may stand in its place, and between them
+/// stand only blanks and continuations, and at the end the line end (sudoers(5), SUDOERS FILE FORMAT).
 ///
 /// # Errors
 ///
@@ -176,8 +183,9 @@ pub fn tokens(alloc: Global, line: &[u8], mode: Mode) -> Result<Vec<Token>, Text
     let mut reached = Reached::beginning();
     let mut at = 0;
     while let Some(start) = token_start(line, at) {
-        reached = reached.for_token(line, start);
-        let piece = here.piece(reached.left, &line[start..]);
+        let (next, left) = reached.for_token(line, start);
+        reached = next;
+        let piece = here.piece(left, &line[start..]);
         at = start + piece.len;
         tokens.push(Token {
             kind: piece.kind,

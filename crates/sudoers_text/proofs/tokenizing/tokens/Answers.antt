@@ -17,10 +17,10 @@ token_start-requires c = c.loop-start.invariant.standing.inside
 -- one token more
 next : (c : goal.After-behind-here) → Next c.args.mode c.args.line.now c.behind-here.result c.in-Some.start c.piece-piece.result.len (c.loop-start.tokens.items ++ record { kind = c.piece-piece.result.kind; start = c.in-Some.start; stop = c.in-Some.start + c.piece-piece.result.len } ∷ [])
 next c =
-    next_standing c.args.mode c.args.line.now c.loop-start.here c.behind-here.result c.for_token-reached.result.left
+    next_standing c.args.mode c.args.line.now c.loop-start.here c.behind-here.result c.for_token.result.1
     c.loop-start.at c.in-Some.start c.piece-piece.result.len c.piece-piece.result.kind c.loop-start.tokens.items c.loop-start.invariant.standing
     (record { is = c.in-Some.ensures.some.0; more = c.in-Some.ensures.some.1 })
-    c.for_token-reached.ensures.found c.piece-piece.ensures.found c.piece-piece.ensures.within c.behind-here.ensures
+    c.for_token.ensures.found c.piece-piece.ensures.found c.piece-piece.ensures.within c.behind-here.ensures
 
 pub loop-start-smaller : goal.loop-start-smaller
 loop-start-smaller c =
@@ -33,8 +33,8 @@ loop-start-preserved c =
     record {
       standing = subst (λ (ts : List Token). Standing c.args.mode c.args.line.now c.behind-here.result (c.in-Some.start + c.piece-piece.result.len) ts)
           (sym c.in_ok-push.ensures.items) more.standing;
-      below = omega (arith, c.for_token-reached.ensures.place);
-      knows = c.for_token-reached.ensures.knows;
+      below = omega (arith, c.for_token.ensures.place);
+      knows = c.for_token.ensures.knows;
     }
 
 pub returns-clause-exact : goal.returns-clause-exact

@@ -1,6 +1,5 @@
 use Rattle.std.proofs.Common.{◌-◌, ◌≤◌, length}
-use Rattle.sudoers_text.specs.Left.{Knows}
-use Rattle.sudoers_text.specs.Token.{units_left}
+use Rattle.sudoers_text.specs.Reached.{Reaches}
 use Rattle.sudoers_text.proofs.Standing.{Standing}
 use Rattle.sudoers_text.proofs.tokenizing.tokens.Given as goal
 
@@ -8,7 +7,7 @@ abbrev pub invariant-loop-start : goal.invariant-loop-start
 invariant-loop-start l = record {
   standing : Standing l.fn.mode l.line l.here l.at l.tokens.items;
   below : l.reached.at ≤ l.at;
-  knows : Knows l.line l.reached.at l.reached.left (units_left l.line l.reached.at);
+  knows : Reaches l.line l.reached;
 }
 
 abbrev pub decreases-loop-start : goal.decreases-loop-start
