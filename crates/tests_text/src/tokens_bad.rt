@@ -63,6 +63,34 @@ W--BW
 }
 
 #[test]
+fn a_cr_alone_parts_a_percent_sign_from_what_stands_before_it(rt: HostRuntime) -> Result<(), Fail> {
+    for mode in [Mode::Words, Mode::Commands] {
+        are_read(
+            &rt,
+            rt.alloc(),
+            mode,
+            r#"
+␍%␍%x
+BWBW-
+␍%␍%x␍␊
+BWBW-
+␍%#5
+BWC-
+a,␍%#5
+W:BWC-
+a,%␍%␍%#5
+W:WBWBWC-
+a,\␍%#5
+W:BBWC-
+␍%,%#5
+BW:I--
+"#,
+        )?;
+    }
+    Ok(())
+}
+
+#[test]
 fn a_cr_in_a_quoted_part_leaves_the_quote_open(rt: HostRuntime) -> Result<(), Fail> {
     are_read(
         &rt,

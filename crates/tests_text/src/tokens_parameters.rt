@@ -179,6 +179,29 @@ W------- N:V-- C-
 }
 
 #[test]
+fn an_escaped_percent_sign_leads_to_no_id(rt: HostRuntime) -> Result<(), Fail> {
+    are_read(
+        &rt,
+        rt.alloc(),
+        Mode::Parameters,
+        r#"
+Defaults \%#1\%
+W------- BBC---
+Defaults \%\%#1
+W------- BBBBC-
+Defaults ,%\%#1
+W------- :BBBC-
+Defaults ,\\%#1
+W------- :BBBC-
+Defaults ,\␊%#1
+W------- :  BBN
+Defaults ,\%,%#1
+W------- :BB:BBN
+"#,
+    )
+}
+
+#[test]
 fn bytes_with_which_no_piece_begins_are_bad(rt: HostRuntime) -> Result<(), Fail> {
     are_read(
         &rt,
