@@ -12,5 +12,6 @@ pub mod Word
 pub mod Piece
 pub mod Context
 pub mod Token
+pub mod LineMode
 pub mod Found
 pub mod Value

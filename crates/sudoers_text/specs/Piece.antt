@@ -85,10 +85,14 @@ include_size before (b ∷ rest) =
 abbrev pub begins_scope : List ℕ → Bool
 begins_scope bytes = begins_with 64 bytes || begins_with 62 bytes
 
+-- the word `Defaults`, or the same before a scope's sign
+abbrev pub begins_defaults : List ℕ → Bool
+begins_defaults bytes = starts_with nat_eq bytes defaults_word && (run_size rule.Word bytes == 8 || begins_scope (drop 8 bytes))
+
 -- a whole word, but that `Defaults` may stand before a scope's sign
 unfoldable pub first_word_size : List ℕ → ℕ
 first_word_size bytes =
-    if starts_with nat_eq bytes defaults_word && (run_size rule.Word bytes == 8 || begins_scope (drop 8 bytes)) then 8
+    if begins_defaults bytes then 8
     else (if is_among at_includes (take (run_size rule.Word bytes) bytes) then run_size rule.Word bytes
     else 0)
 

@@ -8,6 +8,7 @@ mod finding;
 mod laws;
 mod line;
 mod meaning;
+mod modes;
 mod part;
 mod piece;
 mod run;
@@ -24,9 +25,10 @@ pub use laws::{
     lines_stand_alone, one_list, one_outcome, some_list,
 };
 pub use line::{Lines, cut};
-pub use meaning::value;
+pub use modes::line_mode;
+pub use meaning::{blanks_len, value};
 pub use token::{Mode, Token, TokenKind};
 pub use token_laws::{longest_or_none, one_token_list, tokens_are};
 pub use tokenizing::tokens;
-pub use unit::ends_in_lf;
+pub use unit::{begins_line_end, ends_in_lf, line_end_len};
 pub use word::{is_name, is_reserved};

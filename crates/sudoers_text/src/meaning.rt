@@ -39,7 +39,7 @@ fn hex_byte(bytes: &[u8]) -> Option<u8>
 }
 
 /// How many blanks the bytes begin with.
-fn blanks_len(bytes: &[u8]) -> usize
+pub fn blanks_len(bytes: &[u8]) -> usize
     ensures value { result ≡ blanks_size bytes.now }
     ensures within { result ≤ length bytes.now }
 {

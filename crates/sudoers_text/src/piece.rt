@@ -1,7 +1,7 @@
 //! The pieces of a line: how many bytes the longest has that begins the bytes.
 
-ghost use Rattle.std.specs.Prelude.{◌≡◌, ◌==◌, ◌+◌, ◌<◌, ◌≤◌, ◌^◌, length};
-ghost use Rattle.sudoers_text.specs.Piece.{operator_size, begins_scope, first_word_size, quoted_rest_size};
+ghost use Rattle.std.specs.Prelude.{◌≡◌, ◌==◌, ◌+◌, ◌<◌, ◌≤◌, ◌^◌, length, true};
+ghost use Rattle.sudoers_text.specs.Piece.{operator_size, begins_scope, begins_defaults, first_word_size, quoted_rest_size};
 ghost use Rattle.sudoers_text.specs.Token.{bad_size};
 ghost use Rattle.sudoers_text.specs.Found.{behind_prefix, hash_number_size, colon_number_size, number_size, colon_word_size, group_size, command_path_size, argument_size, comment_at, include_at};
 
@@ -148,6 +148,14 @@ pub fn begins_scope(bytes: &[u8]) -> bool
     begins_with(b'@', bytes) || begins_with(b'>', bytes)
 }
 
+/// Whether the bytes begin with the word `Defaults`, or with the same before a scope's sign.
+pub fn begins_defaults(bytes: &[u8]) -> bool
+    ensures value { result ≡ begins_defaults bytes.now }
+    ensures within { result ≡ true → 8 ≤ length bytes.now }
+{
+    bytes.starts_with(b"Defaults") && (run_len(Rule::Word, bytes) == 8 || begins_scope(&bytes[8..]))
+}
+
 /// `Defaults`, `@include` or `@includedir`.
 #[tactic(auto, unfolding(crate::specs::Piece::first_word_size))]
 pub fn first_word_len(bytes: &[u8]) -> usize
@@ -155,7 +163,7 @@ pub fn first_word_len(bytes: &[u8]) -> usize
     ensures within { result ≤ length bytes.now }
 {
     let word = run_len(Rule::Word, bytes);
-    if bytes.starts_with(b"Defaults") && (word == 8 || begins_scope(&bytes[8..])) {
+    if begins_defaults(bytes) {
         8
     } else if is_at_include(&bytes[..word]) {
         word

@@ -1,0 +1,11 @@
+pub mod Piece
+pub mod Seen
+pub mod Number
+pub mod Pattern
+pub mod Atom
+pub mod Grammar
+pub mod Fault
+pub mod Line
+pub mod Machine
+pub mod Places
+pub mod Steps

@@ -1,0 +1,37 @@
+//! Laws of lines, for the layers above. Each is the contract of a function that does nothing.
+
+ghost use Rattle.std.specs.Prelude.{◌≡◌, ◌⊎◌, ℕ, List};
+ghost use Rattle.sudoers_line.specs.declared.fault.Why.{Why as WhyOf};
+ghost use Rattle.sudoers_line.specs.declared.node.Node.{Node as NodeOf};
+ghost use Rattle.sudoers_line.specs.Line.{ReadsLine, IsFault, HasFault};
+
+use sudoers_text::{one_token_list, tokens_are};
+
+/// A line says one thing at most.
+pub fn one_reading()
+    ensures { (line : List ℕ) (node other : NodeOf) → ReadsLine line node → ReadsLine line other → node ≡ other }
+{
+    one_token_list();
+}
+
+/// A line that says something has no fault.
+pub fn no_fault()
+    ensures { (line : List ℕ) (node : NodeOf) (at : ℕ) (why : WhyOf) → ReadsLine line node → IsFault line at why → ⊥ }
+{
+    one_token_list();
+}
+
+/// A line has one first fault at most.
+pub fn one_fault()
+    ensures { (line : List ℕ) (at other : ℕ) (why cause : WhyOf) → IsFault line at why → IsFault line other cause
+        → (at ≡ other) × (why ≡ cause) }
+{
+    one_token_list();
+}
+
+/// A line says something, or it has a first fault.
+pub fn some_outcome()
+    ensures { (line : List ℕ) → ((node : NodeOf) × ReadsLine line node) ⊎ HasFault line }
+{
+    tokens_are();
+}

@@ -1,0 +1,29 @@
+//! The reading of one line of a sudoers policy.
+#![tactic(auto)]
+
+mod atom;
+mod cause;
+mod commands;
+mod fault;
+mod held;
+mod items;
+mod laws;
+mod members;
+mod node;
+mod number;
+mod params;
+mod part;
+mod pattern;
+mod place;
+mod reading;
+mod state;
+mod step;
+
+pub use fault::{LineFault, Why};
+pub use items::Items;
+pub use laws::{no_fault, one_fault, one_reading, some_outcome};
+pub use node::{
+    Address, Args, Atom, CmdSpec, Def, Digest, DigestKind, HostGroup, Kind, Mask, Member, Node,
+    Operator, OptionName, Param, RunasSpec, Scope, Setting, Tag,
+};
+pub use reading::parse;

@@ -1,0 +1,112 @@
+//! What a line says.
+
+ghost use Rattle.std.specs.Prelude.{◌≡◌, ◌≤◌, ◌<◌, ◌⊎◌, ℕ, List, length, map, All, IfOk, IfErr};
+ghost use Rattle.sudoers_text.specs.declared.token.Token.{Token as TokenOf};
+ghost use Rattle.sudoers_text.specs.Token.{IsWithin, HasTokens};
+ghost use Rattle.sudoers_text.specs.LineMode.{line_mode};
+ghost use Rattle.sudoers_text.specs.Found.{tokens_of};
+ghost use Rattle.sudoers_line.specs.declared.fault.Why.{Why as WhyOf};
+ghost use Rattle.sudoers_line.specs.declared.node.Node.{Node as NodeOf};
+ghost use Rattle.sudoers_line.specs.declared.state.State.TheVariants as State;
+ghost use Rattle.sudoers_line.specs.Piece.{pieces, ends_line};
+ghost use Rattle.sudoers_line.specs.Seen.{seen};
+ghost use Rattle.sudoers_line.specs.Line.{ReadsLine, IsFault, IsFaultOf, Gives, Refuses, last_line_end, line_stop};
+ghost use Rattle.sudoers_line.specs.Machine.{run};
+ghost use Rattle.sudoers_line.specs.Steps.{Tells};
+
+use crate::cause::cause;
+use crate::fault::{LineFault, Why};
+use crate::node::Node;
+use crate::part::{Part, ends_with};
+use crate::state::State;
+use crate::step::{finish, step};
+use std::alloc::{AllocError, Global};
+use sudoers_text::{Token, begins_line_end, line_mode, one_token_list, tokens};
+
+/// How many bytes the line end has with which the line ends.
+fn last_line_end(line: &[u8]) -> usize
+    ensures value { result ≡ last_line_end line.now }
+    ensures within { result ≤ length line.now }
+{
+    if !ends_with(b'\n', line) {
+        0
+    } else if ends_with(b'\r', &line[..line.len() - 1]) {
+        2
+    } else {
+        1
+    }
+}
+
+/// Whether nothing is left, or a line end comes.
+fn ends_line(rest: &[u8]) -> bool
+    ensures { result ≡ ends_line rest.now }
+{
+    rest.is_empty() || begins_line_end(rest)
+}
+
+/// The tokens with their texts.
+fn parts<'a>(alloc: Global, line: &'a [u8], tokens: &[Token]) -> Result<Vec<Part<'a>>, AllocError>
+    requires { All (IsWithin (length line.now)) tokens.now }
+    ensures { IfOk result (λ parts. map seen parts.items ≡ pieces line.now tokens.now) }
+{
+    let mut parts = Vec::with_capacity(alloc, tokens.len())?;
+    for token in tokens {
+        parts.push(Part {
+            kind: token.kind,
+            text: &line[token.start..token.stop],
+            start: token.start,
+            stop: token.stop,
+            last: ends_line(&line[token.stop..]),
+        })?;
+    }
+    Ok(parts)
+}
+
+/// What the tokens of a line say that ends at this byte.
+fn read(alloc: Global, parts: &[Part<'_>], stop: usize) -> Result<Node, LineFault>
+    ensures { Tells stop result (run State.Begin (map seen parts.now)) }
+{
+    let mut state = State::Begin;
+    for part in parts {
+        let place = state.place();
+        state = match step(alloc, state, part)? {
+            Some(next) => next,
+            None => {
+                return Err(LineFault::Syntax {
+                    at: part.start,
+                    why: cause(alloc, place, part)?,
+                });
+            }
+        };
+    }
+    match finish(state)? {
+        Some(node) => Ok(node),
+        None => Err(LineFault::Syntax {
+            at: stop,
+            why: Why::EndOfLine,
+        }),
+    }
+}
+
+/// What one logical line says (sudoers(5), SUDOERS FILE FORMAT). Limits, reserved words and names that are defined twice are
+/// no matter of one line.
+///
+/// # Errors
+///
+/// [`LineFault::Syntax`] where the line says nothing: the first byte at which no line goes on that begins so, and why;
+/// [`LineFault::NoMemory`] where a growth of memory was refused.
+pub fn parse(alloc: Global, line: &[u8]) -> Result<Node, LineFault>
+    // What is given is what the line says.
+    ensures found { IfOk result (λ node. ReadsLine line.now node) }
+    // What the line says is given, unless memory runs out.
+    ensures only { (node : NodeOf) → ReadsLine line.now node → Gives result node }
+    // A fault is the line's first.
+    ensures fault { IfErr result (λ fault. IsFaultOf line.now fault) }
+    // The line's first fault is told, unless memory runs out.
+    ensures refused { (at : ℕ) (why : WhyOf) → IsFault line.now at why → Refuses result at why }
+{
+    one_token_list();
+    let tokens = tokens(alloc, line, line_mode(line))?;
+    let parts = parts(alloc, line, tokens.as_slice())?;
+    read(alloc, parts.as_slice(), line.len() - last_line_end(line))
+}
