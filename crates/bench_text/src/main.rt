@@ -8,7 +8,7 @@ ghost use Rattle.sudoers_text.specs.Fault.{IsCut};
 use std::alloc::Global;
 use std::io;
 use std::io::Read;
-use sudoers_text::{Mode, TextFault, cut, tokens};
+use sudoers_text::{TextFault, cut, line_mode, tokens};
 
 fn main(rt: HostRuntime) -> io::Result<()> {
     let mut words = std::env::args(&rt)?;
@@ -42,20 +42,6 @@ fn line_count(alloc: Global, text: &[u8]) -> Result<usize, TextFault>
     Ok(lines.len())
 }
 
-/// The mode in which a line is read, by its first bytes: as ordinary policies write it.
-fn mode_of(line: &[u8]) -> Mode {
-    if line.starts_with(b"Defaults") {
-        Mode::Parameters
-    } else if line.starts_with(b"User_Alias")
-        || line.starts_with(b"Runas_Alias")
-        || line.starts_with(b"Host_Alias")
-    {
-        Mode::Words
-    } else {
-        Mode::Commands
-    }
-}
-
 /// How many tokens the lines of a text have.
 ///
 /// # Errors
@@ -66,7 +52,7 @@ fn token_count(alloc: Global, text: &[u8]) -> Result<usize, TextFault> {
     let mut count: usize = 0;
     for i in 0..lines.len() {
         if let Some(line) = lines.get(i) {
-            count = count.wrapping_add(tokens(alloc, line, mode_of(line))?.len());
+            count = count.wrapping_add(tokens(alloc, line, line_mode(line))?.len());
         }
     }
     Ok(count)

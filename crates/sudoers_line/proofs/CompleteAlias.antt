@@ -45,6 +45,7 @@ behind_one ds n ms m s h = record {
   where
     comma : (t : Piece) → IsMark 44 t → behind_command (commands.Definition ds n ms) m t ≡ Some (AtCommand (commands.Definition ds n (ms ++ m ∷ [])))
     comma t e = rw e refl
+
     colon : (t : Piece) → IsMark 58 t → behind_command (commands.Definition ds n ms) m t ≡ Some (AtName Cmnd (ds ++ definition n (ms ++ m ∷ []) ∷ []))
     colon t e = rw (other_mark 58 44 t e refl, e) refl
 
@@ -53,8 +54,8 @@ commands_lead : (ds : List Def) (n : Named) (ms : List Member) (ts rest : List P
 commands_lead ds n ms ts rest h =
     separated_read 44 IsCommand (λ xs. AtCommand (commands.Definition ds n xs)) (IsBehindCommands ds n)
     (λ xs us x behind p.
-      let l = command_read (commands.Definition ds n xs) us x behind (inl refl) p in
-      record { next = l.next; is = behind_one ds n xs x l.next l.is; same = l.same })
+    let l = command_read (commands.Definition ds n xs) us x behind (inl refl) p in
+    record { next = l.next; is = behind_one ds n xs x l.next l.is; same = l.same })
     (λ xs s t is e. is.commas t e)
     ms ts rest h
 

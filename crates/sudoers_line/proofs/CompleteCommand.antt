@@ -79,7 +79,7 @@ word_read (b ∷ args) s c d t a rest opens are e suit =
     let f = taken_else (begins_with 94 b.text) (command_with t.kind t.text (args_of (b ∷ args))) a e in
     let g = program_named t.kind t.text (args_of (b ∷ args)) a f.1 in
     let suited_bare : suits d.digests (program_atom g.named Any) ≡ true =
-        suits_alike d.digests g.named (args_of (b ∷ args)) Any (ap (suits d.digests) g.made ∙ suit) in
+    suits_alike d.digests g.named (args_of (b ∷ args)) Any (ap (suits d.digests) g.made ∙ suit) in
     record {
       next = BehindProgram c d g.named (with_arguments (with_argument Any b.text) args) (stop_of b args);
       is = subst (λ (x : Atom). IsBehindCommand c (command d (stop_of b args) x) (BehindProgram c d g.named (with_arguments (with_argument Any b.text) args) (stop_of b args)))
@@ -169,8 +169,8 @@ first_digest s c ts x rest opens takes h =
     let word = digest_word_kind h.word x.kind h.is_kind in
     ap (run s) h.split
     ∙ token_run s (BehindDigestKind c (no_draft h.word false) x.kind) h.word (h.colon ∷ h.digest ∷ rest) (ap is_comment word)
-      (opens h.word (h.colon ∷ h.digest ∷ rest) h.split (λ b ne. word_no_mark b h.word word) (digest_no_option h.word x.kind h.is_kind) (digest_no_tag h.word x.kind h.is_kind)
-      ∙ digest_begun c h.word x.kind takes h.is_kind)
+    (opens h.word (h.colon ∷ h.digest ∷ rest) h.split (λ b ne. word_no_mark b h.word word) (digest_no_option h.word x.kind h.is_kind) (digest_no_tag h.word x.kind h.is_kind)
+    ∙ digest_begun c h.word x.kind takes h.is_kind)
     ∙ behind_kind_run c h.word.start [] ts x rest h
     ∙ ap (λ (start : ℕ). run (BehindDigest c (digested start (x ∷ []))) rest) (ap start_of (sym h.split))
 
@@ -239,7 +239,7 @@ pub command_from : (s : State) (c : Commands) (ts : List Piece) (m : Member) (re
 command_from s c ts m rest opens takes h =
     let before = before_signs m.digests s c ts h.behind opens takes h.digests in
     let l = signed_read h.signs before.at c (digested (start_of ts) m.digests) h.word h.args m.atom rest
-        (λ t more e begins. before.opens_signed t more (h.split ∙ e) begins) h.are_signs h.are_args h.atom (suits_true m.digests m h.suits) in
+    (λ t more e begins. before.opens_signed t more (h.split ∙ e) begins) h.are_signs h.are_args h.atom (suits_true m.digests m h.suits) in
     record {
       next = l.next;
       is = subst (λ (x : Member). IsBehindCommand c x l.next) (made_command ts m rest h) l.is;

@@ -168,6 +168,7 @@ behind_one ms m s h = record {
   where
     comma : (t : Piece) → IsMark 44 t → behind_command (commands.Scope ms) m t ≡ Some (AtCommand (commands.Scope (ms ++ m ∷ [])))
     comma t e = rw e refl
+
     other : (t : Piece) → BeginsParam t → behind_command (commands.Scope ms) m t ≡ in_param (no_params (Some (record { kind = Cmnd; members = ms ++ m ∷ [] }))) no_signs t
     other t begins = rw (begins.no_mark 44 refl) refl
 
@@ -176,8 +177,8 @@ commands_lead : (ms : List Member) (ts rest : List Piece) → Separated 44 HasNo
 commands_lead ms ts rest h =
     separated_read 44 HasNoDigests (λ xs. AtCommand (commands.Scope xs)) IsBehindScope
     (λ xs us x behind p.
-      let l = command_read (commands.Scope xs) us x behind (inr p.0) p.1 in
-      record { next = l.next; is = behind_one xs x l.next l.is; same = l.same })
+    let l = command_read (commands.Scope xs) us x behind (inr p.0) p.1 in
+    record { next = l.next; is = behind_one xs x l.next l.is; same = l.same })
     (λ xs s t is e. is.commas t e)
     ms ts rest h
 

@@ -176,6 +176,7 @@ behind_one us gs hs cs c s h = record {
   where
     comma : (t : Piece) → IsMark 44 t → behind_command (commands.Row (rowed us gs hs cs) (headed c.runas c.options c.tags)) c.member t ≡ Some (AtCmdSpec (rowed us gs hs (cs ++ c ∷ [])) no_head stage.Runas)
     comma t e = rw e refl
+
     colon : (t : Piece) → IsMark 58 t → behind_command (commands.Row (rowed us gs hs cs) (headed c.runas c.options c.tags)) c.member t ≡ Some (AtMember (Hosts us (gs ++ grouped hs (cs ++ c ∷ []) ∷ [])) [] no_signs)
     colon t e = rw (other_mark 58 44 t e refl, e) refl
 
@@ -189,10 +190,10 @@ tags_then : (us : List Member) (gs : List HostGroup) (hs : List Member) (cs : Li
 tags_then us gs hs cs c s ts behind rest at tags member =
     let r = rowed us gs hs cs in
     let t = many_read IsTag (λ xs. AtTags r (headed c.runas c.options xs))
-        (λ xs u ys x more is h. tag_read r (headed c.runas c.options xs) u ys x more is h)
-        c.tags s ts behind at tags in
+    (λ xs u ys x more is h. tag_read r (headed c.runas c.options xs) u ys x more is h)
+    c.tags s ts behind at tags in
     let l = command_from t.next (commands.Row r (headed c.runas c.options c.tags)) behind c.member rest
-        (command_opens r (headed c.runas c.options c.tags) t.next behind t.is) (inl refl) member in
+    (command_opens r (headed c.runas c.options c.tags) t.next behind t.is) (inl refl) member in
     led s t.next ts behind (IsBehindSpecs us gs hs (cs ++ c ∷ [])) rest t.same
     (record { next = l.next; is = behind_one us gs hs cs c l.next l.is; same = l.same })
 
@@ -202,8 +203,8 @@ options_then : (us : List Member) (gs : List HostGroup) (hs : List Member) (cs :
 options_then us gs hs cs c s ts rest p at =
     let r = rowed us gs hs cs in
     let o = many_read IsOption (λ xs. AtOptions r (headed c.runas xs []))
-        (λ xs u ys x more is h. option_read r (headed c.runas xs []) u ys x more is h)
-        c.options s p.behind_runas p.behind_options at p.options in
+    (λ xs u ys x more is h. option_read r (headed c.runas xs []) u ys x more is h)
+    c.options s p.behind_runas p.behind_options at p.options in
     led s o.next p.behind_runas p.behind_options (IsBehindSpecs us gs hs (cs ++ c ∷ [])) rest o.same
     (tags_then us gs hs cs c o.next p.behind_options p.behind_tags rest (λ t e none. o.is t e ∙ ap (at_options r (headed c.runas c.options []) t) none) p.tags p.member)
 
@@ -226,7 +227,7 @@ group_from : (s : State) (us : List Member) (gs : List HostGroup) (ts : List Pie
     → OpensMember s (Hosts us gs) [] no_signs ts → IsGroup ts g rest → Leads s ts (IsBehindGroups us (gs ++ g ∷ [])) rest
 group_from s us gs ts g rest opens p =
     let l = separated_read 44 IsCmdSpec (λ xs. AtCmdSpec (rowed us gs g.hosts xs) no_head stage.Runas) (IsBehindSpecs us gs g.hosts)
-        (spec_part us gs g.hosts) (λ xs s t is e. is.commas t e) g.commands p.behind rest p.commands in
+    (spec_part us gs g.hosts) (λ xs s t is e. is.commas t e) g.commands p.behind rest p.commands in
     record {
       next = l.next;
       is = l.is.groups;
@@ -254,11 +255,11 @@ pub spec_read : (ts : List Piece) (us : List Member) (gs : List HostGroup) (rest
     → Leads Begin ts (EndsAs (node.Spec us gs)) rest
 spec_read ts us gs rest h =
     let l = separated_from 58 IsGroup (λ xs. AtMember (Hosts us xs) [] no_signs) (IsBehindGroups us)
-        (λ xs ys g behind p. group_from (AtMember (Hosts us xs) [] no_signs) us xs ys g behind (still_opens (Hosts us xs) [] no_signs ys) p)
-        (λ xs s t is e. is.colons t e)
-        (BehindMember Users us) gs h.behind rest
-        (λ g behind p. group_from (BehindMember Users us) us [] h.behind g behind (hosts_follow us h.behind) p)
-        h.groups in
+    (λ xs ys g behind p. group_from (AtMember (Hosts us xs) [] no_signs) us xs ys g behind (still_opens (Hosts us xs) [] no_signs ys) p)
+    (λ xs s t is e. is.colons t e)
+    (BehindMember Users us) gs h.behind rest
+    (λ g behind p. group_from (BehindMember Users us) us [] h.behind g behind (hosts_follow us h.behind) p)
+    h.groups in
     record {
       next = l.next;
       is = l.is.ends;

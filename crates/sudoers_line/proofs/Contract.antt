@@ -42,7 +42,7 @@ pub told_at : (stop : ℕ) (parts : List Part) (default : Part) (i : ℕ) (s : S
 told_at stop parts default i s p w inside same none place why =
     let part : Part = get_or parts i default in
     let front : run s (seen part ∷ map seen (drop (i + 1) parts)) ≡ run Begin (map seen parts) =
-          ap (λ (xs : List Part). run s (map seen xs)) (sym (drop_more parts i default inside)) ∙ same in
+    ap (λ (xs : List Part). run s (map seen xs)) (sym (drop_more parts i default inside)) ∙ same in
     subst (λ (r : Result Node Stop). Tells stop (Err (Syntax part.start w)) r) front (told stop s part (map seen (drop (i + 1) parts)) p w none place why)
 
 -- ---- what is answered

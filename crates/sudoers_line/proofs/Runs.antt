@@ -45,7 +45,6 @@ led s u ts behind Q rest e h = record { next = h.next; is = h.is; same = e ∙ h
 module _ {X : Type 0} (b : ℕ) (P : List Piece → X → List Piece → Type 0) (at : List X → State) (IsBehind : List X → State → Type 0)
     (one : (xs : List X) (ts : List Piece) (x : X) (rest : List Piece) → P ts x rest → Leads (at xs) ts (IsBehind (xs ++ x ∷ [])) rest)
     (mark : (xs : List X) (s : State) (t : Piece) → IsBehind xs s → IsMark b t → step_on s t ≡ Some (at xs)) where
-
   more_read : (ys xs : List X) (s : State) (ts rest : List Piece) → IsBehind xs s → Many (Behind b P) ts ys rest
       → Leads s ts (IsBehind (xs ++ ys)) rest
   more_read [] xs s ts rest is h = record { next = s; is = subst (λ z. IsBehind z s) (sym (append-nil xs)) is; same = ap (run s) h }
@@ -74,7 +73,6 @@ module _ {X : Type 0} (b : ℕ) (P : List Piece → X → List Piece → Type 0)
 -- without marks between them
 module _ {X : Type 0} (P : List Piece → X → List Piece → Type 0) (IsAt : List X → State → Type 0)
     (one : (xs : List X) (s : State) (ts : List Piece) (x : X) (rest : List Piece) → IsAt xs s → P ts x rest → Leads s ts (IsAt (xs ++ x ∷ [])) rest) where
-
   many_more : (ys xs : List X) (s : State) (ts rest : List Piece) → IsAt xs s → Many P ts ys rest → Leads s ts (IsAt (xs ++ ys)) rest
   many_more [] xs s ts rest is h = record { next = s; is = subst (λ z. IsAt z s) (sym (append-nil xs)) is; same = ap (run s) h }
   many_more (y ∷ ys) xs s ts rest is (behind, h, others) =

@@ -55,9 +55,9 @@ include_completes : (t : Piece) (ts : List Piece) (n : Node) (o : Option Bool) �
 include_completes t ts n (Some dir) no_kind e l = include_begins t ts n dir e l
 include_completes t ts n None no_kind e l =
     decided (is_defaults t) (Some (BehindDefaults t.stop)) (in_member Users [] no_signs t) ts n
-      (λ is g. defaults_begin t ts n is g)
-      (λ other g. users_begin t ts n no_kind e other g)
-      l
+    (λ is g. defaults_begin t ts n is g)
+    (λ other g. users_begin t ts n no_kind e other g)
+    l
 
 begin_completes : (t : Piece) (ts : List Piece) (n : Node) (o : Option Kind) → kind_word t ≡ o → NextCompletes (begin t o) ts n → Completes Begin (t ∷ ts) n
 begin_completes t ts n (Some k) e l = alias_begins t ts n k e l
@@ -133,17 +133,17 @@ is_it m n e = sym (same_Some m n e)
 commands_finish : (c : Commands) (m : Member) (ts : List Piece) (n : Node) → finish_commands c m ≡ Some n → IsEnd ts → CommandEnds c m n ts
 commands_finish (commands.Definition ds name ms) m ts n e end =
     list_ended 44 IsCommand (DefEnds Cmnd ds name n) (ms ++ m ∷ []) ts
-      (list_ended 58 (IsDef Cmnd) (AliasEnds Cmnd n) (ds ++ definition name (ms ++ m ∷ []) ∷ []) ts (end, is_it (node.Alias Cmnd (ds ++ definition name (ms ++ m ∷ []) ∷ [])) n e))
+    (list_ended 58 (IsDef Cmnd) (AliasEnds Cmnd n) (ds ++ definition name (ms ++ m ∷ []) ∷ []) ts (end, is_it (node.Alias Cmnd (ds ++ definition name (ms ++ m ∷ []) ∷ [])) n e))
 commands_finish (commands.Scope ms) m ts n e end = absurd cc
 commands_finish (commands.Row r h) m ts n e end =
     let made = with_command r h m in
     list_ended 44 IsCmdSpec (GroupEnds r.users r.groups r.hosts n) made.commands ts
-      (list_ended 58 IsGroup (SpecEnds r.users n) (closed (with_command r h m)) ts (end, is_it (node.Spec r.users (closed (with_command r h m))) n e))
+    (list_ended 58 IsGroup (SpecEnds r.users n) (closed (with_command r h m)) ts (end, is_it (node.Spec r.users (closed (with_command r h m))) n e))
 
 list_finish : (f : Frame) (ms : List Member) (ts : List Piece) (n : Node) → finish_list f ms ≡ Some n → IsEnd ts → Completes (BehindMember f ms) ts n
 list_finish (Definition k ds name) ms ts n e end =
     list_ended 44 (IsMember k) (DefEnds k ds name n) ms ts
-      (list_ended 58 (IsDef k) (AliasEnds k n) (ds ++ definition name ms ∷ []) ts (end, is_it (node.Alias k (ds ++ definition name ms ∷ [])) n e))
+    (list_ended 58 (IsDef k) (AliasEnds k n) (ds ++ definition name ms ∷ []) ts (end, is_it (node.Alias k (ds ++ definition name ms ∷ [])) n e))
 list_finish f ms ts n e end = absurd cc
 
 -- Where a line may end, nothing more or a comment completes it.
@@ -189,9 +189,9 @@ comment_completes s t ts n e l = behind_completes s t ts n (λ end. end) e l
 pub next_completes : (s : State) (t : Piece) (ts : List Piece) (n : Node) → NextCompletes (step s t) ts n → Completes s (t ∷ ts) n
 next_completes s t ts n l =
     decided (is_comment t.kind) (step_comment s) (step_on s t) ts n
-      (λ e g. comment_completes s t ts n e g)
-      (λ e g. step_on_completes s t ts n g)
-      l
+    (λ e g. comment_completes s t ts n e g)
+    (λ e g. step_on_completes s t ts n g)
+    l
 
 abbrev pub done : Node → Result Node Stop
 done n = Ok n

@@ -86,18 +86,18 @@ signed_command d t ts m rest e h = record {
 pub in_signed_completes : (c : Commands) (d : Draft) (t : Piece) (ts : List Piece) (n : Node) → NextCompletes (in_signed c d t) ts n → Completes (AtSigned c d) (t ∷ ts) n
 in_signed_completes c d t ts n h =
     decided (is_mark 33 t) (Some (AtSigned c (turned d))) (in_command c d t) ts n
-      (λ e g. record { command = g.command; rest = g.rest; is = signed_command d t ts g.command g.rest e g.is; ends = g.ends })
-      (λ e g. in_command_completes c d t ts n g)
-      h
+    (λ e g. record { command = g.command; rest = g.rest; is = signed_command d t ts g.command g.rest e g.is; ends = g.ends })
+    (λ e g. in_command_completes c d t ts n g)
+    h
 
 -- ---- digests
 
 pub behind_digest_completes : (c : Commands) (d : Draft) (t : Piece) (ts : List Piece) (n : Node) → NextCompletes (behind_digest c d t) ts n → Completes (BehindDigest c d) (t ∷ ts) n
 behind_digest_completes c d t ts n h =
     decided (is_mark 44 t) (Some (AtDigestKind c d)) (in_signed c d t) ts n
-      (λ e g. list_goes_on 44 IsDigest (DigestsEnd c d n) d.digests t ts e g)
-      (λ e g. list_ended 44 IsDigest (DigestsEnd c d n) d.digests (t ∷ ts) (in_signed_completes c d t ts n g))
-      h
+    (λ e g. list_goes_on 44 IsDigest (DigestsEnd c d n) d.digests t ts e g)
+    (λ e g. list_ended 44 IsDigest (DigestsEnd c d n) d.digests (t ∷ ts) (in_signed_completes c d t ts n g))
+    h
 
 pub at_digest_completes : (c : Commands) (d : Draft) (k : DigestKind) (t : Piece) (ts : List Piece) (n : Node) → NextCompletes (at_digest c d k t) ts n → Completes (AtDigest c d k) (t ∷ ts) n
 at_digest_completes c d k t ts n h =
@@ -177,9 +177,9 @@ pub in_program_completes : (c : Commands) (d : Draft) (p : Program) (args : Args
     → NextCompletes (in_program c d p args stop t) ts n → Completes (BehindProgram c d p args stop) (t ∷ ts) n
 in_program_completes c d p args stop t ts n follows h =
     decided (is_arg t.kind) (if is_first_regex args t.text then None else Some (BehindProgram c d p (with_argument args t.text) t.stop)) (behind_command c (command d stop (program_atom p args)) t) ts n
-      (λ e g. decided (is_first_regex args t.text) None (Some (BehindProgram c d p (with_argument args t.text) t.stop)) ts n
-        (λ regex none. absurd none)
-        (λ regex more. record { more = t ∷ more.more; rest = more.rest; split = ap (λ (x : List Piece). t ∷ x) more.split; are_args = (e, more.are_args); no_regex = regex; ends = more.ends })
-        g)
-      (λ e g. arguments_ended c d p args stop (t ∷ ts) n (follows g))
-      h
+    (λ e g. decided (is_first_regex args t.text) None (Some (BehindProgram c d p (with_argument args t.text) t.stop)) ts n
+    (λ regex none. absurd none)
+    (λ regex more. record { more = t ∷ more.more; rest = more.rest; split = ap (λ (x : List Piece). t ∷ x) more.split; are_args = (e, more.are_args); no_regex = regex; ends = more.ends })
+    g)
+    (λ e g. arguments_ended c d p args stop (t ∷ ts) n (follows g))
+    h

@@ -75,9 +75,9 @@ name_completes p (Some at) b t ts n e h = record {
 pub in_param_completes : (p : Params) (s : Signs) (t : Piece) (ts : List Piece) (n : Node) → NextCompletes (in_param p s t) ts n → Completes (AtParam p s) (t ∷ ts) n
 in_param_completes p s t ts n h =
     decided (is_mark 33 t) (Some (AtParam p (one_sign s t))) (if is_parameter t.kind then Some (behind_name p s.start s.negated t.text) else None) ts n
-      (λ e g. record { first = g.first; behind = g.behind; is = signed_with s g.first.setting t ts g.first g.behind e g.is; follows = g.follows })
-      (λ e g. let named = only_if (is_parameter t.kind) (behind_name p s.start s.negated t.text) ts n g in name_completes p s.start s.negated t ts n named.0 named.1)
-      h
+    (λ e g. record { first = g.first; behind = g.behind; is = signed_with s g.first.setting t ts g.first g.behind e g.is; follows = g.follows })
+    (λ e g. let named = only_if (is_parameter t.kind) (behind_name p s.start s.negated t.text) ts n g in name_completes p s.start s.negated t ts n named.0 named.1)
+    h
 
 -- ---- parameters
 
@@ -106,8 +106,8 @@ pub behind_name_completes : (p : Params) (name : List ℕ) (t : Piece) (ts : Lis
     → NextCompletes (behind_parameter p name t) ts n → Completes (BehindName p name) (t ∷ ts) n
 behind_name_completes p name t ts n h =
     decided (is_mark 44 t) (Some (AtParam (with_param p (flag false name)) no_signs)) (option_map (AtValue p name) (operator_of t)) ts n
-      (λ e g. inl (param_follows (with_param p (flag false name)) t ts n e g))
-      (λ e g.
-        let o = mapped (AtValue p name) (operator_of t) ts n g in
-        inr (record { operator = t; value = o.2.value; rest = o.2.rest; how = o.0; split = ap (λ (x : List Piece). t ∷ x) o.2.split; is_operator = o.1; is_value = o.2.is_value; follows = o.2.follows }))
-      h
+    (λ e g. inl (param_follows (with_param p (flag false name)) t ts n e g))
+    (λ e g.
+    let o = mapped (AtValue p name) (operator_of t) ts n g in
+    inr (record { operator = t; value = o.2.value; rest = o.2.rest; how = o.0; split = ap (λ (x : List Piece). t ∷ x) o.2.split; is_operator = o.1; is_value = o.2.is_value; follows = o.2.follows }))
+    h

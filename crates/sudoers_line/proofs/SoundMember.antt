@@ -38,16 +38,16 @@ signed_member k s t ts m rest e h = record {
 pub in_member_completes : (f : Frame) (ms : List Member) (s : Signs) (t : Piece) (ts : List Piece) (n : Node) → NextCompletes (in_member f ms s t) ts n → Completes (AtMember f ms s) (t ∷ ts) n
 in_member_completes f ms s t ts n h =
     decided (is_mark 33 t) (Some (AtMember f ms (one_sign s t))) (option_map (λ a. BehindMember f (ms ++ member s t a ∷ [])) (atom_of (kind_of f) t)) ts n
-      (λ e g. record { first = g.first; behind = g.behind; is = signed_member (kind_of f) s t ts g.first g.behind e g.is; follows = g.follows })
-      (λ e g.
-        let p = mapped (λ (a : Atom). BehindMember f (ms ++ member s t a ∷ [])) (atom_of (kind_of f) t) ts n g in
-        record {
-          first = member s t p.0;
-          behind = ts;
-          is = record { signs = []; last = t; split = refl; are_signs = tt; atom = p.1; negated = refl; digests = refl; start = from_last s.start t ts; stop = refl };
-          follows = p.2;
-        })
-      h
+    (λ e g. record { first = g.first; behind = g.behind; is = signed_member (kind_of f) s t ts g.first g.behind e g.is; follows = g.follows })
+    (λ e g.
+    let p = mapped (λ (a : Atom). BehindMember f (ms ++ member s t a ∷ [])) (atom_of (kind_of f) t) ts n g in
+    record {
+      first = member s t p.0;
+      behind = ts;
+      is = record { signs = []; last = t; split = refl; are_signs = tt; atom = p.1; negated = refl; digests = refl; start = from_last s.start t ts; stop = refl };
+      follows = p.2;
+    })
+    h
 
 -- a list of members from its first token on
 pub members_begin : (f : Frame) (ts : List Piece) (n : Node) → Completes (AtMember f [] no_signs) ts n → WholeList 44 (IsMember (kind_of f)) (Ends f n) ts

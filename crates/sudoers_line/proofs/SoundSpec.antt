@@ -102,9 +102,9 @@ runas_goes r h t ts n e inside =
 pub at_cmd_spec_completes : (r : Row) (h : Head) (at : Stage) (t : Piece) (ts : List Piece) (n : Node) → NextCompletes (at_cmd_spec r h at t) ts n → Completes (AtCmdSpec r h at) (t ∷ ts) n
 at_cmd_spec_completes r h stage.Runas t ts n l =
     decided (is_mark 40 t) (Some (AtRunas r)) (at_options r h t (option_name t)) ts n
-      (λ e g. runas_goes r h t ts n e g)
-      (λ e g. record { runas = None; behind = t ∷ ts; is = refl; goes = options_completes r h t ts n (option_name t) refl g })
-      l
+    (λ e g. runas_goes r h t ts n e g)
+    (λ e g. record { runas = None; behind = t ∷ ts; is = refl; goes = options_completes r h t ts n (option_name t) refl g })
+    l
 at_cmd_spec_completes r h stage.Options t ts n l = options_completes r h t ts n (option_name t) refl l
 at_cmd_spec_completes r h stage.Tags t ts n l = tags_completes r h t ts n (tag_of t) refl l
 
@@ -143,14 +143,14 @@ groups_begin r us t ts n e h =
 pub at_runas_completes : (r : Row) (t : Piece) (ts : List Piece) (n : Node) → NextCompletes (at_runas r t) ts n → Completes (AtRunas r) (t ∷ ts) n
 at_runas_completes r t ts n l =
     decided (is_mark 41 t) (Some (AtCmdSpec r (with_runas [] []) stage.Options)) (if is_mark 58 t then Some (AtMember (RunasGroups r []) [] no_signs) else in_member (RunasUsers r) [] no_signs t) ts n
-      (λ e g. record { users = []; behind = t ∷ ts; are = refl; goes = no_groups r [] (t ∷ ts) n (runas_closes r [] [] t ts n e g) })
-      (λ other l. decided (is_mark 58 t) (Some (AtMember (RunasGroups r []) [] no_signs)) (in_member (RunasUsers r) [] no_signs t) ts n
-        (λ e g. record { users = []; behind = t ∷ ts; are = refl; goes = groups_begin r [] t ts n e g })
-        (λ e g.
-          let w = members_begin (RunasUsers r) (t ∷ ts) n (in_member_completes (RunasUsers r) [] no_signs t ts n g) in
-          record { users = w.all; behind = w.rest; are = perhaps_list 44 (IsMember Runas) (t ∷ ts) w.all w.rest w.are; goes = w.ends })
-        l)
-      l
+    (λ e g. record { users = []; behind = t ∷ ts; are = refl; goes = no_groups r [] (t ∷ ts) n (runas_closes r [] [] t ts n e g) })
+    (λ other l. decided (is_mark 58 t) (Some (AtMember (RunasGroups r []) [] no_signs)) (in_member (RunasUsers r) [] no_signs t) ts n
+    (λ e g. record { users = []; behind = t ∷ ts; are = refl; goes = groups_begin r [] t ts n e g })
+    (λ e g.
+    let w = members_begin (RunasUsers r) (t ∷ ts) n (in_member_completes (RunasUsers r) [] no_signs t ts n g) in
+    record { users = w.all; behind = w.rest; are = perhaps_list 44 (IsMember Runas) (t ∷ ts) w.all w.rest w.are; goes = w.ends })
+    l)
+    l
 
 -- ---- host groups
 
@@ -231,9 +231,9 @@ list_ends (Hosts us gs) ms t ts n l =
 list_ends (Scope k) ms t ts n l = params_begin (Some (record { kind = k; members = ms })) t ts n l
 list_ends (RunasUsers r) ms t ts n l =
     decided (is_mark 41 t) (Some (AtCmdSpec r (with_runas ms []) stage.Options)) (if is_mark 58 t then Some (AtMember (RunasGroups r ms) [] no_signs) else None) ts n
-      (λ e g. no_groups r ms (t ∷ ts) n (runas_closes r ms [] t ts n e g))
-      (λ other l. let g = only_if (is_mark 58 t) (AtMember (RunasGroups r ms) [] no_signs) ts n l in groups_begin r ms t ts n g.0 g.1)
-      l
+    (λ e g. no_groups r ms (t ∷ ts) n (runas_closes r ms [] t ts n e g))
+    (λ other l. let g = only_if (is_mark 58 t) (AtMember (RunasGroups r ms) [] no_signs) ts n l in groups_begin r ms t ts n g.0 g.1)
+    l
 list_ends (RunasGroups r us) ms t ts n l =
     let g = only_if (is_mark 41 t) (AtCmdSpec r (with_runas us ms) stage.Options) ts n l in
     runas_closes r us ms t ts n g.0 g.1
@@ -241,31 +241,31 @@ list_ends (RunasGroups r us) ms t ts n l =
 pub behind_member_completes : (f : Frame) (ms : List Member) (t : Piece) (ts : List Piece) (n : Node) → NextCompletes (behind_member f ms t) ts n → Completes (BehindMember f ms) (t ∷ ts) n
 behind_member_completes f ms t ts n l =
     decided (is_mark 44 t) (Some (AtMember f ms no_signs)) (behind_list f ms t) ts n
-      (λ e g. list_goes_on 44 (IsMember (kind_of f)) (Ends f n) ms t ts e (member_begins f ms ts n g))
-      (λ e g. list_ended 44 (IsMember (kind_of f)) (Ends f n) ms (t ∷ ts) (list_ends f ms t ts n g))
-      l
+    (λ e g. list_goes_on 44 (IsMember (kind_of f)) (Ends f n) ms t ts e (member_begins f ms ts n g))
+    (λ e g. list_ended 44 (IsMember (kind_of f)) (Ends f n) ms (t ∷ ts) (list_ends f ms t ts n g))
+    l
 
 -- ---- behind a command
 
 pub behind_command_completes : (c : Commands) (m : Member) (t : Piece) (ts : List Piece) (n : Node) → NextCompletes (behind_command c m t) ts n → CommandEnds c m n (t ∷ ts)
 behind_command_completes (commands.Definition ds name ms) m t ts n l =
     decided (is_mark 44 t) (Some (AtCommand (commands.Definition ds name (ms ++ m ∷ [])))) (if is_mark 58 t then Some (AtName Cmnd (ds ++ definition name (ms ++ m ∷ []) ∷ [])) else None) ts n
-      (λ e g. list_goes_on 44 IsCommand (DefEnds Cmnd ds name n) (ms ++ m ∷ []) t ts e (record { first = g.command; behind = g.rest; is = g.is; follows = g.ends }))
-      (λ other l.
-        let g = only_if (is_mark 58 t) (AtName Cmnd (ds ++ definition name (ms ++ m ∷ []) ∷ [])) ts n l in
-        list_ended 44 IsCommand (DefEnds Cmnd ds name n) (ms ++ m ∷ []) (t ∷ ts) (list_goes_on 58 (IsDef Cmnd) (AliasEnds Cmnd n) (ds ++ definition name (ms ++ m ∷ []) ∷ []) t ts g.0 g.1))
-      l
+    (λ e g. list_goes_on 44 IsCommand (DefEnds Cmnd ds name n) (ms ++ m ∷ []) t ts e (record { first = g.command; behind = g.rest; is = g.is; follows = g.ends }))
+    (λ other l.
+    let g = only_if (is_mark 58 t) (AtName Cmnd (ds ++ definition name (ms ++ m ∷ []) ∷ [])) ts n l in
+    list_ended 44 IsCommand (DefEnds Cmnd ds name n) (ms ++ m ∷ []) (t ∷ ts) (list_goes_on 58 (IsDef Cmnd) (AliasEnds Cmnd n) (ds ++ definition name (ms ++ m ∷ []) ∷ []) t ts g.0 g.1))
+    l
 behind_command_completes (commands.Scope ms) m t ts n l =
     decided (is_mark 44 t) (Some (AtCommand (commands.Scope (ms ++ m ∷ [])))) (in_param (no_params (Some (record { kind = Cmnd; members = ms ++ m ∷ [] }))) no_signs t) ts n
-      (λ e g. list_goes_on 44 HasNoDigests (ScopeEnds Cmnd n) (ms ++ m ∷ []) t ts e (record { first = g.command; behind = g.rest; is = g.is; follows = g.ends }))
-      (λ e g. list_ended 44 HasNoDigests (ScopeEnds Cmnd n) (ms ++ m ∷ []) (t ∷ ts) (params_begin (Some (record { kind = Cmnd; members = ms ++ m ∷ [] })) t ts n g))
-      l
+    (λ e g. list_goes_on 44 HasNoDigests (ScopeEnds Cmnd n) (ms ++ m ∷ []) t ts e (record { first = g.command; behind = g.rest; is = g.is; follows = g.ends }))
+    (λ e g. list_ended 44 HasNoDigests (ScopeEnds Cmnd n) (ms ++ m ∷ []) (t ∷ ts) (params_begin (Some (record { kind = Cmnd; members = ms ++ m ∷ [] })) t ts n g))
+    l
 behind_command_completes (commands.Row r h) m t ts n l =
     let made = with_command r h m in
     decided (is_mark 44 t) (Some (AtCmdSpec (with_command r h m) no_head stage.Runas)) (if is_mark 58 t then Some (AtMember (Hosts r.users (closed (with_command r h m))) [] no_signs) else None) ts n
-      (λ e g. list_goes_on 44 IsCmdSpec (GroupEnds r.users r.groups r.hosts n) made.commands t ts e (spec_begins (with_command r h m) n ts g))
-      (λ other l.
-        let g = only_if (is_mark 58 t) (AtMember (Hosts r.users (closed (with_command r h m))) [] no_signs) ts n l in
-        list_ended 44 IsCmdSpec (GroupEnds r.users r.groups r.hosts n) made.commands (t ∷ ts)
-          (list_goes_on 58 IsGroup (SpecEnds r.users n) (closed (with_command r h m)) t ts g.0 (group_begins r.users (closed (with_command r h m)) ts n g.1)))
-      l
+    (λ e g. list_goes_on 44 IsCmdSpec (GroupEnds r.users r.groups r.hosts n) made.commands t ts e (spec_begins (with_command r h m) n ts g))
+    (λ other l.
+    let g = only_if (is_mark 58 t) (AtMember (Hosts r.users (closed (with_command r h m))) [] no_signs) ts n l in
+    list_ended 44 IsCmdSpec (GroupEnds r.users r.groups r.hosts n) made.commands (t ∷ ts)
+    (list_goes_on 58 IsGroup (SpecEnds r.users n) (closed (with_command r h m)) t ts g.0 (group_begins r.users (closed (with_command r h m)) ts n g.1)))
+    l

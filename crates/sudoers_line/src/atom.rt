@@ -183,7 +183,9 @@ fn host_atom(alloc: Global, kind: TokenKind, text: &[u8]) -> Result<Option<Atom>
             Ok(Some(Atom::Host(pattern(alloc, Spelling::Host, text)?)))
         }
         TokenKind::Word => unescaped_host(alloc, text),
-        TokenKind::Quoted => Ok(filled(pattern(alloc, Spelling::QuotedHost, text)?).map(Atom::Host)),
+        TokenKind::Quoted => Ok(filled(pattern(alloc, Spelling::QuotedHost, text)?).map(
+            Atom::Host,
+        )),
         _ => Ok(None),
     }
 }

@@ -46,7 +46,11 @@ fn is_empty_quotes(kind: TokenKind, text: &[u8], name: &[u8]) -> bool
 fn behind_percent(name: &[u8]) -> &[u8]
     ensures { result.now ≡ behind_percent name.now }
 {
-    if begins_with(b'%', name) { &name[1..] } else { name }
+    if begins_with(b'%', name) {
+        &name[1..]
+    } else {
+        name
+    }
 }
 
 /// Whether the name is `#` or `%#` and a number above the limit.

@@ -37,7 +37,11 @@ impl Row {
 }
 
 /// The host groups with the one that ends.
-pub fn closed(mut groups: Items<HostGroup>, hosts: Items<Member>, commands: Items<CmdSpec>) -> Result<Items<HostGroup>, AllocError>
+pub fn closed(
+    mut groups: Items<HostGroup>,
+    hosts: Items<Member>,
+    commands: Items<CmdSpec>,
+) -> Result<Items<HostGroup>, AllocError>
     ensures { IfOk result (λ all. all ≡ groups ++ record { hosts = hosts; commands = commands } ∷ []) }
 {
     groups.push(HostGroup { hosts, commands })?;
@@ -197,7 +201,9 @@ pub fn at_command(
 {
     let draft = Held::new(alloc, Draft::begun(alloc, part, false))?;
     match part.digest_kind() {
-        Some(kind) if commands.get().takes_digest() => Ok(Some(State::BehindDigestKind(commands, draft, kind))),
+        Some(kind) if commands.get().takes_digest() => Ok(Some(State::BehindDigestKind(
+            commands, draft, kind,
+        ))),
         Some(_) => Ok(None),
         None => in_signed(alloc, commands, draft, part),
     }

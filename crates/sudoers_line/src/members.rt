@@ -144,7 +144,11 @@ pub fn at_scope(alloc: Global, kind: Kind) -> Result<State, AllocError>
 }
 
 /// The first token of a list.
-pub fn first_member(alloc: Global, frame: Frame, part: &Part<'_>) -> Result<Option<State>, AllocError>
+pub fn first_member(
+    alloc: Global,
+    frame: Frame,
+    part: &Part<'_>,
+) -> Result<Option<State>, AllocError>
     ensures { IfOk result (λ state. state ≡ in_member frame [] no_signs (seen part.now)) }
 {
     let frame = Held::new(alloc, frame)?;

@@ -19,14 +19,20 @@ pub enum Node {
     /// A comment alone.
     Comment,
     /// Another file, or all files of a directory, read in this place.
-    Include { dir: bool, path: Items<u8> },
+    Include {
+        dir: bool,
+        path: Items<u8>,
+    },
     /// Settings of parameters, for all or for a list of users, runas users, hosts or commands.
     Defaults {
         scope: Option<Scope>,
         params: Items<Param>,
     },
     /// Definitions of aliases of one kind.
-    Alias { kind: Kind, defs: Items<Def> },
+    Alias {
+        kind: Kind,
+        defs: Items<Def>,
+    },
     /// Who may run what, where, and as whom.
     Spec {
         users: Items<Member>,

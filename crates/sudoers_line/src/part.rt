@@ -291,7 +291,11 @@ impl Part<'_> {
     pub fn kind_word(&self) -> Option<Kind>
         ensures { result ≡ kind_word (seen self.now) }
     {
-        if self.is_word() { kind_of_word(self.text) } else { None }
+        if self.is_word() {
+            kind_of_word(self.text)
+        } else {
+            None
+        }
     }
 
     /// Whether it begins an include, of a directory or not.
@@ -299,7 +303,11 @@ impl Part<'_> {
     pub fn include_word(&self) -> Option<bool>
         ensures { result ≡ include_word (seen self.now) }
     {
-        if self.is_word() { include_of_word(self.text) } else { None }
+        if self.is_word() {
+            include_of_word(self.text)
+        } else {
+            None
+        }
     }
 
     /// The option that it names.
@@ -307,7 +315,11 @@ impl Part<'_> {
     pub fn option_name(&self) -> Option<OptionName>
         ensures { result ≡ option_name (seen self.now) }
     {
-        if self.is_word() { option_of_word(self.text) } else { None }
+        if self.is_word() {
+            option_of_word(self.text)
+        } else {
+            None
+        }
     }
 
     /// The tag that it is.
@@ -315,7 +327,11 @@ impl Part<'_> {
     pub fn tag(&self) -> Option<(Tag, bool)>
         ensures { result ≡ tag_of (seen self.now) }
     {
-        if self.is_word() { tag_of_word(self.text) } else { None }
+        if self.is_word() {
+            tag_of_word(self.text)
+        } else {
+            None
+        }
     }
 
     /// How the digest behind it is computed.
@@ -323,7 +339,11 @@ impl Part<'_> {
     pub fn digest_kind(&self) -> Option<DigestKind>
         ensures { result ≡ digest_kind (seen self.now) }
     {
-        if self.is_word() { digest_of_word(self.text) } else { None }
+        if self.is_word() {
+            digest_of_word(self.text)
+        } else {
+            None
+        }
     }
 
     /// The operator that it is.
@@ -331,7 +351,11 @@ impl Part<'_> {
     pub fn operator(&self) -> Option<Operator>
         ensures { result ≡ operator_of (seen self.now) }
     {
-        if self.is_punct() { operator_of_mark(self.text) } else { None }
+        if self.is_punct() {
+            operator_of_mark(self.text)
+        } else {
+            None
+        }
     }
 
     /// What it is the scope's sign of, directly behind a word that ends at this byte.
@@ -339,6 +363,10 @@ impl Part<'_> {
     pub fn scope_sign(&self, stop: usize) -> Option<Kind>
         ensures { result ≡ scope_sign stop (seen self.now) }
     {
-        if self.is_punct() && self.start == stop { kind_of_sign(self.text) } else { None }
+        if self.is_punct() && self.start == stop {
+            kind_of_sign(self.text)
+        } else {
+            None
+        }
     }
 }

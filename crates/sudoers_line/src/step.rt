@@ -8,10 +8,14 @@ ghost use Rattle.sudoers_line.specs.Piece.{is_mark, kind_word, include_word, opt
 ghost use Rattle.sudoers_line.specs.Seen.{seen};
 
 use crate::atom::{option_value, path_value};
-use crate::commands::{at_command, at_digest, behind_command, behind_digest, closed, in_program, in_signed};
+use crate::commands::{
+    at_command, at_digest, behind_command, behind_digest, closed, in_program, in_signed,
+};
 use crate::held::Held;
 use crate::items::Items;
-use crate::members::{at_list, at_runas, at_scope, behind_list, definition, first_member, in_member};
+use crate::members::{
+    at_list, at_runas, at_scope, behind_list, definition, first_member, in_member,
+};
 use crate::node::{Def, DigestKind, Kind, Member, Node, OptionName, Tag};
 use crate::params::{at_value, behind_parameter, flag, in_param, no_params, with_param};
 use crate::part::Part;
@@ -19,7 +23,12 @@ use crate::state::{Commands, Draft, Frame, Head, Named, Params, Row, Signs, Stag
 use std::alloc::{AllocError, Global};
 
 /// A token where tags or a command may come.
-fn at_tags(alloc: Global, row: Held<Row>, head: Held<Head>, part: &Part<'_>) -> Result<Option<State>, AllocError>
+fn at_tags(
+    alloc: Global,
+    row: Held<Row>,
+    head: Held<Head>,
+    part: &Part<'_>,
+) -> Result<Option<State>, AllocError>
     ensures { IfOk result (λ state. state ≡ at_tags row head (seen part.now) (tag_of (seen part.now))) }
 {
     match part.tag() {
@@ -32,7 +41,12 @@ fn at_tags(alloc: Global, row: Held<Row>, head: Held<Head>, part: &Part<'_>) -> 
 }
 
 /// The same, or options.
-fn at_options(alloc: Global, row: Held<Row>, head: Held<Head>, part: &Part<'_>) -> Result<Option<State>, AllocError>
+fn at_options(
+    alloc: Global,
+    row: Held<Row>,
+    head: Held<Head>,
+    part: &Part<'_>,
+) -> Result<Option<State>, AllocError>
     ensures { IfOk result (λ state. state ≡ at_options row head (seen part.now) (option_name (seen part.now))) }
 {
     match part.option_name() {
@@ -124,7 +138,12 @@ fn at_path(alloc: Global, dir: bool, part: &Part<'_>) -> Result<Option<State>, A
 }
 
 /// A token where a definition's name comes.
-fn at_name(alloc: Global, kind: Kind, defs: Items<Def>, part: &Part<'_>) -> Result<Option<State>, AllocError>
+fn at_name(
+    alloc: Global,
+    kind: Kind,
+    defs: Items<Def>,
+    part: &Part<'_>,
+) -> Result<Option<State>, AllocError>
     ensures { IfOk result (λ state. state ≡ at_name kind defs (seen part.now)) }
 {
     if !part.is_alias_name() {
@@ -148,7 +167,12 @@ fn behind_defaults(alloc: Global, stop: usize, part: &Part<'_>) -> Result<Option
 }
 
 /// A token behind a member.
-fn behind_member(alloc: Global, frame: Held<Frame>, members: Items<Member>, part: &Part<'_>) -> Result<Option<State>, AllocError>
+fn behind_member(
+    alloc: Global,
+    frame: Held<Frame>,
+    members: Items<Member>,
+    part: &Part<'_>,
+) -> Result<Option<State>, AllocError>
     ensures { IfOk result (λ state. state ≡ behind_member frame members (seen part.now)) }
 {
     if part.is_mark(b',') {
@@ -186,7 +210,12 @@ fn at_equals(
 }
 
 /// A token behind an option's name.
-fn behind_option(row: Held<Row>, head: Held<Head>, option: OptionName, part: &Part<'_>) -> Option<State>
+fn behind_option(
+    row: Held<Row>,
+    head: Held<Head>,
+    option: OptionName,
+    part: &Part<'_>,
+) -> Option<State>
     ensures { result ≡ behind_option row head option (seen part.now) }
 {
     if part.is_mark(b'=') {
@@ -197,7 +226,12 @@ fn behind_option(row: Held<Row>, head: Held<Head>, option: OptionName, part: &Pa
 }
 
 /// A token behind a kind of digest.
-fn behind_digest_kind(commands: Held<Commands>, draft: Held<Draft>, kind: DigestKind, part: &Part<'_>) -> Option<State>
+fn behind_digest_kind(
+    commands: Held<Commands>,
+    draft: Held<Draft>,
+    kind: DigestKind,
+    part: &Part<'_>,
+) -> Option<State>
     ensures { result ≡ behind_digest_kind commands draft kind (seen part.now) }
 {
     if part.is_mark(b':') {
@@ -319,7 +353,10 @@ pub fn finish(state: State) -> Result<Option<Node>, AllocError>
             finish_commands(commands.take(), member)
         }
         State::BehindCommand(commands, member) => finish_commands(commands.take(), member.take()),
-        State::BehindName(params, name) => Ok(Some(defaults(with_param(params, flag(false, name))?))),
+        State::BehindName(params, name) => Ok(Some(defaults(with_param(
+            params,
+            flag(false, name),
+        )?))),
         State::BehindParam(params) => Ok(Some(defaults(params))),
         State::Whole(node) | State::Ended(node) => Ok(Some(node.take())),
         _ => Ok(None),

@@ -21,7 +21,7 @@ tells : (c : goal.After-drop-tokens-2) → Tells (line_stop c.args.line.now) c.r
 tells c =
     let line : List ℕ = c.args.line.now in
     let parts : map seen c.as_slice-2.result.now ≡ pieces line c.in_ok-tokens.tokens.items =
-          ap (map seen) c.as_slice-2.ensures.value ∙ c.in_ok-parts.ensures ∙ ap (pieces line) c.as_slice.ensures.value in
+    ap (map seen) c.as_slice-2.ensures.value ∙ c.in_ok-parts.ensures ∙ ap (pieces line) c.as_slice.ensures.value in
     let stop : length line - c.last_line_end.result ≡ line_stop line = ap (λ n. length line - n) c.last_line_end.ensures.value in
     subst (λ (at : ℕ). Tells at c.read.result (run Begin (pieces line c.in_ok-tokens.tokens.items))) stop
     (subst (λ (ts : List Piece). Tells (length line - c.last_line_end.result) c.read.result (run Begin ts)) parts c.read.ensures)
