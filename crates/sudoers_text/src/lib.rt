@@ -25,8 +25,8 @@ pub use laws::{
     lines_stand_alone, one_list, one_outcome, some_list,
 };
 pub use line::{Lines, cut};
-pub use modes::line_mode;
 pub use meaning::{blanks_len, value};
+pub use modes::line_mode;
 pub use token::{Mode, Token, TokenKind};
 pub use token_laws::{longest_or_none, one_token_list, tokens_are};
 pub use tokenizing::tokens;
