@@ -17,7 +17,7 @@ use Rattle.sudoers_line.specs.declared.state.Params.{Params}
 use Rattle.sudoers_line.specs.declared.state.State.{State}
 use Rattle.sudoers_line.specs.declared.state.State.TheVariants.{Begin, BehindMember, AtCommand, BehindDefaults, AtParam, BehindName, AtValue, BehindParam}
 use Rattle.sudoers_line.specs.Piece.{Piece, is_arg, is_comment, is_mark, is_parameter, is_punct, is_value, operator_of, scope_sign}
-use Rattle.sudoers_line.specs.Grammar.{IsMark, Separated, HasNoDigests, IsScopeList, BeginsNoScope, PerhapsScope, IsFlag, IsSetting, IsParamWith, IsParam, is_defaults, IsDefaults}
+use Rattle.sudoers_line.specs.Grammar.{IsMark, Separated, IsScopeCommand, IsScopeList, BeginsNoScope, PerhapsScope, IsFlag, IsSetting, IsParamWith, IsParam, is_defaults, IsDefaults}
 use Rattle.sudoers_line.specs.Machine.{no_signs, one_sign, no_params, with_param, flag, setting, behind_name, in_param, behind_command, at_scope, step_on, finish, step_comment, run}
 use Rattle.sudoers_line.proofs.Tokens.{no_punct_mark, mark_arg, parameter_kind, value_kind, operator_kind, operator_no_comma, sign_kind, defaults_kind, defaults_no_kind, defaults_no_include}
 use Rattle.sudoers_line.proofs.Runs.{token_run, mark_run, NoOtherMark, Leads, led, separated_from, separated_read, EndsAs}
@@ -172,10 +172,10 @@ behind_one ms m s h = record {
     other : (t : Piece) → BeginsParam t → behind_command (commands.Scope ms) m t ≡ in_param (no_params (Some (record { kind = Cmnd; members = ms ++ m ∷ [] }))) no_signs t
     other t begins = rw (begins.no_mark 44 refl) refl
 
-commands_lead : (ms : List Member) (ts rest : List Piece) → Separated 44 HasNoDigests ts ms rest
+commands_lead : (ms : List Member) (ts rest : List Piece) → Separated 44 IsScopeCommand ts ms rest
     → Leads (AtCommand (commands.Scope [])) ts (IsBehindScope ms) rest
 commands_lead ms ts rest h =
-    separated_read 44 HasNoDigests (λ xs. AtCommand (commands.Scope xs)) IsBehindScope
+    separated_read 44 IsScopeCommand (λ xs. AtCommand (commands.Scope xs)) IsBehindScope
     (λ xs us x behind p.
     let l = command_read (commands.Scope xs) us x behind (inr p.0) p.1 in
     record { next = l.next; is = behind_one xs x l.next l.is; same = l.same })

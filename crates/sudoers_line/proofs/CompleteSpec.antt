@@ -17,7 +17,7 @@ use Rattle.sudoers_line.specs.declared.state.State.{State}
 use Rattle.sudoers_line.specs.declared.state.State.TheVariants.{Begin, AtMember, BehindMember, AtCmdSpec, AtRunas, BehindOption, AtOptionValue, BehindTag}
 use Rattle.sudoers_line.specs.Piece.{Piece, is_comment, is_mark, option_name, tag_of}
 use Rattle.sudoers_line.specs.Atom.{option_value}
-use Rattle.sudoers_line.specs.Grammar.{IsMark, Many, Behind, Perhaps, AreMembers, IsCommand, PerhapsRunas, IsOption, IsTag, IsCmdSpec, IsGroup, BeginsOther, BeginsSpec, IsSpec}
+use Rattle.sudoers_line.specs.Grammar.{IsMark, Many, Behind, Perhaps, AreMembers, IsCommand, PerhapsRunas, IsOption, IsTag, IsCmdSpec, IsHostGroup, BeginsOther, BeginsSpec, IsUserSpec}
 use Rattle.sudoers_line.specs.Machine.{no_signs, no_head, row, behind_command, with_runas, with_option, with_tag, at_tags, at_options, step_on, run}
 use Rattle.sudoers_line.proofs.Tokens.{other_mark, mark_arg, option_kind, tag_kind, tag_no_option, word_no_mark, value_plain, plain_comment}
 use Rattle.sudoers_line.proofs.Runs.{token_run, mark_run, Leads, led, separated_from, separated_read, many_read, EndsAs}
@@ -224,7 +224,7 @@ unfolding step_on
 hosts_equals us gs hs t e = rw (other_mark 61 44 t e refl, e) refl
 
 group_from : (s : State) (us : List Member) (gs : List HostGroup) (ts : List Piece) (g : HostGroup) (rest : List Piece)
-    → OpensMember s (Hosts us gs) [] no_signs ts → IsGroup ts g rest → Leads s ts (IsBehindGroups us (gs ++ g ∷ [])) rest
+    → OpensMember s (Hosts us gs) [] no_signs ts → IsHostGroup ts g rest → Leads s ts (IsBehindGroups us (gs ++ g ∷ [])) rest
 group_from s us gs ts g rest opens p =
     let l = separated_read 44 IsCmdSpec (λ xs. AtCmdSpec (rowed us gs g.hosts xs) no_head stage.Runas) (IsBehindSpecs us gs g.hosts)
     (spec_part us gs g.hosts) (λ xs s t is e. is.commas t e) g.commands p.behind rest p.commands in
@@ -251,10 +251,10 @@ begins_users ts begins t more e none =
     let other : BeginsOther t = subst BeginsSpec e begins in
     rw (other.no_kind, other.no_include, other.no_defaults) refl
 
-pub spec_read : (ts : List Piece) (us : List Member) (gs : List HostGroup) (rest : List Piece) → IsSpec ts us gs rest
+pub spec_read : (ts : List Piece) (us : List Member) (gs : List HostGroup) (rest : List Piece) → IsUserSpec ts us gs rest
     → Leads Begin ts (EndsAs (node.Spec us gs)) rest
 spec_read ts us gs rest h =
-    let l = separated_from 58 IsGroup (λ xs. AtMember (Hosts us xs) [] no_signs) (IsBehindGroups us)
+    let l = separated_from 58 IsHostGroup (λ xs. AtMember (Hosts us xs) [] no_signs) (IsBehindGroups us)
     (λ xs ys g behind p. group_from (AtMember (Hosts us xs) [] no_signs) us xs ys g behind (still_opens (Hosts us xs) [] no_signs ys) p)
     (λ xs s t is e. is.colons t e)
     (BehindMember Users us) gs h.behind rest

@@ -37,7 +37,7 @@ use Rattle.sudoers_line.specs.declared.state.State.{State}
 use Rattle.sudoers_line.specs.declared.state.State.TheVariants.{Begin, AtPath, AtName, AtEquals, AtMember, BehindMember, AtCmdSpec, AtRunas, BehindOption, AtOptionValue, BehindTag, AtCommand, AtDigestKind, BehindDigestKind, AtDigest, BehindDigest, AtSigned, BehindProgram, BehindCommand, BehindDefaults, AtParam, BehindName, AtValue, BehindParam, Whole, Ended}
 use Rattle.sudoers_line.specs.Piece.{Piece, is_digest, is_parameter, is_value, operator_of}
 use Rattle.sudoers_line.specs.Atom.{atom_of, command_atom, option_value, path_value}
-use Rattle.sudoers_line.specs.Grammar.{IsMark, Many, Behind, Perhaps, start_of, stop_of, IsMember, AreMembers, IsDigest, IsArg, IsCommand, IsList, IsDef, PerhapsRunas, IsOption, IsTag, IsCmdSpec, IsGroup, HasNoDigests, PerhapsScope, IsSetting, IsParam, IsEnd, Reads}
+use Rattle.sudoers_line.specs.Grammar.{IsMark, Many, Behind, Perhaps, start_of, stop_of, IsMember, AreMembers, IsDigest, IsArg, IsCommand, IsList, IsDef, PerhapsRunas, IsOption, IsTag, IsCmdSpec, IsHostGroup, IsScopeCommand, PerhapsScope, IsSetting, IsParam, IsEnd, Reads}
 use Rattle.sudoers_line.specs.Machine.{definition, with_command, kind_of, is_first_regex, program_atom, command, suits, with_runas, with_option, with_tag, flag, setting}
 use Rattle.sudoers_line.proofs.Gathered.{turned_by, with_arguments}
 
@@ -99,7 +99,7 @@ DefEnds k ds name n ms rest = Follows 58 (IsDef k) (AliasEnds k n) (ds ++ defini
 
 -- behind the commands of a host group
 abbrev pub GroupEnds : List Member → List HostGroup → List Member → Node → List CmdSpec → List Piece → Type 0
-GroupEnds us gs hs n cs rest = Follows 58 IsGroup (SpecEnds us n) (gs ++ record { hosts = hs; commands = cs } ∷ []) rest
+GroupEnds us gs hs n cs rest = Follows 58 IsHostGroup (SpecEnds us n) (gs ++ record { hosts = hs; commands = cs } ∷ []) rest
 
 -- behind the members of a scope
 abbrev pub ScopeEnds : Kind → Node → List Member → List Piece → Type 0
@@ -108,7 +108,7 @@ ScopeEnds k n ms rest = Goes 44 IsParam IsParam (DefaultsEnds (Some (record { ki
 -- behind a command
 abbrev pub CommandEnds : Commands → Member → Node → List Piece → Type 0
 CommandEnds (commands.Definition ds name ms) m n rest = Follows 44 IsCommand (DefEnds Cmnd ds name n) (ms ++ m ∷ []) rest
-CommandEnds (commands.Scope ms) m n rest = Follows 44 HasNoDigests (ScopeEnds Cmnd n) (ms ++ m ∷ []) rest
+CommandEnds (commands.Scope ms) m n rest = Follows 44 IsScopeCommand (ScopeEnds Cmnd n) (ms ++ m ∷ []) rest
 CommandEnds (commands.Row r h) m n rest = Follows 44 IsCmdSpec (GroupEnds r.users r.groups r.hosts n) ((with_command r h m).commands) rest
 
 -- ---- commands
@@ -116,7 +116,7 @@ CommandEnds (commands.Row r h) m n rest = Follows 44 IsCmdSpec (GroupEnds r.user
 -- a command: in a scope without digests
 abbrev pub IsCommandOf : Commands → List Piece → Member → List Piece → Type 0
 IsCommandOf (commands.Definition ds name ms) = IsCommand
-IsCommandOf (commands.Scope ms) = HasNoDigests
+IsCommandOf (commands.Scope ms) = IsScopeCommand
 IsCommandOf (commands.Row r h) = IsCommand
 
 -- a command, and what follows it
@@ -276,7 +276,7 @@ pub record ColonGoes (r : Row) (h : Head) (n : Node) (ts : List Piece) : Type 0 
 -- what follows a list of members
 abbrev pub Ends : Frame → Node → List Member → List Piece → Type 0
 Ends (Definition k ds name) n ms ts = DefEnds k ds name n ms ts
-Ends Users n ms ts = Goes 58 IsGroup IsGroup (SpecEnds ms n) [] ts
+Ends Users n ms ts = Goes 58 IsHostGroup IsHostGroup (SpecEnds ms n) [] ts
 Ends (Hosts us gs) n ms ts = EqualsGo (λ rest. Goes 44 IsCmdSpec IsCmdSpec (GroupEnds us gs ms n) [] rest) ts
 Ends (Scope k) n ms ts = ScopeEnds k n ms ts
 Ends (RunasUsers r) n ms ts = GroupsGo r ms n ts

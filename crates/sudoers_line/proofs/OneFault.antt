@@ -1,11 +1,11 @@
 -- A line has one first fault.
 use Rattle.std.proofs.Common.{◌≡◌, Bool, true, false, List, [], ◌∷◌, ◌++◌, refl, sym, ap, ◌∙◌, subst, append_assoc, append-nil}
 use Rattle.sudoers_line.specs.declared.fault.Why.{Why}
-use Rattle.sudoers_line.specs.declared.place.Place.{Place}
+use Rattle.sudoers_line.specs.declared.awaited.Awaited.{Awaited}
 use Rattle.sudoers_line.specs.declared.node.Node.{Node}
 use Rattle.sudoers_line.specs.Piece.{Piece}
 use Rattle.sudoers_line.specs.Grammar.{Reads}
-use Rattle.sudoers_line.specs.Fault.{BeginsLegal, Would, Tells, IsPlace, cause, IsCause, IsFirstFault}
+use Rattle.sudoers_line.specs.Fault.{BeginsLegal, Would, Tells, IsAwaited, cause, IsCause, IsFirstFault}
 
 -- ---- two fronts of a line
 
@@ -57,19 +57,19 @@ told false false fact f g = refl
 told true false fact f g = sym (g.1 (f.0 refl))
 told false true fact f g = f.1 (g.0 refl)
 
-abbrev place : Bool → Bool → Bool → Place
+abbrev place : Bool → Bool → Bool → Awaited
 place word stamp path = record { word = word; stamp = stamp; path = path }
 
 same_place : (a b c d e f : Bool) → a ≡ d → b ≡ e → c ≡ f → place a b c ≡ place d e f
 same_place a b c d e f first second third = cc
 
-one_place : (before : List Piece) (p q : Place) → IsPlace before p → IsPlace before q → p ≡ q
+one_place : (before : List Piece) (p q : Awaited) → IsAwaited before p → IsAwaited before q → p ≡ q
 one_place before p q f g =
     same_place p.word p.stamp p.path q.word q.stamp q.path (told p.word q.word _ f.word g.word) (told p.stamp q.stamp _ f.stamp g.stamp) (told p.path q.path _ f.path g.path)
 
 one_cause : (before rest : List Piece) (w v : Why) → IsCause before rest w → IsCause before rest v → w ≡ v
 one_cause before [] w v f g = f ∙ sym g
-one_cause before (t ∷ rest) w v (p, is, f) (q, is_also, g) = f ∙ ap (λ (x : Place). cause x t) (one_place before p q is is_also) ∙ sym g
+one_cause before (t ∷ rest) w v (p, is, f) (q, is_also, g) = f ∙ ap (λ (x : Awaited). cause x t) (one_place before p q is is_also) ∙ sym g
 
 same_front : (before also rest others : List Piece) (w v : Why) → before ≡ also → rest ≡ others → IsCause before rest w → IsCause also others v → w ≡ v
 same_front before also rest others w v e r f g =

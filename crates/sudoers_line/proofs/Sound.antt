@@ -14,7 +14,7 @@ use Rattle.sudoers_line.specs.declared.state.State.{State}
 use Rattle.sudoers_line.specs.declared.state.State.TheVariants.{Begin, AtPath, AtName, AtEquals, AtMember, BehindMember, AtCmdSpec, AtRunas, BehindOption, AtOptionValue, BehindTag, AtCommand, AtDigestKind, BehindDigestKind, AtDigest, BehindDigest, AtSigned, BehindProgram, BehindCommand, BehindDefaults, AtParam, BehindName, AtValue, BehindParam, Whole, Ended}
 use Rattle.sudoers_line.specs.Piece.{Piece, is_comment, kind_word, include_word, scope_sign}
 use Rattle.sudoers_line.specs.Atom.{path_value}
-use Rattle.sudoers_line.specs.Grammar.{IsMember, IsCommand, IsDef, IsCmdSpec, IsGroup, IsParam, HasNoDigests, IsSpec, IsDefaults, is_defaults, IsEnd, Says, Reads}
+use Rattle.sudoers_line.specs.Grammar.{IsMember, IsCommand, IsDef, IsCmdSpec, IsHostGroup, IsParam, IsScopeCommand, IsUserSpec, IsDefaults, is_defaults, IsEnd, Says, Reads}
 use Rattle.sudoers_line.specs.Machine.{no_signs, definition, closed, with_command, command, program_atom, flag, in_member, at_scope, behind_defaults, begin_include, begin, at_path, step_on, finish_commands, finish_list, finish, step_comment, step, Stop, goes_on, ends, run}
 use Rattle.sudoers_line.proofs.Completes.{AliasEnds, SpecEnds, DefaultsEnds, DefEnds, GroupEnds, ScopeEnds, CommandEnds, Completes, NextCompletes}
 use Rattle.sudoers_line.proofs.SoundList.{whole_list, list_ended}
@@ -47,8 +47,8 @@ defaults_begin t ts n e h =
 users_begin : (t : Piece) (ts : List Piece) (n : Node) → kind_word t ≡ None → include_word t ≡ None → is_defaults t ≡ false → NextCompletes (in_member Users [] no_signs t) ts n → Reads (t ∷ ts) n
 users_begin t ts n no_kind no_include no_defaults l =
     let us = members_begin Users (t ∷ ts) n (in_member_completes Users [] no_signs t ts n l) in
-    let w = whole_list 58 IsGroup (SpecEnds us.all n) us.rest us.ends in
-    let is : IsSpec (t ∷ ts) us.all w.all w.rest = record { behind = us.rest; begins = record { no_kind = no_kind; no_include = no_include; no_defaults = no_defaults }; users = us.are; groups = w.are } in
+    let w = whole_list 58 IsHostGroup (SpecEnds us.all n) us.rest us.ends in
+    let is : IsUserSpec (t ∷ ts) us.all w.all w.rest = record { behind = us.rest; begins = record { no_kind = no_kind; no_include = no_include; no_defaults = no_defaults }; users = us.are; groups = w.are } in
     reads_as (t ∷ ts) (node.Spec us.all w.all) n w.rest w.ends.1 is w.ends.0
 
 include_completes : (t : Piece) (ts : List Piece) (n : Node) (o : Option Bool) → kind_word t ≡ None → include_word t ≡ o → NextCompletes (begin_include t o) ts n → Reads (t ∷ ts) n
@@ -76,7 +76,7 @@ scope_completes stop Host t ts n e h =
     let w = members_begin (Scope Host) ts n h in
     record { scope = Some (record { kind = Host; members = w.all }); behind = w.rest; is = record { sign = t; behind = ts; split = refl; is_sign = e; members = w.are }; goes = w.ends }
 scope_completes stop Cmnd t ts n e h =
-    let w = whole_list 44 HasNoDigests (ScopeEnds Cmnd n) ts (record { first = h.command; behind = h.rest; is = h.is; follows = h.ends }) in
+    let w = whole_list 44 IsScopeCommand (ScopeEnds Cmnd n) ts (record { first = h.command; behind = h.rest; is = h.is; follows = h.ends }) in
     record { scope = Some (record { kind = Cmnd; members = w.all }); behind = w.rest; is = record { sign = t; behind = ts; split = refl; is_sign = e; members = w.are }; goes = w.ends }
 
 behind_defaults_completes : (stop : ℕ) (t : Piece) (ts : List Piece) (n : Node) (o : Option Kind) → scope_sign stop t ≡ o → NextCompletes (behind_defaults t o) ts n → Completes (BehindDefaults stop) (t ∷ ts) n
@@ -138,7 +138,7 @@ commands_finish (commands.Scope ms) m ts n e end = absurd cc
 commands_finish (commands.Row r h) m ts n e end =
     let made = with_command r h m in
     list_ended 44 IsCmdSpec (GroupEnds r.users r.groups r.hosts n) made.commands ts
-    (list_ended 58 IsGroup (SpecEnds r.users n) (closed (with_command r h m)) ts (end, is_it (node.Spec r.users (closed (with_command r h m))) n e))
+    (list_ended 58 IsHostGroup (SpecEnds r.users n) (closed (with_command r h m)) ts (end, is_it (node.Spec r.users (closed (with_command r h m))) n e))
 
 list_finish : (f : Frame) (ms : List Member) (ts : List Piece) (n : Node) → finish_list f ms ≡ Some n → IsEnd ts → Completes (BehindMember f ms) ts n
 list_finish (Definition k ds name) ms ts n e end =

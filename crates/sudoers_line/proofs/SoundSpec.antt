@@ -21,7 +21,7 @@ use Rattle.sudoers_line.specs.declared.state.Commands.TheVariants as commands
 use Rattle.sudoers_line.specs.declared.state.State.TheVariants.{AtName, AtEquals, AtMember, BehindMember, AtCmdSpec, AtRunas, BehindOption, AtOptionValue, BehindTag, AtCommand}
 use Rattle.sudoers_line.specs.Piece.{Piece, is_mark, is_alias_name, option_name, tag_of}
 use Rattle.sudoers_line.specs.Atom.{option_value}
-use Rattle.sudoers_line.specs.Grammar.{IsMark, IsMember, IsCommand, IsDef, IsCmdSpec, IsGroup, PerhapsRunas, HasNoDigests}
+use Rattle.sudoers_line.specs.Grammar.{IsMark, IsMember, IsCommand, IsDef, IsCmdSpec, IsHostGroup, PerhapsRunas, IsScopeCommand}
 use Rattle.sudoers_line.specs.Machine.{no_signs, named, definition, no_head, row, kind_of, with_command, closed, no_params, in_member, in_param, behind_command, with_runas, with_option, with_tag, at_tags, at_options, at_cmd_spec, behind_option, at_option_value, behind_tag, at_runas, behind_list, at_list, at_name, at_equals, behind_member}
 use Rattle.sudoers_line.proofs.Completes.{Goes, AliasEnds, SpecEnds, DefEnds, GroupEnds, ScopeEnds, CommandEnds, CommandGoes, perhaps_runas, TagsGo, OptionsGo, RunasGoes, Closes, GroupsGo, RunasInside, EqualsGo, ValueGoes, ColonGoes, Ends, ListGoes, Completes, NextCompletes}
 use Rattle.sudoers_line.proofs.SoundList.{whole_list, list_ended, list_goes_on, perhaps_list, perhaps_behind}
@@ -179,7 +179,7 @@ spec_begins : (r : Row) (n : Node) (ts : List Piece) → RunasGoes r no_head n t
 spec_begins r n ts h = spec_with r n ts h.runas h.behind h.is h.goes
 
 -- a host group, from its first token on
-group_begins : (us : List Member) (gs : List HostGroup) (ts : List Piece) (n : Node) → Completes (AtMember (Hosts us gs) [] no_signs) ts n → Goes 58 IsGroup IsGroup (SpecEnds us n) gs ts
+group_begins : (us : List Member) (gs : List HostGroup) (ts : List Piece) (n : Node) → Completes (AtMember (Hosts us gs) [] no_signs) ts n → Goes 58 IsHostGroup IsHostGroup (SpecEnds us n) gs ts
 group_begins us gs ts n h =
     let w = members_begin (Hosts us gs) ts n h in
     let c = whole_list 44 IsCmdSpec (GroupEnds us gs w.all n) w.ends.rest w.ends.goes in
@@ -257,8 +257,8 @@ behind_command_completes (commands.Definition ds name ms) m t ts n l =
     l
 behind_command_completes (commands.Scope ms) m t ts n l =
     decided (is_mark 44 t) (Some (AtCommand (commands.Scope (ms ++ m ∷ [])))) (in_param (no_params (Some (record { kind = Cmnd; members = ms ++ m ∷ [] }))) no_signs t) ts n
-    (λ e g. list_goes_on 44 HasNoDigests (ScopeEnds Cmnd n) (ms ++ m ∷ []) t ts e (record { first = g.command; behind = g.rest; is = g.is; follows = g.ends }))
-    (λ e g. list_ended 44 HasNoDigests (ScopeEnds Cmnd n) (ms ++ m ∷ []) (t ∷ ts) (params_begin (Some (record { kind = Cmnd; members = ms ++ m ∷ [] })) t ts n g))
+    (λ e g. list_goes_on 44 IsScopeCommand (ScopeEnds Cmnd n) (ms ++ m ∷ []) t ts e (record { first = g.command; behind = g.rest; is = g.is; follows = g.ends }))
+    (λ e g. list_ended 44 IsScopeCommand (ScopeEnds Cmnd n) (ms ++ m ∷ []) (t ∷ ts) (params_begin (Some (record { kind = Cmnd; members = ms ++ m ∷ [] })) t ts n g))
     l
 behind_command_completes (commands.Row r h) m t ts n l =
     let made = with_command r h m in
@@ -267,5 +267,5 @@ behind_command_completes (commands.Row r h) m t ts n l =
     (λ other l.
     let g = only_if (is_mark 58 t) (AtMember (Hosts r.users (closed (with_command r h m))) [] no_signs) ts n l in
     list_ended 44 IsCmdSpec (GroupEnds r.users r.groups r.hosts n) made.commands (t ∷ ts)
-    (list_goes_on 58 IsGroup (SpecEnds r.users n) (closed (with_command r h m)) t ts g.0 (group_begins r.users (closed (with_command r h m)) ts n g.1)))
+    (list_goes_on 58 IsHostGroup (SpecEnds r.users n) (closed (with_command r h m)) t ts g.0 (group_begins r.users (closed (with_command r h m)) ts n g.1)))
     l

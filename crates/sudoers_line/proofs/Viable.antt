@@ -1,12 +1,12 @@
 -- Where a run stops is the first fault of a line, and a line says one thing at most.
 use Rattle.std.proofs.Common.{◌≡◌, true, List, [], ◌∷◌, ◌++◌, Option, Some, None, Result, Ok, Err, refl, sym, ap, ◌∙◌, subst, append_assoc}
 use Rattle.sudoers_line.specs.declared.node.Node.{Node}
-use Rattle.sudoers_line.specs.declared.place.Place.{Place}
+use Rattle.sudoers_line.specs.declared.awaited.Awaited.{Awaited}
 use Rattle.sudoers_line.specs.declared.state.State.{State}
 use Rattle.sudoers_line.specs.declared.state.State.TheVariants.{Begin}
 use Rattle.sudoers_line.specs.Piece.{Piece}
 use Rattle.sudoers_line.specs.Grammar.{Reads}
-use Rattle.sudoers_line.specs.Fault.{BeginsLegal, Would, some_word, some_stamp, some_path, Tells, IsPlace, IsFirstFault}
+use Rattle.sudoers_line.specs.Fault.{BeginsLegal, Would, some_word, some_stamp, some_path, Tells, IsAwaited, IsFirstFault}
 use Rattle.sudoers_line.specs.Steps.{cause_of_rest, cause_at}
 use Rattle.sudoers_line.specs.Machine.{finish, step, is_some, place_of, Stop, goes_on, ends, run}
 use Rattle.sudoers_line.proofs.Runs.{step_run}
@@ -115,7 +115,7 @@ tells : (before : List Piece) (u : State) (t : Piece) → Reaches Begin before u
 tells before u t l = (λ is. would before u t l is, λ w. if_would before u t l w)
 
 -- The state tells what may come next.
-pub is_place : (before : List Piece) (u : State) → Reaches Begin before u → IsPlace before (place_of u)
+pub is_place : (before : List Piece) (u : State) → Reaches Begin before u → IsAwaited before (place_of u)
 is_place before u l = record {
   word = tells before u some_word l;
   stamp = tells before u some_stamp l;
@@ -124,7 +124,7 @@ is_place before u l = record {
 
 -- ---- the first fault
 
-first_fault_at : (ts before rest : List Piece) (u : State) (p : Place) → ts ≡ before ++ rest → Reaches Begin before u → p ≡ place_of u → Refuses u rest
+first_fault_at : (ts before rest : List Piece) (u : State) (p : Awaited) → ts ≡ before ++ rest → Reaches Begin before u → p ≡ place_of u → Refuses u rest
     → run Begin ts ≡ Err (record { place = p; rest = rest }) → IsFirstFault ts rest (cause_of_rest p rest)
 first_fault_at ts before [] u p split l place refuses e = record {
   before = before;
@@ -140,7 +140,7 @@ first_fault_at ts before (t ∷ rest) u p split l place refuses e = record {
   legal = legal_front before u l;
   illegal = λ x more same begins. illegal_next before u t l refuses (let is : x ≡ t = cc in subst (λ (y : Piece). Would before y) is begins);
   ended = λ same. absurd cc;
-  cause = (p, subst (λ (q : Place). IsPlace before q) (sym place) (is_place before u l), refl);
+  cause = (p, subst (λ (q : Awaited). IsAwaited before q) (sym place) (is_place before u l), refl);
 }
 
 -- Where a run stops is the first fault, and why.

@@ -7,21 +7,21 @@ use Rattle.sudoers_text.specs.Value.{value_of}
 use Rattle.sudoers_line.specs.declared.fault.Why.{Why}
 use Rattle.sudoers_line.specs.declared.fault.Why.TheVariants.{UnexpectedByte, UnexpectedToken, EndOfLine, OpenQuote, EmptyName, BadId, BadAddress, BadStamp, Regex}
 use Rattle.sudoers_line.specs.declared.node.Node.{Node}
-use Rattle.sudoers_line.specs.declared.place.Place.{Place}
+use Rattle.sudoers_line.specs.declared.awaited.Awaited.{Awaited}
 use Rattle.sudoers_line.specs.Piece.{Piece, is_word, is_quoted, is_bad, is_comment, begins_with}
 use Rattle.sudoers_line.specs.Number.{is_slashed, are_digits}
 use Rattle.sudoers_line.specs.Atom.{is_high_id}
 use Rattle.sudoers_line.specs.Grammar.{Reads}
 
--- Some line begins with these tokens.
+-- Some tokens that say something begin with these.
 abbrev pub BeginsLegal : List Piece → Type 0
 BeginsLegal ts = (more : List Piece) × (n : Node) × Reads (ts ++ more) n
 
--- One goes on with this token behind those.
+-- Some go on with this token behind those.
 abbrev pub Would : List Piece → Piece → Type 0
 Would before t = BeginsLegal (before ++ t ∷ [])
 
--- tokens that tell what may stand at a place: a word that is the name of a user or a host and no more, a time stamp, a path
+-- tokens that tell what may stand at a place: a word that is the name of a user or a host, a time stamp, a path
 abbrev pub some_word : Piece
 some_word = record { kind = kind.Word; text = codes "h"; start = 0; stop = 0; last = false }
 
@@ -36,7 +36,7 @@ abbrev pub Tells : Bool → Type 0 → Type 0
 Tells b fact = (b ≡ true → fact) × (fact → b ≡ true)
 
 -- What may stand behind these tokens.
-pub record IsPlace (before : List Piece) (p : Place) : Type 0 where
+pub record IsAwaited (before : List Piece) (p : Awaited) : Type 0 where
   pub word : Tells p.word (Would before some_word)
   pub stamp : Tells p.stamp (Would before some_stamp)
   pub path : Tells p.path (Would before some_path)
@@ -49,9 +49,10 @@ is_bare kind.Quoted text =
     bytes_eq name (codes "%") || bytes_eq name (codes "%:") || bytes_eq name (codes "+") || bytes_eq name (codes "#")
 is_bare k text = false
 
--- quotes with nothing in them
+-- quotes with nothing in them, also as an argument
 abbrev pub is_empty_quotes : TokenKind → List ℕ → Bool
 is_empty_quotes kind.Quoted text = bytes_eq (value_of text) []
+is_empty_quotes kind.Arg text = bytes_eq (value_of text) []
 is_empty_quotes k text = false
 
 -- without a `%` before it
@@ -72,14 +73,14 @@ abbrev pub is_high_quoted : TokenKind → List ℕ → Bool
 is_high_quoted kind.Quoted text = is_high_name (value_of text)
 is_high_quoted k text = false
 
--- `^` begins an argument, or a word where a command may stand
+-- `^` begins an argument, which then is the first, as others may begin so; or a word where a command may stand
 abbrev pub is_regex : Bool → TokenKind → List ℕ → Bool
 is_regex path kind.Arg text = begins_with 94 text
 is_regex path kind.Word text = path && begins_with 94 text
 is_regex path k text = false
 
 -- Why the token is refused where this may stand: the first that fits.
-abbrev pub cause_of_token : Place → TokenKind → List ℕ → Why
+abbrev pub cause_of_token : Awaited → TokenKind → List ℕ → Why
 cause_of_token p k text =
     if p.stamp && not p.word && (is_word k || is_quoted k) then BadStamp
     else (if is_empty_quotes k text || (p.word && is_bare k text) then EmptyName
@@ -89,7 +90,7 @@ cause_of_token p k text =
     else UnexpectedToken))))
 
 -- A `"` that is never closed goes up to the line's end.
-unfoldable pub cause : Place → Piece → Why
+unfoldable pub cause : Awaited → Piece → Why
 cause p t =
     if is_bad t.kind then (if begins_with 34 t.text && t.last then OpenQuote else UnexpectedByte)
     else (if is_comment t.kind then EndOfLine
@@ -98,7 +99,7 @@ cause p t =
 -- This is why the line is refused with the first of these tokens, behind those, or because there are none.
 abbrev pub IsCause : List Piece → List Piece → Why → Type 0
 IsCause before [] w = w ≡ EndOfLine
-IsCause before (t ∷ rest) w = (p : Place) × IsPlace before p × (w ≡ cause p t)
+IsCause before (t ∷ rest) w = (p : Awaited) × IsAwaited before p × (w ≡ cause p t)
 
 -- Up to these tokens the line begins as some line does; with the first of them, or because there are none, it is none.
 pub record IsFirstFault (ts rest : List Piece) (w : Why) : Type 0 where

@@ -207,7 +207,7 @@ pub record IsCmdSpec (ts : List Piece) (c : CmdSpec) (rest : List Piece) : Type 
   pub member : IsCommand behind_tags c.member rest
 
 -- Hosts "=" CmdSpec ("," CmdSpec)*
-pub record IsGroup (ts : List Piece) (g : HostGroup) (rest : List Piece) : Type 0 where
+pub record IsHostGroup (ts : List Piece) (g : HostGroup) (rest : List Piece) : Type 0 where
   pub behind_hosts : List Piece
   pub equals : Piece
   pub behind : List Piece
@@ -230,23 +230,23 @@ BeginsSpec [] = Unit {0}
 BeginsSpec (t ∷ ts) = BeginsOther t
 
 -- Users Group (":" Group)*
-pub record IsSpec (ts : List Piece) (us : List Member) (gs : List HostGroup) (rest : List Piece) : Type 0 where
+pub record IsUserSpec (ts : List Piece) (us : List Member) (gs : List HostGroup) (rest : List Piece) : Type 0 where
   pub behind : List Piece
   pub begins : BeginsSpec ts
   pub users : AreMembers User ts us behind
-  pub groups : Separated 58 IsGroup behind gs rest
+  pub groups : Separated 58 IsHostGroup behind gs rest
 
 -- ---- Defaults (sudoers(5), Defaults)
 
 -- Commands have no digests there.
-abbrev pub HasNoDigests : List Piece → Member → List Piece → Type 0
-HasNoDigests ts m rest = (m.digests ≡ []) × IsCommand ts m rest
+abbrev pub IsScopeCommand : List Piece → Member → List Piece → Type 0
+IsScopeCommand ts m rest = (m.digests ≡ []) × IsCommand ts m rest
 
 abbrev pub IsScopeList : Kind → List Piece → List Member → List Piece → Type 0
 IsScopeList User = AreMembers User
 IsScopeList Runas = AreMembers Runas
 IsScopeList Host = AreMembers Host
-IsScopeList Cmnd = Separated 44 HasNoDigests
+IsScopeList Cmnd = Separated 44 IsScopeCommand
 
 -- Sign List, directly behind the word that ends at this byte
 pub record IsScope (stop : ℕ) (ts : List Piece) (s : Scope) (rest : List Piece) : Type 0 where
@@ -330,7 +330,7 @@ Says ts node.Comment rest = (t : Piece) × (ts ≡ t ∷ []) × (is_comment t.ki
 Says ts (node.Include dir path) rest = IsInclude dir path ts rest
 Says ts (node.Defaults scope params) rest = IsDefaults ts scope params rest
 Says ts (node.Alias k defs) rest = IsAlias k ts defs rest
-Says ts (node.Spec users groups) rest = IsSpec ts users groups rest
+Says ts (node.Spec users groups) rest = IsUserSpec ts users groups rest
 
 -- Line: what these tokens say, with a comment behind it or none
 abbrev pub Reads : List Piece → Node → Type 0

@@ -20,7 +20,7 @@ use Rattle.sudoers_line.specs.declared.node.Scope.{Scope as ScopeOf}
 use Rattle.sudoers_line.specs.declared.node.Param.{Param}
 use Rattle.sudoers_line.specs.declared.node.Node.{Node}
 use Rattle.sudoers_line.specs.declared.node.Node.TheVariants as node
-use Rattle.sudoers_line.specs.declared.place.Place.{Place}
+use Rattle.sudoers_line.specs.declared.awaited.Awaited.{Awaited}
 use Rattle.sudoers_line.specs.declared.pattern.Spelling.TheVariants.{Command}
 use Rattle.sudoers_line.specs.declared.state.Signs.{Signs}
 use Rattle.sudoers_line.specs.declared.state.Named.{Named}
@@ -411,12 +411,12 @@ is_some None = false
 is_some (Some x) = true
 
 -- what may come next
-abbrev pub place_of : State → Place
+abbrev pub place_of : State → Awaited
 place_of s = record { word = is_some (step s some_word); stamp = is_some (step s some_stamp); path = is_some (step s some_path) }
 
 -- The tokens that are left where no step leads on, and the place there.
 pub record Stop : Type 0 where
-  pub place : Place
+  pub place : Awaited
   pub rest : List Piece
 
 abbrev pub goes_on : Option State → State → Piece → List Piece → (State → Result Node Stop) → Result Node Stop

@@ -5,14 +5,14 @@ use Rattle.sudoers_line.specs.declared.fault.Why.TheVariants.{EndOfLine}
 use Rattle.sudoers_line.specs.declared.fault.LineFault.{LineFault}
 use Rattle.sudoers_line.specs.declared.fault.LineFault.TheVariants.{Syntax, NoMemory}
 use Rattle.sudoers_line.specs.declared.node.Node.{Node}
-use Rattle.sudoers_line.specs.declared.place.Place.{Place}
+use Rattle.sudoers_line.specs.declared.awaited.Awaited.{Awaited}
 use Rattle.sudoers_line.specs.Piece.{Piece}
 use Rattle.sudoers_line.specs.Fault.{cause}
 use Rattle.sudoers_line.specs.Line.{place_or}
 use Rattle.sudoers_line.specs.Machine.{Stop}
 
 -- the cause of a stop before these tokens
-abbrev pub cause_of_rest : Place → List Piece → Why
+abbrev pub cause_of_rest : Awaited → List Piece → Why
 cause_of_rest p [] = EndOfLine
 cause_of_rest p (t ∷ ts) = cause p t
 
@@ -20,9 +20,9 @@ abbrev pub cause_at : Stop → Why
 cause_at f = cause_of_rest f.place f.rest
 
 -- The answer tells what a run leads to.
-abbrev pub Tells : ℕ → Result Node LineFault → Result Node Stop → Type 0
-Tells stop (Ok n) (Ok m) = n ≡ m
-Tells stop (Ok n) (Err f) = ⊥
-Tells stop (Err NoMemory) run = Unit {0}
-Tells stop (Err (Syntax at w)) (Ok m) = ⊥
-Tells stop (Err (Syntax at w)) (Err f) = (at ≡ place_or stop f.rest) × (w ≡ cause_at f)
+abbrev pub Answers : ℕ → Result Node LineFault → Result Node Stop → Type 0
+Answers stop (Ok n) (Ok m) = n ≡ m
+Answers stop (Ok n) (Err f) = ⊥
+Answers stop (Err NoMemory) run = Unit {0}
+Answers stop (Err (Syntax at w)) (Ok m) = ⊥
+Answers stop (Err (Syntax at w)) (Err f) = (at ≡ place_or stop f.rest) × (w ≡ cause_at f)

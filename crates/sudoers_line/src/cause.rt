@@ -7,10 +7,10 @@ ghost use Rattle.sudoers_line.specs.Fault.{is_bare, is_empty_quotes, behind_perc
 ghost use Rattle.sudoers_line.specs.Seen.{seen};
 
 use crate::atom::is_high_id;
+use crate::awaited::Awaited;
 use crate::fault::Why;
 use crate::number::{are_digits, is_slashed};
 use crate::part::{Part, begins_with};
-use crate::place::Place;
 use std::alloc::{AllocError, Global};
 use sudoers_text::{TokenKind, value};
 
@@ -31,13 +31,13 @@ fn is_bare(kind: TokenKind, text: &[u8], name: &[u8]) -> bool
     }
 }
 
-/// Whether the token is quotes with nothing in them.
+/// Whether the token is quotes with nothing in them, also as an argument.
 fn is_empty_quotes(kind: TokenKind, text: &[u8], name: &[u8]) -> bool
     requires { name.now ≡ value_of text.now }
     ensures { result ≡ is_empty_quotes kind text.now }
 {
     match kind {
-        TokenKind::Quoted => name == b"".as_slice(),
+        TokenKind::Quoted | TokenKind::Arg => name == b"".as_slice(),
         _ => false,
     }
 }
@@ -85,7 +85,7 @@ fn is_regex(path: bool, kind: TokenKind, text: &[u8]) -> bool
 }
 
 /// Why a token is refused that is neither Bad nor a comment.
-fn cause_of_token(place: Place, part: &Part<'_>, name: &[u8]) -> Why
+fn cause_of_token(place: Awaited, part: &Part<'_>, name: &[u8]) -> Why
     requires { name.now ≡ value_of part.now.text.now }
     ensures { result ≡ cause_of_token place part.now.kind part.now.text.now }
 {
@@ -112,7 +112,7 @@ fn cause_of_token(place: Place, part: &Part<'_>, name: &[u8]) -> Why
 ///
 /// A growth of memory was refused.
 #[tactic(auto, unfolding(crate::specs::Fault::cause))]
-pub fn cause(alloc: Global, place: Place, part: &Part<'_>) -> Result<Why, AllocError>
+pub fn cause(alloc: Global, place: Awaited, part: &Part<'_>) -> Result<Why, AllocError>
     ensures { IfOk result (λ why. why ≡ cause place (seen part.now)) }
 {
     if part.is_bad() {

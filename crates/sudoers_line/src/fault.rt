@@ -4,7 +4,6 @@ ghost use Rattle.std.specs.Prelude.{◌≡◌};
 ghost use Rattle.sudoers_line.specs.declared.fault.LineFault.TheVariants.{NoMemory};
 
 use std::alloc::{AllocError, AllocFailed};
-use sudoers_text::TextFault;
 use thiserror::Error;
 
 /// Why a line is in no form that a line may have.
@@ -20,20 +19,21 @@ pub enum Why {
     OpenQuote,
     /// A prefix, or quotes, with no name behind it.
     EmptyName,
-    /// A number above 4,294,967,295.
+    /// An ID above 4,294,967,295.
     BadId,
     /// Digits, `.` and `/` in a host's place that are no network.
     BadAddress,
     /// A value of NOTBEFORE or NOTAFTER that is no time stamp.
     BadStamp,
-    /// A regular expression in the place of a command or of its arguments.
+    /// A regular expression in the place of a command or of its first argument.
     Regex,
 }
 
 /// Why a line is not read.
 #[derive(Clone, Copy, Debug, PartialEq, Eq, Error)]
 pub enum LineFault {
-    /// No line begins like this one up to the token that begins at this byte of the line, from 0.
+    /// At this byte of the line, from 0, the first token begins with which the line's tokens begin nothing that a line may say;
+    /// or there the line ends too early.
     #[error("syntax error at byte {at}")]
     Syntax { at: usize, why: Why },
     /// A growth of memory was refused.
@@ -53,14 +53,6 @@ impl<T: Drop> From<AllocFailed<T>> for LineFault {
     ghost from_gives = { λ _ e. e ≡ NoMemory };
 
     fn from(_e: AllocFailed<T>) -> LineFault {
-        LineFault::NoMemory
-    }
-}
-
-impl From<TextFault> for LineFault {
-    ghost from_gives = { λ _ e. e ≡ NoMemory };
-
-    fn from(_e: TextFault) -> LineFault {
         LineFault::NoMemory
     }
 }

@@ -2,6 +2,7 @@
 #![tactic(auto)]
 
 mod atom;
+mod awaited;
 mod cause;
 mod commands;
 mod fault;
@@ -14,7 +15,6 @@ mod number;
 mod params;
 mod part;
 mod pattern;
-mod place;
 mod reading;
 mod state;
 mod step;

@@ -147,7 +147,7 @@ pub struct Member {
     pub atom: Atom,
 }
 
-/// A digest that a command's file has to have (sudoers(5), Digest_Spec).
+/// A digest of a command's file; of several one is enough (sudoers(5), Digest_Spec).
 #[derive(Debug, Drop)]
 pub struct Digest {
     pub kind: DigestKind,
@@ -170,13 +170,13 @@ pub enum Atom {
     All,
     /// The name of an alias.
     Alias(Items<u8>),
-    /// A user or runas user by name.
+    /// A user, or in the groups of a runas part a group, by name.
     Name(Items<u8>),
-    /// A user or runas user by number: `#uid`.
+    /// The same by number: `#uid`, `#gid`.
     Id(u32),
-    /// The users of a group: `%group`.
+    /// The users of a group, or there the group: `%group`.
     Group(Items<u8>),
-    /// The users of a group by its number: `%#gid`.
+    /// The same by the group's number: `%#gid`.
     GroupId(u32),
     /// `%:group`
     NonUnix(Items<u8>),

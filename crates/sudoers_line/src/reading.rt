@@ -12,7 +12,7 @@ ghost use Rattle.sudoers_line.specs.Piece.{pieces, ends_line};
 ghost use Rattle.sudoers_line.specs.Seen.{seen};
 ghost use Rattle.sudoers_line.specs.Line.{ReadsLine, IsFault, IsFaultOf, Gives, Refuses, last_line_end, line_stop};
 ghost use Rattle.sudoers_line.specs.Machine.{run};
-ghost use Rattle.sudoers_line.specs.Steps.{Tells};
+ghost use Rattle.sudoers_line.specs.Steps.{Answers};
 
 use crate::cause::cause;
 use crate::fault::{LineFault, Why};
@@ -64,11 +64,11 @@ fn parts<'a>(alloc: Global, line: &'a [u8], tokens: &[Token]) -> Result<Vec<Part
 
 /// What the tokens of a line say that ends at this byte.
 fn read(alloc: Global, parts: &[Part<'_>], stop: usize) -> Result<Node, LineFault>
-    ensures { Tells stop result (run State.Begin (map seen parts.now)) }
+    ensures { Answers stop result (run State.Begin (map seen parts.now)) }
 {
     let mut state = State::Begin;
     for part in parts {
-        let place = state.place();
+        let place = state.awaited();
         state = match step(alloc, state, part)? {
             Some(next) => next,
             None => {
@@ -93,8 +93,8 @@ fn read(alloc: Global, parts: &[Part<'_>], stop: usize) -> Result<Node, LineFaul
 ///
 /// # Errors
 ///
-/// [`LineFault::Syntax`] where the line says nothing: the first byte at which no line goes on that begins so, and why;
-/// [`LineFault::NoMemory`] where a growth of memory was refused.
+/// [`LineFault::Syntax`] where the line says nothing: where the first token begins with which its tokens begin nothing that a
+/// line may say, or where it ends too early, and why; [`LineFault::NoMemory`] where a growth of memory was refused.
 pub fn parse(alloc: Global, line: &[u8]) -> Result<Node, LineFault>
     // What is given is what the line says.
     ensures found { IfOk result (λ node. ReadsLine line.now node) }
@@ -106,7 +106,9 @@ pub fn parse(alloc: Global, line: &[u8]) -> Result<Node, LineFault>
     ensures refused { (at : ℕ) (why : WhyOf) → IsFault line.now at why → Refuses result at why }
 {
     one_token_list();
-    let tokens = tokens(alloc, line, line_mode(line))?;
+    let Ok(tokens) = tokens(alloc, line, line_mode(line)) else {
+        return Err(LineFault::NoMemory);
+    };
     let parts = parts(alloc, line, tokens.as_slice())?;
     read(alloc, parts.as_slice(), line.len() - last_line_end(line))
 }

@@ -9,37 +9,37 @@ use Rattle.sudoers_line.specs.Fault.{IsFirstFault}
 use Rattle.sudoers_line.specs.Line.{line_stop}
 use Rattle.sudoers_line.specs.Machine.{run}
 use Rattle.sudoers_line.specs.Seen.{seen}
-use Rattle.sudoers_line.specs.Steps.{Tells}
+use Rattle.sudoers_line.specs.Steps.{Answers}
 use Rattle.sudoers_line.proofs.Contract.{found, only, fault, refused}
 use Rattle.sudoers_line.proofs.reading.parse.Goals as goal
 
 -- the tokens, and what the reader tells of them
-has : (c : goal.After-drop-tokens-2) → HasTokens (line_mode c.args.line.now) c.args.line.now c.in_ok-tokens.tokens.items
-has c = subst (λ m. HasTokens m c.args.line.now c.in_ok-tokens.tokens.items) c.line_mode.ensures c.in_ok-tokens.ensures.exact
+has : (c : goal.After-drop-tokens-2) → HasTokens (line_mode c.args.line.now) c.args.line.now c.in-Ok.tokens.items
+has c = subst (λ m. HasTokens m c.args.line.now c.in-Ok.tokens.items) c.line_mode.ensures c.in-Ok.ensures.exact
 
-tells : (c : goal.After-drop-tokens-2) → Tells (line_stop c.args.line.now) c.read.result (run Begin (pieces c.args.line.now c.in_ok-tokens.tokens.items))
+tells : (c : goal.After-drop-tokens-2) → Answers (line_stop c.args.line.now) c.read.result (run Begin (pieces c.args.line.now c.in-Ok.tokens.items))
 tells c =
     let line : List ℕ = c.args.line.now in
-    let parts : map seen c.as_slice-2.result.now ≡ pieces line c.in_ok-tokens.tokens.items =
+    let parts : map seen c.as_slice-2.result.now ≡ pieces line c.in-Ok.tokens.items =
     ap (map seen) c.as_slice-2.ensures.value ∙ c.in_ok-parts.ensures ∙ ap (pieces line) c.as_slice.ensures.value in
     let stop : length line - c.last_line_end.result ≡ line_stop line = ap (λ n. length line - n) c.last_line_end.ensures.value in
-    subst (λ (at : ℕ). Tells at c.read.result (run Begin (pieces line c.in_ok-tokens.tokens.items))) stop
-    (subst (λ (ts : List Piece). Tells (length line - c.last_line_end.result) c.read.result (run Begin ts)) parts c.read.ensures)
+    subst (λ (at : ℕ). Answers at c.read.result (run Begin (pieces line c.in-Ok.tokens.items))) stop
+    (subst (λ (ts : List Piece). Answers (length line - c.last_line_end.result) c.read.result (run Begin ts)) parts c.read.ensures)
 
 pub returns-clause-found : goal.returns-clause-found
-returns-clause-found c = found c.args.line.now c.in_ok-tokens.tokens.items (line_stop c.args.line.now) c.read.result (has c) (tells c)
+returns-clause-found c = found c.args.line.now c.in-Ok.tokens.items (line_stop c.args.line.now) c.read.result (has c) (tells c)
 
 pub returns-clause-only : goal.returns-clause-only
 returns-clause-only c = λ node reads.
-    only c.args.line.now c.in_ok-tokens.tokens.items (line_stop c.args.line.now) c.read.result node
-    (subst (λ (ts : List Token). Reads (pieces c.args.line.now ts) node) (c.one_token_list.ensures (line_mode c.args.line.now) c.args.line.now reads.tokens c.in_ok-tokens.tokens.items reads.has (has c)) reads.reads)
+    only c.args.line.now c.in-Ok.tokens.items (line_stop c.args.line.now) c.read.result node
+    (subst (λ (ts : List Token). Reads (pieces c.args.line.now ts) node) (c.one_token_list.ensures (line_mode c.args.line.now) c.args.line.now reads.tokens c.in-Ok.tokens.items reads.has (has c)) reads.reads)
     (tells c)
 
 pub returns-clause-fault : goal.returns-clause-fault
-returns-clause-fault c = fault c.args.line.now c.in_ok-tokens.tokens.items c.read.result (has c) (tells c)
+returns-clause-fault c = fault c.args.line.now c.in-Ok.tokens.items c.read.result (has c) (tells c)
 
 pub returns-clause-refused : goal.returns-clause-refused
 returns-clause-refused c = λ at why first.
-    refused c.args.line.now c.in_ok-tokens.tokens.items c.read.result first.rest at why
-    (subst (λ (ts : List Token). IsFirstFault (pieces c.args.line.now ts) first.rest why) (c.one_token_list.ensures (line_mode c.args.line.now) c.args.line.now first.tokens c.in_ok-tokens.tokens.items first.has (has c)) first.first)
+    refused c.args.line.now c.in-Ok.tokens.items c.read.result first.rest at why
+    (subst (λ (ts : List Token). IsFirstFault (pieces c.args.line.now ts) first.rest why) (c.one_token_list.ensures (line_mode c.args.line.now) c.args.line.now first.tokens c.in-Ok.tokens.items first.has (has c)) first.first)
     first.place (tells c)

@@ -8,7 +8,7 @@ use crate::state::{Frame, State};
 
 /// What may come next, as far as the cause of a fault depends on it.
 #[derive(Clone, Copy, Debug, PartialEq, Eq)]
-pub struct Place {
+pub struct Awaited {
     /// A word that is the name of a user or a host.
     pub word: bool,
     /// A word that is a time stamp.
@@ -17,12 +17,12 @@ pub struct Place {
     pub path: bool,
 }
 
-impl Place {
+impl Awaited {
     /// Nothing of this.
     fn nothing() -> Self
         ensures { result ≡ nothing }
     {
-        Place {
+        Awaited {
             word: false,
             stamp: false,
             path: false,
@@ -33,7 +33,7 @@ impl Place {
     fn words() -> Self
         ensures { result ≡ words }
     {
-        Place {
+        Awaited {
             word: true,
             stamp: true,
             path: false,
@@ -44,7 +44,7 @@ impl Place {
     fn stamps() -> Self
         ensures { result ≡ stamps }
     {
-        Place {
+        Awaited {
             word: false,
             stamp: true,
             path: false,
@@ -55,7 +55,7 @@ impl Place {
     fn commands() -> Self
         ensures { result ≡ commands }
     {
-        Place {
+        Awaited {
             word: false,
             stamp: false,
             path: true,
@@ -64,50 +64,50 @@ impl Place {
 }
 
 /// What is a member of this kind.
-fn of_kind(kind: Kind) -> Place
+fn of_kind(kind: Kind) -> Awaited
     ensures { result ≡ place_of_kind kind }
 {
     match kind {
-        Kind::User | Kind::Runas | Kind::Host => Place::words(),
-        Kind::Cmnd => Place::commands(),
+        Kind::User | Kind::Runas | Kind::Host => Awaited::words(),
+        Kind::Cmnd => Awaited::commands(),
     }
 }
 
 /// What is a value of this option.
-fn of_option(option: OptionName) -> Place
+fn of_option(option: OptionName) -> Awaited
     ensures { result ≡ place_of_option option }
 {
     match option {
-        OptionName::Notbefore | OptionName::Notafter => Place::stamps(),
-        _ => Place::words(),
+        OptionName::Notbefore | OptionName::Notafter => Awaited::stamps(),
+        _ => Awaited::words(),
     }
 }
 
 /// What may stand behind a list there.
-fn behind(frame: &Frame) -> Place
+fn behind(frame: &Frame) -> Awaited
     ensures { result ≡ place_behind frame.now }
 {
     match frame {
-        Frame::Users => Place::words(),
-        _ => Place::nothing(),
+        Frame::Users => Awaited::words(),
+        _ => Awaited::nothing(),
     }
 }
 
 impl State {
     /// What may come next.
-    pub fn place(&self) -> Place
+    pub fn awaited(&self) -> Awaited
         ensures { result ≡ place_by self.now }
     {
         match self {
-            State::Begin | State::AtPath(_) | State::AtRunas(_) => Place::words(),
+            State::Begin | State::AtPath(_) | State::AtRunas(_) => Awaited::words(),
             State::AtMember(frame, _, _) => of_kind(frame.get().kind()),
             State::BehindMember(frame, _) => behind(frame.get()),
             State::AtOptionValue(_, _, option) => of_option(*option),
             State::AtCmdSpec(_, _, _)
             | State::AtCommand(_)
             | State::BehindDigest(_, _)
-            | State::AtSigned(_, _) => Place::commands(),
-            _ => Place::nothing(),
+            | State::AtSigned(_, _) => Awaited::commands(),
+            _ => Awaited::nothing(),
         }
     }
 }
