@@ -25,3 +25,4 @@ pub mod OneFault
 pub mod Places
 pub mod Contract
 pub mod Lines
+pub mod Words

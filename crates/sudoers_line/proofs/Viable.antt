@@ -4,11 +4,11 @@ use Rattle.sudoers_line.specs.declared.node.Node.{Node}
 use Rattle.sudoers_line.specs.declared.awaited.Awaited.{Awaited}
 use Rattle.sudoers_line.specs.declared.state.State.{State}
 use Rattle.sudoers_line.specs.declared.state.State.TheVariants.{Begin}
-use Rattle.sudoers_line.specs.Piece.{Piece}
+use Rattle.sudoers_line.specs.Piece.{is_some, Piece}
 use Rattle.sudoers_line.specs.Grammar.{Reads}
 use Rattle.sudoers_line.specs.Fault.{BeginsLegal, Would, some_word, some_stamp, some_path, Tells, IsAwaited, IsFirstFault}
 use Rattle.sudoers_line.specs.Steps.{cause_of_rest, cause_at}
-use Rattle.sudoers_line.specs.Machine.{finish, step, is_some, place_of, Stop, goes_on, ends, run}
+use Rattle.sudoers_line.specs.Machine.{finish, step, place_of, Stop, goes_on, ends, run}
 use Rattle.sudoers_line.proofs.Runs.{step_run}
 use Rattle.sudoers_line.proofs.Complete.{complete}
 use Rattle.sudoers_line.proofs.Sound.{done, sound}

@@ -38,7 +38,7 @@ use Rattle.sudoers_line.specs.declared.state.Program.TheVariants as program
 use Rattle.sudoers_line.specs.declared.state.Params.{Params}
 use Rattle.sudoers_line.specs.declared.state.State.{State}
 use Rattle.sudoers_line.specs.declared.state.State.TheVariants.{Begin, AtPath, AtName, AtEquals, AtMember, BehindMember, AtCmdSpec, AtRunas, BehindOption, AtOptionValue, BehindTag, AtCommand, AtDigestKind, BehindDigestKind, AtDigest, BehindDigest, AtSigned, BehindProgram, BehindCommand, BehindDefaults, AtParam, BehindName, AtValue, BehindParam, Whole, Ended}
-use Rattle.sudoers_line.specs.Piece.{Piece, is_arg, is_digest, is_parameter, is_value, is_comment, is_mark, is_alias_name, kind_word, include_word, option_name, tag_of, digest_kind, operator_of, scope_sign, begins_with, ends_with}
+use Rattle.sudoers_line.specs.Piece.{is_some, Piece, is_arg, is_digest, is_parameter, is_value, is_comment, is_mark, is_alias_name, kind_word, include_word, option_name, tag_of, digest_kind, operator_of, scope_sign, begins_with, ends_with}
 use Rattle.sudoers_line.specs.Pattern.{pattern_of}
 use Rattle.sudoers_line.specs.Atom.{atom_of, bare_command, is_no_arguments, takes_digests, option_value, path_value}
 use Rattle.sudoers_line.specs.Grammar.{list_stop, is_defaults}
@@ -405,10 +405,6 @@ step_comment s = option_map Ended (finish s)
 -- where a token leads
 abbrev pub step : State → Piece → Option State
 step s t = if is_comment t.kind then step_comment s else step_on s t
-
-abbrev pub is_some : {X : Type 0} → Option X → Bool
-is_some None = false
-is_some (Some x) = true
 
 -- what may come next
 abbrev pub place_of : State → Awaited

@@ -104,6 +104,10 @@ abbrev pub looked_up : {X : Type 0} → List (List ℕ × X) → List ℕ → Op
 looked_up [] word = None
 looked_up (row ∷ rows) word = if bytes_eq word row.0 then Some row.1 else looked_up rows word
 
+abbrev pub is_some : {X : Type 0} → Option X → Bool
+is_some None = false
+is_some (Some x) = true
+
 -- what the word of a token says
 abbrev pub of_word : {X : Type 0} → (List ℕ → Option X) → Piece → Option X
 of_word says t = if is_word t.kind then says t.text else None
@@ -124,7 +128,7 @@ kind_word t = of_word (looked_up kind_words) t
 -- the words with which an include begins; true: of a directory
 abbrev pub include_words : List (List ℕ × Bool)
 include_words =
-    (codes "#include", false) ∷ (codes "@include", false) ∷ (codes "#includedir", true) ∷ (codes "@includedir", true) ∷ []
+    (codes "#include", false) ∷ (codes "#includedir", true) ∷ (codes "@include", false) ∷ (codes "@includedir", true) ∷ []
 
 unfoldable pub include_word : Piece → Option Bool
 include_word t = of_word (looked_up include_words) t

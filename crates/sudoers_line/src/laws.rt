@@ -3,6 +3,8 @@
 ghost use Rattle.std.specs.Prelude.{◌≡◌, ◌⊎◌, ℕ, List};
 ghost use Rattle.sudoers_line.specs.declared.fault.Why.{Why as WhyOf};
 ghost use Rattle.sudoers_line.specs.declared.node.Node.{Node as NodeOf};
+ghost use Rattle.sudoers_text.specs.Word.{is_among, is_tag, is_option_name, digest_kinds as digest_words, include_words as words_of_includes};
+ghost use Rattle.sudoers_line.specs.Piece.{is_some, looked_up, option_names, tag_of_word, digest_kinds, include_words};
 ghost use Rattle.sudoers_line.specs.Line.{ReadsLine, IsFault, HasFault};
 
 use sudoers_text::{one_token_list, tokens_are};
@@ -35,3 +37,11 @@ pub fn some_outcome()
 {
     tokens_are();
 }
+
+/// The words that tell how a line is cut into tokens are those that the grammar knows.
+pub fn words_agree()
+    ensures tags { (word : List ℕ) → is_tag word ≡ is_some (tag_of_word word) }
+    ensures options { (word : List ℕ) → is_option_name word ≡ is_some (looked_up option_names word) }
+    ensures digests { (word : List ℕ) → is_among digest_words word ≡ is_some (looked_up digest_kinds word) }
+    ensures includes { (word : List ℕ) → is_among words_of_includes word ≡ is_some (looked_up include_words word) }
+{}

@@ -69,9 +69,13 @@ fn kind_of_word(word: &[u8]) -> Option<Kind>
 fn include_of_word(word: &[u8]) -> Option<bool>
     ensures { result ≡ looked_up include_words word.now }
 {
-    if word == b"#include".as_slice() || word == b"@include".as_slice() {
+    if word == b"#include".as_slice() {
         Some(false)
-    } else if word == b"#includedir".as_slice() || word == b"@includedir".as_slice() {
+    } else if word == b"#includedir".as_slice() {
+        Some(true)
+    } else if word == b"@include".as_slice() {
+        Some(false)
+    } else if word == b"@includedir".as_slice() {
         Some(true)
     } else {
         None
