@@ -2,6 +2,8 @@
 //! and how many do not. The benchmark times it.
 #![tactic(auto)]
 
+ghost use Rattle.std.specs.Prelude.{◌≤◌, length};
+
 use std::alloc::Global;
 use std::io;
 use std::io::Read;
@@ -25,13 +27,15 @@ fn main(rt: HostRuntime) -> io::Result<()> {
     println!(rt; "{read} of {} lines", lines.len())
 }
 
-/// How many lines say something.
-fn read_count(alloc: Global, lines: &Lines<'_>) -> usize {
+/// How many lines say something, as far as memory is found.
+fn read_count(alloc: Global, lines: &Lines<'_>) -> usize
+    ensures { result ≤ length lines.now }
+{
     let mut count: usize = 0;
     for i in 0..lines.len() {
         if let Some(line) = lines.get(i) {
             if parse(alloc, line).is_ok() {
-                count = count.wrapping_add(1);
+                count += 1;
             }
         }
     }

@@ -101,7 +101,7 @@ abbrev pub IsCause : List Piece → List Piece → Why → Type 0
 IsCause before [] w = w ≡ EndOfLine
 IsCause before (t ∷ rest) w = (p : Awaited) × IsAwaited before p × (w ≡ cause p t)
 
--- Up to these tokens the line begins as some line does; with the first of them, or because there are none, it is none.
+-- The tokens before these are a legal beginning; with the first of these they are none, or there are none and the whole says nothing.
 pub record IsFirstFault (ts rest : List Piece) (w : Why) : Type 0 where
   pub before : List Piece
   pub split : ts ≡ before ++ rest

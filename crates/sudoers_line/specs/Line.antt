@@ -39,6 +39,7 @@ pub record IsFault (line : List ℕ) (at : ℕ) (w : Why) : Type 0 where
   pub first : IsFirstFault (pieces line tokens) rest w
   pub place : at ≡ place_or (line_stop line) rest
 
+-- The line has a first fault.
 abbrev pub HasFault : List ℕ → Type 0
 HasFault line = (at : ℕ) × (w : Why) × IsFault line at w
 
