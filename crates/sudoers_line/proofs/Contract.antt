@@ -4,6 +4,7 @@ use Rattle.std.proofs.lemmas.List.{drop_more}
 use Rattle.sudoers_text.specs.declared.token.Token.{Token}
 use Rattle.sudoers_text.specs.Token.{HasTokens}
 use Rattle.sudoers_text.specs.LineMode.{line_mode}
+use Rattle.sudoers_text.specs.Found.{tokens_of}
 use Rattle.sudoers_line.specs.declared.fault.Why.{Why}
 use Rattle.sudoers_line.specs.declared.fault.LineFault.{LineFault}
 use Rattle.sudoers_line.specs.declared.fault.LineFault.TheVariants.{Syntax, NoMemory}
@@ -20,6 +21,7 @@ use Rattle.sudoers_line.specs.Line.{ReadsLine, IsFault, IsFaultOf, Gives, Refuse
 use Rattle.sudoers_line.specs.Machine.{step, Stop, goes_on, run}
 use Rattle.sudoers_line.specs.Places.{place_by}
 use Rattle.sudoers_line.specs.Steps.{Answers, cause_at}
+use Rattle.sudoers_line.specs.Outcome.{outcome_of_run, outcome_of, LineGives}
 use Rattle.sudoers_line.proofs.Complete.{complete}
 use Rattle.sudoers_line.proofs.Sound.{done, sound}
 use Rattle.sudoers_line.proofs.Viable.{first_fault}
@@ -98,3 +100,21 @@ refused line tokens (Ok n) rest at w first place h =
     no_fault (pieces line tokens) rest w n first (sound (pieces line tokens) n (tells_ok (line_stop line) n (run Begin (pieces line tokens)) h))
 refused line tokens (Err (Syntax a v)) rest at w first place h = same_fault line tokens rest at a w v (run Begin (pieces line tokens)) first place refl h
 refused line tokens (Err NoMemory) rest at w first place h = tt
+
+-- An answer that tells what a run leads to tells the outcome of the run.
+gives_run : (stop : ℕ) (answer : Result Node LineFault) (r : Result Node Stop) → Answers stop answer r
+    → LineGives answer (outcome_of_run stop r)
+gives_run stop (Ok n) (Ok m) h = ap (λ (k : Node). Ok k) (sym h)
+gives_run stop (Ok n) (Err f) h = absurd h
+gives_run stop (Err (Syntax at w)) (Ok m) h = absurd h
+gives_run stop (Err (Syntax at w)) (Err f) (place, why) = cc
+gives_run stop (Err NoMemory) r h = tt
+
+-- An answer that tells what the tokens lead to is the line's outcome, unless memory ran out.
+pub gives : (line : List ℕ) (tokens : List Token) (answer : Result Node LineFault)
+    → tokens ≡ tokens_of (line_mode line) line → Answers (line_stop line) answer (run Begin (pieces line tokens))
+    → LineGives answer (outcome_of line)
+unfolding outcome_of
+gives line tokens answer same h =
+    subst (λ (ts : List Token). LineGives answer (outcome_of_run (line_stop line) (run Begin (pieces line ts)))) same
+    (gives_run (line_stop line) answer (run Begin (pieces line tokens)) h)

@@ -14,6 +14,7 @@ use Rattle.sudoers_line.specs.Fault.{IsFirstFault}
 use Rattle.sudoers_line.specs.Line.{ReadsLine, IsFault, HasFault, line_stop, place_or}
 use Rattle.sudoers_line.specs.Machine.{Stop, run}
 use Rattle.sudoers_line.specs.Steps.{cause_at}
+use Rattle.sudoers_line.specs.Outcome.{outcome_of_run, outcome_of, IsOutcome}
 use Rattle.sudoers_line.proofs.Sound.{sound}
 use Rattle.sudoers_line.proofs.Viable.{one_node, first_fault}
 use Rattle.sudoers_line.proofs.OneFault.{one_fault, no_fault}
@@ -45,3 +46,24 @@ outcome line tokens has (Err f) e =
 
 pub some_outcome : ((mode : Mode) (line : List ℕ) → HasTokens mode line (tokens_of mode line)) → (line : List ℕ) → ((n : Node) × ReadsLine line n) ⊎ HasFault line
 some_outcome are line = outcome line (tokens_of (line_mode line) line) (are (line_mode line) line) (run Begin (pieces line (tokens_of (line_mode line) line))) refl
+
+-- the outcome of a run over the tokens of a line
+outcome_of_tokens : (line : List ℕ) (tokens : List Token) → HasTokens (line_mode line) line tokens
+    → (r : Result Node Stop) → run Begin (pieces line tokens) ≡ r → IsOutcome line (outcome_of_run (line_stop line) r)
+outcome_of_tokens line tokens has (Ok n) e =
+    record { tokens = tokens; has = has; reads = sound (pieces line tokens) n e }
+outcome_of_tokens line tokens has (Err f) e = record {
+  tokens = tokens;
+  has = has;
+  rest = f.rest;
+  first = first_fault (pieces line tokens) f e;
+  place = refl;
+}
+
+-- What is computed is the line's outcome.
+pub outcome_is : ((mode : Mode) (line : List ℕ) → HasTokens mode line (tokens_of mode line)) → (line : List ℕ)
+    → IsOutcome line (outcome_of line)
+unfolding outcome_of
+outcome_is are line =
+    let tokens = tokens_of (line_mode line) line in
+    outcome_of_tokens line tokens (are (line_mode line) line) (run Begin (pieces line tokens)) refl

@@ -9,3 +9,4 @@ pub mod Line
 pub mod Machine
 pub mod Places
 pub mod Steps
+pub mod Outcome

@@ -1,5 +1,6 @@
--- A device of the proof, which no public contract cites: where the reader of tokens stands, token by token. What a line says is
--- in Grammar.
+-- A device of the proof: where the reader of tokens stands, token by token. What a line says is in Grammar. No public
+-- contract cites it but for `outcome_of` (Outcome), which computes by it: that this gives what Grammar says is a law
+-- (`outcome_is`).
 use Rattle.std.specs.Prelude.{ℕ, Bool, true, false, not, List, [], ◌∷◌, ◌++◌, Option, Some, None, option_map, option_and_then, Result, Ok, Err, if◌then◌else◌}
 use Rattle.sudoers_text.specs.Value.{value_of}
 use Rattle.sudoers_line.specs.declared.node.Kind.{Kind}

@@ -1,4 +1,5 @@
--- A device of the proof, which no public contract cites: what the reader of tokens answers.
+-- A device of the proof: what the reader of tokens answers. No public contract cites it but for `outcome_of` (Outcome),
+-- which computes by it: that this gives the cause which Fault defines is a law (`outcome_is`).
 use Rattle.std.specs.Prelude.{◌≡◌, ℕ, List, [], ◌∷◌, Result, Ok, Err}
 use Rattle.sudoers_line.specs.declared.fault.Why.{Why}
 use Rattle.sudoers_line.specs.declared.fault.Why.TheVariants.{EndOfLine}

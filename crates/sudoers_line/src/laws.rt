@@ -6,6 +6,7 @@ ghost use Rattle.sudoers_line.specs.declared.node.Node.{Node as NodeOf};
 ghost use Rattle.sudoers_text.specs.Word.{is_among, is_tag, is_option_name, digest_kinds as digest_words, include_words as words_of_includes};
 ghost use Rattle.sudoers_line.specs.Piece.{is_some, looked_up, option_names, tag_of_word, digest_kinds, include_words};
 ghost use Rattle.sudoers_line.specs.Line.{ReadsLine, IsFault, HasFault};
+ghost use Rattle.sudoers_line.specs.Outcome.{outcome_of, IsOutcome};
 
 use sudoers_text::{one_token_list, tokens_are};
 
@@ -34,6 +35,13 @@ pub fn one_fault()
 /// A line says something, or it has a first fault.
 pub fn some_outcome()
     ensures { (line : List ℕ) → ((node : NodeOf) × ReadsLine line node) ⊎ HasFault line }
+{
+    tokens_are();
+}
+
+/// What a line says, or its first fault, is what is computed.
+pub fn outcome_is()
+    ensures { (line : List ℕ) → IsOutcome line (outcome_of line) }
 {
     tokens_are();
 }

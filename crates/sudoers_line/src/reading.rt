@@ -11,6 +11,7 @@ ghost use Rattle.sudoers_line.specs.declared.state.State.TheVariants as State;
 ghost use Rattle.sudoers_line.specs.Piece.{pieces, ends_line};
 ghost use Rattle.sudoers_line.specs.Seen.{seen};
 ghost use Rattle.sudoers_line.specs.Line.{ReadsLine, IsFault, IsFaultOf, Gives, Refuses, last_line_end, line_stop};
+ghost use Rattle.sudoers_line.specs.Outcome.{outcome_of, LineGives};
 ghost use Rattle.sudoers_line.specs.Machine.{run};
 ghost use Rattle.sudoers_line.specs.Steps.{Answers};
 
@@ -104,6 +105,8 @@ pub fn parse(alloc: Global, line: &[u8]) -> Result<Node, LineFault>
     ensures fault { IfErr result (λ fault. IsFaultOf line.now fault) }
     // The line's first fault is told, unless memory runs out.
     ensures refused { (at : ℕ) (why : WhyOf) → IsFault line.now at why → Refuses result at why }
+    // In one word: the line's outcome, of which there is exactly one.
+    ensures outcome { LineGives result (outcome_of line.now) }
 {
     one_token_list();
     let Ok(tokens) = tokens(alloc, line, line_mode(line)) else {

@@ -1,10 +1,10 @@
 -- The lines that are computed are the text's.
-use Rattle.std.proofs.Common.{◌≡◌, ℕ, zero, suc, ◌+◌, ◌<◌, ◌≤◌, true, List, [], ◌∷◌, ◌++◌, length, take, drop, refl, sym, ap, subst, ◌∙◌, arith, Some, None, append-nil}
-use Rattle.std.specs.Prelude.{◌==◌, ◌&&◌}
+use Rattle.std.proofs.Common.{◌≡◌, ℕ, zero, suc, ◌+◌, ◌<◌, ◌≤◌, Bool, true, false, List, [], ◌∷◌, ◌++◌, length, take, drop, refl, sym, ap, subst, ◌∙◌, arith, Some, None, append-nil}
+use Rattle.std.specs.Prelude.{◌==◌, ◌&&◌, if◌then◌else◌}
 use Rattle.std.specs.Option.{option_map_or}
 use Rattle.std.proofs.lemmas.List.{length-append, length-drop, append_assoc, take_at, drop_at, take-append-drop}
 use Rattle.std.proofs.lemmas.Bool.Decides.{nat_tests}
-use Rattle.sudoers_text.specs.Unit.{LineUnit, text_of, spelled, AreUnits, unit_at, line_end_size}
+use Rattle.sudoers_text.specs.Unit.{LineUnit, text_of, spelled, AreUnits, unit_at, begins_lf, line_end_size}
 use Rattle.sudoers_text.specs.Line.{IsLine, IsOpen, Cuts, is_open}
 use Rattle.sudoers_text.specs.Cut.{units_from, units_of, units_size, line_size, lines_within, lines_of, is_open_line}
 use Rattle.sudoers_text.proofs.Units.{has_end, and_parts}
@@ -66,8 +66,34 @@ line_by_units text units (b ∷ rest) n some each none whole size =
     (omega (arith, size, end.size, length-append (spelled units) end.ending))
     (record { units = units; ending = end.ending; text = refl; each = subst (λ (t : List ℕ). AreUnits units t) end.whole each; ends = end.ends units })
 
+-- a line end lies within the text that it begins
+end_within : (lf cr : Bool) (rest : List ℕ)
+    → (if lf then 1 else (if cr && begins_lf rest then 2 else 0)) ≤ length rest + 1
+end_within true cr rest = omega arith
+end_within false false rest = omega arith
+end_within false true [] = omega arith
+end_within false true (b ∷ rest) =
+    elim (b == 10) as (λ t. (if t then 2 else 0) ≤ length (b ∷ rest) + 1) [ true ↦ omega arith | false ↦ omega arith ]
+
+end_size_within : (text : List ℕ) → line_end_size text ≤ length text
+end_size_within [] = omega arith
+end_size_within (b ∷ rest) = omega (arith, end_within (b == 10) (b == 13) rest)
+
+-- The first line lies within the text.
+pub line_within : (text : List ℕ) → line_size text ≤ length text
+unfolding line_size units_size
+line_within text =
+    let stop = stops text in
+    omega (
+      arith,
+      ap length stop.whole,
+      length-append (spelled (units_of text)) stop.rest,
+      ap line_end_size (behind_units text (units_of text) stop),
+      end_size_within stop.rest,
+    )
+
 -- the first line of a text
-first_line : (text : List ℕ) → 0 < length text → IsLine (take (line_size text) text) (drop (line_size text) text)
+pub first_line : (text : List ℕ) → 0 < length text → IsLine (take (line_size text) text) (drop (line_size text) text)
 unfolding line_size units_size
 first_line text some =
     let stop = stops text in

@@ -10,6 +10,7 @@ pub mod Local
 pub mod Closed
 pub mod Outcomes
 pub mod Found
+pub mod LogicalLine
 pub mod Alone
 pub mod Examples
 pub mod Runs

@@ -15,3 +15,4 @@ pub mod Token
 pub mod LineMode
 pub mod Found
 pub mod Value
+pub mod Whole

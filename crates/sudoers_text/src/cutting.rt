@@ -25,11 +25,11 @@ pub struct Span {
 
 /// Where a line ends.
 #[derive(Clone, Copy)]
-struct LineEnd {
+pub struct LineEnd {
     /// The place behind the line end.
-    stop: usize,
+    pub stop: usize,
     /// The text ends there in a continuation or in a lone backslash.
-    continues: bool,
+    pub continues: bool,
 }
 
 /// The lines of a text, whatever is wrong with it.
@@ -95,7 +95,7 @@ pub fn first_fault(text: &[u8], spans: &[Span], continues: bool) -> Option<TextF
 }
 
 /// The place of the first NUL, or the text's end.
-fn first_nul(text: &[u8]) -> usize
+pub fn first_nul(text: &[u8]) -> usize
     ensures inside { result ≤ length text.now }
     ensures before { (k : ℕ) → k < result → slice_get text.now k ≢ Some 0 }
     ensures found { result < length text.now → slice_get text.now result ≡ Some 0 }
@@ -112,7 +112,7 @@ fn physical_line(text: &[u8], at: usize) -> usize
 }
 
 /// The end of the line that begins at a place.
-fn line_end(text: &[u8], start: usize) -> LineEnd
+pub fn line_end(text: &[u8], start: usize) -> LineEnd
     requires { start < length text.now }
     ensures later { start < result.stop }
     ensures inside { result.stop ≤ length text.now }

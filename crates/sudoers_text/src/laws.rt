@@ -5,6 +5,7 @@ ghost use Rattle.sudoers_text.specs.Line.{IsLine, IsOpen, Cuts, join};
 ghost use Rattle.sudoers_text.specs.Ended.{ends_in_lf, has_unended_inside};
 ghost use Rattle.sudoers_text.specs.Fault.{IsOutcome, text_limit};
 ghost use Rattle.sudoers_text.specs.Cut.{cut_of, StandAlone};
+ghost use Rattle.sudoers_text.specs.Whole.{IsLogicalLine, is_logical_line};
 ghost use Rattle.sudoers_text.specs.declared.fault.TextFault.{TextFault as Fault};
 
 /// A text has a list of logical lines.
@@ -62,4 +63,10 @@ pub fn lines_of_join()
 pub fn lines_stand_alone()
     ensures { (text : List ℕ) (lines : List (List ℕ)) → cut_of text ≡ Ok lines
         → StandAlone lines × (has_unended_inside lines ≡ false) × (join lines ≡ text) × (length text ≤ text_limit) }
+{}
+
+/// What is computed tells whether a text is one logical line.
+pub fn whole_line_is()
+    ensures tells { (text : List ℕ) → is_logical_line text ≡ true → IsLogicalLine text }
+    ensures told { (text : List ℕ) → IsLogicalLine text → is_logical_line text ≡ true }
 {}

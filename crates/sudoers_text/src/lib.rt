@@ -16,13 +16,14 @@ mod token;
 mod token_laws;
 mod tokenizing;
 mod unit;
+mod whole;
 mod word;
 
 pub use cutting::{LINE_LIMIT, TEXT_LIMIT};
 pub use fault::TextFault;
 pub use laws::{
     closed_line_anywhere, cut_is, inner_line_ends, line_alone, line_anywhere, lines_of_join,
-    lines_stand_alone, one_list, one_outcome, some_list,
+    lines_stand_alone, one_list, one_outcome, some_list, whole_line_is,
 };
 pub use line::{Lines, cut};
 pub use meaning::{blanks_len, value};
@@ -31,4 +32,5 @@ pub use token::{Mode, Token, TokenKind};
 pub use token_laws::{longest_or_none, one_token_list, tokens_are};
 pub use tokenizing::tokens;
 pub use unit::{begins_line_end, ends_in_lf, line_end_len};
+pub use whole::is_logical_line;
 pub use word::{is_name, is_reserved};

@@ -2,6 +2,7 @@ use Rattle.std.proofs.Common.{◌≡◌, ◌-◌, ℕ, List, map, ap, subst, ◌
 use Rattle.sudoers_text.specs.declared.token.Token.{Token}
 use Rattle.sudoers_text.specs.Token.{HasTokens}
 use Rattle.sudoers_text.specs.LineMode.{line_mode}
+use Rattle.sudoers_text.specs.Found.{tokens_of}
 use Rattle.sudoers_line.specs.declared.state.State.TheVariants.{Begin}
 use Rattle.sudoers_line.specs.Piece.{Piece, pieces}
 use Rattle.sudoers_line.specs.Grammar.{Reads}
@@ -10,7 +11,7 @@ use Rattle.sudoers_line.specs.Line.{line_stop}
 use Rattle.sudoers_line.specs.Machine.{run}
 use Rattle.sudoers_line.specs.Seen.{seen}
 use Rattle.sudoers_line.specs.Steps.{Answers}
-use Rattle.sudoers_line.proofs.Contract.{found, only, fault, refused}
+use Rattle.sudoers_line.proofs.Contract.{found, only, fault, refused, gives}
 use Rattle.sudoers_line.proofs.reading.parse.Goals as goal
 
 -- the tokens, and what the reader tells of them
@@ -43,3 +44,9 @@ returns-clause-refused c = λ at why first.
     refused c.args.line.now c.in-Ok.tokens.items c.read.result first.rest at why
     (subst (λ (ts : List Token). IsFirstFault (pieces c.args.line.now ts) first.rest why) (c.one_token_list.ensures (line_mode c.args.line.now) c.args.line.now first.tokens c.in-Ok.tokens.items first.has (has c)) first.first)
     first.place (tells c)
+
+pub returns-clause-outcome : goal.returns-clause-outcome
+returns-clause-outcome c =
+    let same : c.in-Ok.tokens.items ≡ tokens_of (line_mode c.args.line.now) c.args.line.now =
+    subst (λ m. c.in-Ok.tokens.items ≡ tokens_of m c.args.line.now) c.line_mode.ensures c.in-Ok.ensures.outcome in
+    gives c.args.line.now c.in-Ok.tokens.items c.read.result same (tells c)

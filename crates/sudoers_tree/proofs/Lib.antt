@@ -1,0 +1,9 @@
+pub mod Columns
+pub mod Entries
+pub mod Joined
+pub mod Taken
+pub mod Sound
+pub mod Outcomes
+pub mod OneOutcome
+pub mod AtPlaces
+pub mod ReadText

@@ -1,0 +1,46 @@
+-- What comes of a text.
+use Rattle.std.proofs.Common.{◌≡◌, ℕ, ◌⊎◌, inl, inr, List, [], Result, Ok, Err, refl, ap, subst, ◌∙◌}
+use Rattle.sudoers_text.specs.declared.fault.TextFault.{TextFault}
+use Rattle.sudoers_text.specs.declared.fault.TextFault.TheVariants as text
+use Rattle.sudoers_text.specs.Cut.{cut_of, CutGives}
+use Rattle.sudoers_tree.specs.declared.line.Line.{Line}
+use Rattle.sudoers_tree.specs.declared.fault.ReadFault.{ReadFault}
+use Rattle.sudoers_tree.specs.declared.fault.ReadFault.TheVariants.{Text, Syntax, Reserved, Duplicate, TooMany, NoMemory}
+use Rattle.sudoers_tree.specs.Wrapped.{fault_of_text}
+use Rattle.sudoers_tree.specs.Fault.{IsFaultOf}
+use Rattle.sudoers_tree.specs.Reading.{read_behind, read_cut, read_of, IsOutcome, ReadGives}
+use Rattle.sudoers_tree.specs.Index.{ReadsAll}
+
+-- a text that is not cut
+pub not_cut : (bytes : List ℕ) (fault : TextFault) → CutGives (Err fault) (cut_of bytes) → ReadGives (Err (fault_of_text fault)) (read_of bytes)
+unfolding read_of
+not_cut bytes text.TooLarge is = ap read_cut is
+not_cut bytes (text.LineTooLong line) is = ap read_cut is
+not_cut bytes (text.Nul at) is = ap read_cut is
+not_cut bytes text.OpenContinuation is = ap read_cut is
+not_cut bytes text.NoMemory is = tt
+
+-- a text that is cut into these lines
+pub is_cut : (bytes : List ℕ) (lines : List (List ℕ)) → cut_of bytes ≡ Ok lines → read_of bytes ≡ read_behind [] lines
+unfolding read_of
+is_cut bytes lines is = ap read_cut is
+
+-- a text that is cut into these lines, of which one has a fault
+pub faulty : (bytes : List ℕ) (lines : List (List ℕ)) (fault : ReadFault) → cut_of bytes ≡ Ok lines → ReadsAll (Err fault) (read_behind [] lines)
+    → ReadGives (Err fault) (read_of bytes)
+faulty bytes lines (Text fault) cut is = is_cut bytes lines cut ∙ is
+faulty bytes lines (Syntax row col why) cut is = is_cut bytes lines cut ∙ is
+faulty bytes lines (Reserved k name) cut is = is_cut bytes lines cut ∙ is
+faulty bytes lines (Duplicate k name) cut is = is_cut bytes lines cut ∙ is
+faulty bytes lines (TooMany k) cut is = is_cut bytes lines cut ∙ is
+faulty bytes lines NoMemory cut is = tt
+
+-- a fault that is given is the text's, or memory ran out
+pub fault_given : (bytes : List ℕ) (outcome : Result (List Line) ReadFault) (fault : ReadFault) → IsOutcome bytes outcome → ReadGives (Err fault) outcome
+    → (fault ≡ NoMemory) ⊎ IsFaultOf bytes fault
+fault_given bytes outcome (Text fault) is gives = inr (subst (IsOutcome bytes) gives is)
+fault_given bytes outcome (Syntax row col why) is gives = inr (subst (IsOutcome bytes) gives is)
+fault_given bytes outcome (Reserved k name) is gives = inr (subst (IsOutcome bytes) gives is)
+fault_given bytes outcome (Duplicate k name) is gives = inr (subst (IsOutcome bytes) gives is)
+fault_given bytes outcome (TooMany k) is gives = inr (subst (IsOutcome bytes) gives is)
+fault_given bytes outcome NoMemory is gives = inl refl

@@ -1,0 +1,5 @@
+use Rattle.sudoers_tree.proofs.OneOutcome.{one_outcome}
+use Rattle.sudoers_tree.proofs.laws.one_outcome.Goals as goal
+
+pub returns : goal.returns
+returns c = one_outcome c.cut_is.ensures c.one_outcome.ensures c.outcome_is.ensures c.one_reading.ensures c.no_fault.ensures c.one_fault.ensures

@@ -1,0 +1,68 @@
+use Rattle.std.proofs.Common.{◌≡◌, ◌∙◌, ◌++◌, ◌∷◌, [], ◌<◌, List, ℕ, length, take, drop, slice_get, Option, Some, None, Err, sym, ap, subst, rules, arith}
+use Rattle.std.proofs.lemmas.List.{length-append}
+use Rattle.std.proofs.lemmas.Option.{slice_get_within}
+use Rattle.sudoers_text.specs.Line.{join}
+use Rattle.sudoers_tree.specs.declared.line.Line.{Line}
+use Rattle.sudoers_tree.specs.declared.fault.ReadFault.{ReadFault}
+use Rattle.sudoers_tree.specs.Policy.{texts}
+use Rattle.sudoers_tree.specs.Reading.{read_behind}
+use Rattle.sudoers_tree.specs.Index.{ReadsAll}
+use Rattle.sudoers_tree.proofs.Joined.{fits_before, drop_none}
+use Rattle.sudoers_tree.proofs.Taken.{next_texts, next_read, stops}
+use Rattle.sudoers_tree.proofs.reading.read_lines.Goals as goal
+
+-- the line that is next
+at_next : (lines : List (List ℕ)) (n m : ℕ) (o : Option (List ℕ)) → n ≡ m → o ≡ slice_get lines n → slice_get lines m ≡ o
+at_next lines n m o same is = ap (slice_get lines) (sym same) ∙ sym is
+
+pub take_line-requires-clause-fits : goal.take_line-requires-clause-fits
+take_line-requires-clause-fits c =
+    let read : List Line = c.loop-text.reading.lines.items in
+    let count : c.len-in-loop-text.result ≡ length read = search rules in
+    let next = at_next c.args.lines.now c.len-in-loop-text.result (length read) (Some c.in-Some.text.now) count c.in-Some.ensures in
+    let fits = fits_before c.args.lines.now (length read) c.in-Some.text.now next in
+    let front : length (join (texts read)) ≡ length (join (take (length read) c.args.lines.now)) = ap (λ ts. length (join ts)) c.loop-text.invariant.0 in
+    omega (arith, fits, front, c.requires)
+
+pub loop-text-smaller : goal.loop-text-smaller
+loop-text-smaller c =
+    let read : List Line = c.loop-text.reading.lines.items in
+    let count : c.len-in-loop-text.result ≡ length read = search rules in
+    let next = at_next c.args.lines.now c.len-in-loop-text.result (length read) (Some c.in-Some.text.now) count c.in-Some.ensures in
+    let within : length read < length c.args.lines.now = slice_get_within c.args.lines.now (length read) c.in-Some.text.now next in
+    let line : Line = c.in_ok-take_line.ensures.taken.0 in
+    let more : length c.take_line.new.self.lines.items ≡ length (read ++ line ∷ []) = ap length c.in_ok-take_line.ensures.taken.2 in
+    omega (arith, within, more, length-append read (line ∷ []))
+
+pub loop-text-preserved : goal.loop-text-preserved
+loop-text-preserved c =
+    let lines : List (List ℕ) = c.args.lines.now in
+    let read : List Line = c.loop-text.reading.lines.items in
+    let count : c.len-in-loop-text.result ≡ length read = search rules in
+    let next = at_next lines c.len-in-loop-text.result (length read) (Some c.in-Some.text.now) count c.in-Some.ensures in
+    let line : Line = c.in_ok-take_line.ensures.taken.0 in
+    let is = c.in_ok-take_line.ensures.taken.1 in
+    let more : read ++ line ∷ [] ≡ c.take_line.new.self.lines.items = sym c.in_ok-take_line.ensures.taken.2 in (
+      subst (λ ls. texts ls ≡ take (length ls) lines) more (next_texts lines read c.in-Some.text.now line c.loop-text.invariant.0 next is),
+      c.in_ok-take_line.ensures.reading,
+      subst (λ ls. read_behind ls (drop (length ls) lines) ≡ read_behind [] lines) more (next_read lines read c.in-Some.text.now line next is ∙ c.loop-text.invariant.2),
+    )
+
+pub returns-in_err-take_line : goal.returns-in_err-take_line
+returns-in_err-take_line c =
+    let lines : List (List ℕ) = c.args.lines.now in
+    let read : List Line = c.loop-text.reading.lines.items in
+    let count : c.len-in-loop-text.result ≡ length read = search rules in
+    let next = at_next lines c.len-in-loop-text.result (length read) (Some c.in-Some.text.now) count c.in-Some.ensures in
+    let fault : ReadFault = c.in_err-take_line.field-0.0 in
+    let same : c.from_residual-in_err-take_line.result ≡ Err fault = search rules in
+    subst (λ r. ReadsAll r (read_behind [] lines)) (sym same)
+    (stops lines read c.take_line.new.self.lines.items c.in-Some.text.now fault next c.loop-text.invariant.2 c.in_err-take_line.ensures.taken)
+
+pub returns : goal.returns
+returns c =
+    let lines : List (List ℕ) = c.args.lines.now in
+    let read : List Line = c.loop-text.reading.lines.items in
+    let count : c.len-in-loop-text.result ≡ length read = search rules in
+    let none = at_next lines c.len-in-loop-text.result (length read) None count c.in_default.ensures in
+    (sym (ap (read_behind read) (sym (drop_none lines (length read) none)) ∙ c.loop-text.invariant.2), c.loop-text.invariant.1.index)

@@ -1,0 +1,35 @@
+use Rattle.std.proofs.Common.{◌≡◌, ℕ, List, Result, Ok, Err, None, true, false, if◌then◌else◌, ◌∙◌, sym, ap, subst}
+use Rattle.std.specs.Result.{result_ok}
+use Rattle.sudoers_text.specs.Whole.{is_logical_line}
+use Rattle.sudoers_line.specs.declared.fault.LineFault.{LineFault}
+use Rattle.sudoers_line.specs.declared.fault.LineFault.TheVariants.{Syntax}
+use Rattle.sudoers_line.specs.declared.node.Node.{Node}
+use Rattle.sudoers_line.specs.Line.{Gives}
+use Rattle.sudoers_line.specs.Outcome.{outcome_of, LineGives}
+use Rattle.sudoers_tree.specs.Single.{said}
+use Rattle.sudoers_tree.proofs.single.read_line.Goals as goal
+
+-- bytes that are no line say nothing
+said_none : (text : List ℕ) → false ≡ is_logical_line text → None ≡ said text
+unfolding said
+said_none text e = ap (λ t. if t then result_ok (outcome_of text) else None) e
+
+-- a line says what its outcome is
+said_is : (text : List ℕ) (outcome : Result Node LineFault) → true ≡ is_logical_line text → outcome_of text ≡ outcome → result_ok outcome ≡ said text
+unfolding said
+said_is text outcome e is = ap result_ok (sym is) ∙ ap (λ t. if t then result_ok (outcome_of text) else None) e
+
+pub returns-then-not-is_logical_line-clause-said : goal.returns-then-not-is_logical_line-clause-said
+returns-then-not-is_logical_line-clause-said c = said_none c.args.text.now c.if-not-is_logical_line.ensures
+
+pub returns-in-Ok-clause-said : goal.returns-in-Ok-clause-said
+returns-in-Ok-clause-said c = said_is c.args.text.now (Ok c.in-Ok.node) c.if-not-is_logical_line.ensures c.in-Ok.ensures.outcome
+
+pub returns-in-Err-Syntax-clause-line : goal.returns-in-Err-Syntax-clause-line
+returns-in-Err-Syntax-clause-line c = λ says line reads.
+    subst (λ fault. Gives (Err fault) says) c.in-Err-Syntax.field-0-is (c.in-Err-Syntax.ensures.only says reads)
+
+pub returns-in-Err-Syntax-clause-said : goal.returns-in-Err-Syntax-clause-said
+returns-in-Err-Syntax-clause-said c =
+    said_is c.args.text.now (Err (Syntax c.in-Err-Syntax.field-0-0 c.in-Err-Syntax.field-0-1)) c.if-not-is_logical_line.ensures
+    (subst (λ fault. LineGives (Err fault) (outcome_of c.args.text.now)) c.in-Err-Syntax.field-0-is c.in-Err-Syntax.ensures.outcome)

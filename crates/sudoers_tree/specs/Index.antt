@@ -1,0 +1,103 @@
+-- A device of the proof, which no public contract cites: the index of names.
+use Rattle.std.specs.Prelude.{◌≡◌, ℕ, ◌+◌, List, [], ◌∷◌, ◌++◌, length, nat_le, Option, Some, None, Result, Ok, Err, if◌then◌else◌}
+use Rattle.std.specs.Str.{bytes_eq}
+use Rattle.sudoers_text.specs.Line.{join}
+use Rattle.sudoers_text.specs.Word.{is_reserved}
+use Rattle.sudoers_line.specs.declared.node.Kind.{Kind}
+use Rattle.sudoers_line.specs.declared.node.Kind.TheVariants.{User, Runas, Host, Cmnd}
+use Rattle.sudoers_line.specs.declared.node.Def.{Def}
+use Rattle.sudoers_tree.specs.declared.line.Line.{Line}
+use Rattle.sudoers_tree.specs.declared.place.Place.{Place}
+use Rattle.sudoers_tree.specs.declared.index.Index.{Index}
+use Rattle.sudoers_tree.specs.declared.reading.Reading.{Reading}
+use Rattle.sudoers_tree.specs.declared.fault.ReadFault.{ReadFault}
+use Rattle.sudoers_tree.specs.declared.fault.ReadFault.TheVariants.{Text, Syntax, Reserved, Duplicate, TooMany, NoMemory}
+use Rattle.sudoers_tree.specs.Physical.{row_behind}
+use Rattle.sudoers_tree.specs.Definition.{Definition, definitions, is_kind}
+use Rattle.sudoers_tree.specs.Policy.{alias_limit, texts}
+use Rattle.sudoers_tree.specs.Fault.{is_some}
+use Rattle.sudoers_tree.specs.Reading.{first_name_fault}
+
+-- the value of the first entry with this name
+abbrev pub named : List ℕ → List (List ℕ × Place) → Option Place
+named name [] = None
+named name (e ∷ es) = if bytes_eq name e.0 then Some e.1 else named name es
+
+-- the names of the definitions of a kind, with their places
+abbrev pub entries : Kind → List Definition → List (List ℕ × Place)
+entries k [] = []
+entries k (d ∷ ds) = if is_kind k d.kind then (d.def.name, d.place) ∷ entries k ds else entries k ds
+
+-- the names of this kind
+abbrev pub names_of : Kind → Index → List (List ℕ × Place)
+names_of User index = index.user
+names_of Runas index = index.runas
+names_of Host index = index.host
+names_of Cmnd index = index.cmnd
+
+-- The index has the names of these definitions.
+abbrev pub Indexes : Index → List Definition → Type 0
+Indexes index ds = (k : Kind) → names_of k index ≡ entries k ds
+
+-- why a name cannot be entered behind these
+abbrev pub entry_fault : Kind → List (List ℕ × Place) → List ℕ → Option ReadFault
+entry_fault k es name =
+    if is_reserved name then Some (Reserved k name)
+    else (if is_some (named name es) then Some (Duplicate k name)
+    else (if nat_le alias_limit (length es) then Some (TooMany k) else None))
+
+abbrev pub unless : Option ReadFault → Result (List (List ℕ × Place)) ReadFault → Result (List (List ℕ × Place)) ReadFault
+unless None next = next
+unless (Some fault) next = Err fault
+
+-- the names with those of a line's definitions from this one on, or why the first that cannot be entered cannot
+abbrev pub entered : Kind → ℕ → ℕ → List (List ℕ × Place) → List Def → Result (List (List ℕ × Place)) ReadFault
+entered k line n es [] = Ok es
+entered k line n es (d ∷ ds) =
+    unless (entry_fault k es d.name)
+    (entered k line (n + 1) (es ++ (d.name, record { line = line; def = n }) ∷ []) ds)
+
+-- what a change told, and what it came to
+abbrev pub Comes : {X : Type 0} → Result (Unit {0}) ReadFault → X → Result X ReadFault → Type 0
+Comes (Ok u) new wanted = wanted ≡ Ok new
+Comes (Err (Text fault)) new wanted = wanted ≡ Err (Text fault)
+Comes (Err (Syntax row col why)) new wanted = wanted ≡ Err (Syntax row col why)
+Comes (Err (Reserved k name)) new wanted = wanted ≡ Err (Reserved k name)
+Comes (Err (Duplicate k name)) new wanted = wanted ≡ Err (Duplicate k name)
+Comes (Err (TooMany k)) new wanted = wanted ≡ Err (TooMany k)
+Comes (Err NoMemory) new wanted = Unit {0}
+
+-- what came of entering these definitions behind the others
+abbrev pub Enters : Result (Unit {0}) ReadFault → Index → List Definition → List Definition → Type 0
+Enters (Ok u) index before ds = Indexes index (before ++ ds) × (first_name_fault before ds ≡ None)
+Enters (Err (Text fault)) index before ds = first_name_fault before ds ≡ Some (Text fault)
+Enters (Err (Syntax row col why)) index before ds = first_name_fault before ds ≡ Some (Syntax row col why)
+Enters (Err (Reserved k name)) index before ds = first_name_fault before ds ≡ Some (Reserved k name)
+Enters (Err (Duplicate k name)) index before ds = first_name_fault before ds ≡ Some (Duplicate k name)
+Enters (Err (TooMany k)) index before ds = first_name_fault before ds ≡ Some (TooMany k)
+Enters (Err NoMemory) index before ds = Unit {0}
+
+-- what came of a line behind these
+abbrev pub Takes : Result (Unit {0}) ReadFault → List Line → List Line → Result Line ReadFault → Type 0
+Takes (Ok u) old new wanted = (line : Line) × (wanted ≡ Ok line) × (new ≡ old ++ line ∷ [])
+Takes (Err (Text fault)) old new wanted = wanted ≡ Err (Text fault)
+Takes (Err (Syntax row col why)) old new wanted = wanted ≡ Err (Syntax row col why)
+Takes (Err (Reserved k name)) old new wanted = wanted ≡ Err (Reserved k name)
+Takes (Err (Duplicate k name)) old new wanted = wanted ≡ Err (Duplicate k name)
+Takes (Err (TooMany k)) old new wanted = wanted ≡ Err (TooMany k)
+Takes (Err NoMemory) old new wanted = Unit {0}
+
+-- the lines that are read, with their names, or the first fault
+abbrev pub ReadsAll : Result Reading ReadFault → Result (List Line) ReadFault → Type 0
+ReadsAll (Ok reading) wanted = (wanted ≡ Ok reading.lines.items) × Indexes reading.index (definitions reading.lines.items)
+ReadsAll (Err (Text fault)) wanted = wanted ≡ Err (Text fault)
+ReadsAll (Err (Syntax row col why)) wanted = wanted ≡ Err (Syntax row col why)
+ReadsAll (Err (Reserved k name)) wanted = wanted ≡ Err (Reserved k name)
+ReadsAll (Err (Duplicate k name)) wanted = wanted ≡ Err (Duplicate k name)
+ReadsAll (Err (TooMany k)) wanted = wanted ≡ Err (TooMany k)
+ReadsAll (Err NoMemory) wanted = Unit {0}
+
+-- What is kept while lines are read: the names of their definitions, and the physical line behind them.
+pub record IsReading (reading : Reading) : Type 0 where
+  pub index : Indexes reading.index (definitions reading.lines.items)
+  pub row : reading.row ≡ row_behind (join (texts reading.lines.items))

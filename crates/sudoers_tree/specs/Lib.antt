@@ -1,0 +1,10 @@
+pub mod Physical
+pub mod Kind
+pub mod Wrapped
+pub mod Definition
+pub mod Mention
+pub mod Policy
+pub mod Fault
+pub mod Reading
+pub mod Single
+pub mod Index

@@ -1,0 +1,60 @@
+//! Why a text is no policy.
+
+ghost use Rattle.std.specs.Prelude.{◌≡◌};
+ghost use Rattle.sudoers_tree.specs.declared.fault.ReadFault.TheVariants.{NoMemory};
+ghost use Rattle.sudoers_tree.specs.Wrapped.{fault_of_text};
+
+use std::alloc::{AllocError, AllocFailed};
+use sudoers_line::{Items, Kind, Why};
+use sudoers_text::TextFault;
+use thiserror::Error;
+
+/// Why a text is no policy: the fault of its cut into lines, or else the first fault of the first line that has one.
+#[derive(Debug, Drop, Error)]
+pub enum ReadFault {
+    /// The text cannot be cut into lines. Want of memory is [`ReadFault::NoMemory`].
+    #[error("{0}")]
+    Text(TextFault),
+    /// A line says nothing: on this physical line and at this byte of it, both from 1, its first fault stands.
+    #[error("syntax error at {line}:{col}")]
+    Syntax { line: usize, col: usize, why: Why },
+    /// A reserved word is defined as an alias.
+    #[error("a reserved word is defined")]
+    Reserved { kind: Kind, name: Items<u8> },
+    /// A name is defined twice in a kind.
+    #[error("a name is defined twice")]
+    Duplicate { kind: Kind, name: Items<u8> },
+    /// There are more than 4,096 definitions of a kind.
+    #[error("too many aliases of a kind")]
+    TooMany { kind: Kind },
+    /// A growth of memory was refused.
+    #[error("out of memory")]
+    NoMemory,
+}
+
+impl From<AllocError> for ReadFault {
+    ghost from_gives = { λ _ e. e ≡ NoMemory };
+
+    fn from(_error: AllocError) -> ReadFault {
+        ReadFault::NoMemory
+    }
+}
+
+impl<T: Drop> From<AllocFailed<T>> for ReadFault {
+    ghost from_gives = { λ _ e. e ≡ NoMemory };
+
+    fn from(_error: AllocFailed<T>) -> ReadFault {
+        ReadFault::NoMemory
+    }
+}
+
+impl From<TextFault> for ReadFault {
+    ghost from_gives = { λ fault e. e ≡ fault_of_text fault };
+
+    fn from(fault: TextFault) -> ReadFault {
+        match fault {
+            TextFault::NoMemory => ReadFault::NoMemory,
+            _ => ReadFault::Text(fault),
+        }
+    }
+}

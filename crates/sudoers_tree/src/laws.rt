@@ -1,0 +1,41 @@
+//! Laws of policies. Each is the contract of a function that does nothing.
+
+ghost use Rattle.std.specs.Prelude.{◌≡◌, ℕ, List, Result, Ok};
+ghost use Rattle.sudoers_text.specs.Cut.{cut_of};
+ghost use Rattle.sudoers_tree.specs.declared.line.Line.{Line as LineOf};
+ghost use Rattle.sudoers_tree.specs.declared.fault.ReadFault.{ReadFault as FaultOf};
+ghost use Rattle.sudoers_tree.specs.Policy.{texts};
+ghost use Rattle.sudoers_tree.specs.Reading.{read_of, IsOutcome};
+
+use sudoers_line::{no_fault, one_fault, one_reading, outcome_is};
+use sudoers_text::{cut_is, one_outcome as one_cut};
+
+/// A text has an outcome: the policy that it is, or its first fault.
+pub fn read_is()
+    ensures { (text : List ℕ) → IsOutcome text (read_of text) }
+{
+    cut_is();
+    outcome_is();
+}
+
+/// A text has one outcome only.
+pub fn one_outcome()
+    ensures { (text : List ℕ) (outcome other : Result (List LineOf) FaultOf) → IsOutcome text outcome
+        → IsOutcome text other → outcome ≡ other }
+{
+    cut_is();
+    one_cut();
+    outcome_is();
+    one_reading();
+    no_fault();
+    one_fault();
+}
+
+/// The lines of the policy that a text is are those of its cut.
+pub fn policy_is_cut()
+    ensures { (text : List ℕ) (lines : List LineOf) → read_of text ≡ Ok lines → cut_of text ≡ Ok (texts lines) }
+{
+    read_is();
+    cut_is();
+    one_cut();
+}

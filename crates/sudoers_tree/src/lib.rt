@@ -1,0 +1,25 @@
+//! A sudoers policy: its lines with what they say, and the definitions and mentions of its aliases.
+#![tactic(auto)]
+
+mod fault;
+mod index;
+mod kind;
+mod laws;
+mod line;
+mod mention;
+mod names;
+mod place;
+mod policy;
+mod position;
+mod reading;
+mod single;
+
+pub use fault::ReadFault;
+pub use index::ALIAS_LIMIT;
+pub use kind::LineKind;
+pub use laws::{one_outcome, policy_is_cut, read_is};
+pub use line::Line;
+pub use place::{Place, Span};
+pub use policy::Policy;
+pub use position::lf_count;
+pub use single::read_line;

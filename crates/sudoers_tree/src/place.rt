@@ -1,0 +1,16 @@
+//! Places in a policy.
+
+/// A definition: its line, and which it is in that line, both from 0.
+#[derive(Clone, Copy, Debug, PartialEq, Eq)]
+pub struct Place {
+    pub line: usize,
+    pub def: usize,
+}
+
+/// A part of a line: the line, from 0, and the bytes of it from `start` up to `stop`, from 0.
+#[derive(Clone, Copy, Debug, PartialEq, Eq)]
+pub struct Span {
+    pub line: usize,
+    pub start: usize,
+    pub stop: usize,
+}

@@ -1,0 +1,172 @@
+//! Policies.
+
+ghost use Rattle.std.specs.Prelude.{◌≡◌, ◌++◌, ◌⊎◌, List, ℕ, length, slice_get, Option, None, IfOk, IfErr, OnOk};
+ghost use Rattle.std.specs.Option.{option_map, option_copied};
+ghost use Rattle.sudoers_text.specs.Line.{join};
+ghost use Rattle.sudoers_text.specs.Fault.{text_limit};
+ghost use Rattle.sudoers_line.specs.declared.node.Kind.{Kind as KindOf};
+ghost use Rattle.sudoers_tree.specs.declared.line.Line.{Line as LineOf};
+ghost use Rattle.sudoers_tree.specs.Kind.{line_kind};
+ghost use Rattle.sudoers_tree.specs.Definition.{place_of, members_of};
+ghost use Rattle.sudoers_tree.specs.Mention.{mentions};
+ghost use Rattle.sudoers_tree.specs.Policy.{IsPolicy, texts};
+ghost use Rattle.sudoers_tree.specs.Fault.{IsFaultOf};
+ghost use Rattle.sudoers_tree.specs.Reading.{read_of, ReadGives};
+
+use crate::fault::ReadFault;
+use crate::index::Index;
+use crate::kind::LineKind;
+use crate::laws::read_is;
+use crate::line::Line;
+use crate::mention::Sought;
+use crate::place::{Place, Span};
+use crate::reading::read_lines;
+use std::alloc::{AllocError, Global};
+use std::marker::Model;
+use sudoers_line::{Kind, Member, Node};
+use sudoers_text::cut;
+
+/// A sudoers policy. Contracts see the list of its lines with what they say.
+#[derive(Drop)]
+pub struct Policy {
+    lines: Vec<Line>,
+    index: Index,
+    size: usize,
+    alloc: Global,
+}
+
+impl Model for Policy {
+    ghost use Rattle.std.specs.Prelude.{◌≡◌, List, length, Ok};
+    ghost use Rattle.sudoers_text.specs.Line.{join};
+    ghost use Rattle.sudoers_tree.specs.declared.line.Line.{Line};
+    ghost use Rattle.sudoers_tree.specs.Definition.{definitions};
+    ghost use Rattle.sudoers_tree.specs.Policy.{texts};
+    ghost use Rattle.sudoers_tree.specs.Reading.{read_of};
+    ghost use Rattle.sudoers_tree.specs.Index.{Indexes};
+
+    ghost Value = { List Line };
+
+    ghost view = { λ policy. policy.lines.items };
+
+    ghost invariant = { λ policy. (read_of (join (texts policy.lines.items)) ≡ Ok policy.lines.items)
+        × Indexes policy.index (definitions policy.lines.items)
+        × (policy.size ≡ length (join (texts policy.lines.items))) };
+}
+
+impl Policy {
+    /// The policy that a text is (sudoers(5), SUDOERS FILE FORMAT).
+    ///
+    /// # Errors
+    ///
+    /// [`ReadFault`]: what is wrong with the text's cut into lines; else the first line with a fault: that it says nothing, or
+    /// the first of its definitions that cannot stand, as its name is reserved, defined already, or one too many.
+    pub fn read(alloc: Global, text: &[u8]) -> Result<Policy, ReadFault>
+        // What is given is a policy, and the text is its lines joined.
+        ensures policy { IfOk result (λ lines. IsPolicy lines × (join (texts lines) ≡ text.now)) }
+        // A fault is the text's first, or memory ran out.
+        ensures fault { IfErr result (λ fault. (fault ≡ ReadFault.NoMemory) ⊎ IsFaultOf text.now fault) }
+        // In one word: the text's outcome, of which there is exactly one.
+        ensures outcome { ReadGives result (read_of text.now) }
+    {
+        read_is();
+        let lines = cut(alloc, text)?;
+        let reading = read_lines(alloc, &lines)?;
+        Ok(Policy {
+            lines: reading.lines,
+            index: reading.index,
+            size: text.len(),
+            alloc,
+        })
+    }
+
+    /// A law: the lines are a policy, and are those of their text.
+    pub fn is_policy(&self)
+        ensures policy { IsPolicy self.now }
+        ensures read { read_of (join (texts self.now)) ≡ Ok self.now }
+    {
+        read_is();
+        let _ = &self.lines;
+    }
+
+    /// The text, byte for byte.
+    ///
+    /// # Errors
+    ///
+    /// Want of memory alone.
+    pub fn text(&self) -> Result<Vec<u8>, AllocError>
+        ensures { IfOk result (λ text. text.items ≡ join (texts self.now)) }
+    {
+        let mut text = Vec::with_capacity(self.alloc, self.size)?;
+        for line in &self.lines {
+            text.extend_from_slice(line.text.as_slice())?;
+        }
+        Ok(text)
+    }
+
+    /// How many lines there are.
+    pub fn len(&self) -> usize
+        ensures { result ≡ length self.now }
+    {
+        self.lines.len()
+    }
+
+    /// The allocator of its lines.
+    pub fn allocator(&self) -> Global {
+        self.alloc
+    }
+
+    /// The text of a line, its line end included. Lines count from 0; none stands past the last.
+    pub fn line(&self, i: usize) -> Option<&[u8]>
+        ensures { option_copied result ≡ option_map (λ (line : LineOf). line.text) (slice_get self.now i) }
+    {
+        Some(self.lines.get(i)?.text.as_slice())
+    }
+
+    /// The kind of a line.
+    pub fn line_kind(&self, i: usize) -> Option<LineKind>
+        ensures { result ≡ option_map (λ (line : LineOf). line_kind line.node) (slice_get self.now i) }
+    {
+        Some(LineKind::of(self.node(i)?))
+    }
+
+    /// What a line says.
+    pub fn node(&self, i: usize) -> Option<&Node>
+        ensures { option_copied result ≡ option_map (λ (line : LineOf). line.node) (slice_get self.now i) }
+    {
+        Some(&self.lines.get(i)?.node)
+    }
+
+    /// Where the name is defined as an alias of this kind.
+    pub fn definition(&self, kind: Kind, name: &[u8]) -> Option<Place>
+        ensures { result ≡ place_of kind name.now self.now }
+    {
+        self.index.of(kind).get(name)
+    }
+
+    /// The members of the alias.
+    pub fn members(&self, kind: Kind, name: &[u8]) -> Option<&[Member]>
+        ensures { option_copied result ≡ members_of kind name.now self.now }
+    {
+        let place = self.definition(kind, name)?;
+        let Node::Alias { defs, .. } = self.node(place.line)? else {
+            return None;
+        };
+        Some(defs.as_slice().get(place.def)?.members.as_slice())
+    }
+
+    /// Where the name stands as a member of a list of this kind, in file order.
+    ///
+    /// # Errors
+    ///
+    /// Want of memory alone.
+    pub fn mentions(&self, kind: Kind, name: &[u8]) -> Result<Vec<Span>, AllocError>
+        ensures { IfOk result (λ spans. spans.items ≡ mentions kind name.now self.now) }
+    {
+        let mut spans = Vec::new(self.alloc);
+        for (number, line) in self.lines.iter().enumerate() {
+            let sought = Sought { name, line: number };
+            sought.in_line(kind, &line.node, &mut spans)?;
+        }
+        Ok(spans)
+    }
+}

@@ -1,0 +1,25 @@
+//! Where bytes stand in physical lines.
+
+ghost use Rattle.std.specs.Prelude.{◌≡◌, ◌≤◌, ◌+◌, ◌-◌, length};
+ghost use Rattle.sudoers_text.specs.Fault.{lf_count};
+ghost use Rattle.sudoers_tree.specs.Physical.{column_behind};
+
+use memchr::memrchr;
+
+/// How many LF there are.
+pub fn lf_count(bytes: &[u8]) -> usize
+    ensures count { result ≡ lf_count bytes.now }
+    ensures within { result ≤ length bytes.now }
+{
+    bytes.iter().filter(|byte| **byte == b'\n').count()
+}
+
+/// The column of the byte behind these, from 1.
+pub fn column_behind(bytes: &[u8]) -> usize
+    ensures { result ≡ column_behind bytes.now }
+{
+    match memrchr(b'\n', bytes) {
+        Some(at) => bytes.len() - at,
+        None => bytes.len() + 1,
+    }
+}
