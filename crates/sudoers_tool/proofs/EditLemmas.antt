@@ -1,5 +1,5 @@
 -- What an edit leaves of the lines, and that its inverse gives them back.
-use Rattle.std.proofs.Common.{◌≡◌, ℕ, zero, suc, ◌+◌, ◌-◌, ◌<◌, ◌≤◌, Bool, true, false, not, ◌||◌, List, [], ◌∷◌, ◌++◌, length, insert, remove, slice_index_or, reverse, Option, Some, Ok, Err, refl, sym, ap, subst, ◌∙◌, arith, length-append, unwrap_or}
+use Rattle.std.proofs.Common.{◌≡◌, ℕ, zero, suc, ◌-◌, ◌<◌, ◌≤◌, Bool, true, false, not, ◌||◌, List, [], ◌∷◌, ◌++◌, length, insert, remove, slice_index_or, reverse, Option, Some, Result, Ok, refl, sym, ap, subst, ◌∙◌, arith, unwrap_or}
 use Rattle.std.proofs.lemmas.Bool.{le-ltb, lt-ltb, or_parts as or_false}
 use Rattle.std.proofs.lemmas.List.{reverse-append}
 use Rattle.sudoers_text.specs.Line.{join}
@@ -7,9 +7,13 @@ use Rattle.sudoers_text.specs.Ended.{has_unended_inside, ends_in_lf}
 use Rattle.sudoers_text.specs.Cut.{StandAlone}
 use Rattle.sudoers_tool.specs.declared.edit.Edit.{Edit}
 use Rattle.sudoers_tool.specs.declared.edit.Edit.TheVariants.{Insert, Delete}
-use Rattle.sudoers_tool.specs.declared.edit.EditFault.TheVariants.{TooLarge}
-use Rattle.sudoers_tool.specs.Editing.{lines_or_refusal, step, inv, run, IsUndoable, first_lines}
+use Rattle.sudoers_tool.specs.declared.edit.EditFault.{EditFault}
+use Rattle.sudoers_tool.specs.declared.edit.EditFault.TheVariants.{NoLine, NotOneLine, OpenLine, TooLarge, NotPolicy, NoMemory}
+use Rattle.sudoers_tool.specs.Editing.{lines_or_refusal, policy_or_refusal, where_policy, Refuses, step, inv, run, IsUndoable, first_lines}
+use Rattle.sudoers_tree.specs.declared.line.Line.{Line}
 use Rattle.sudoers_tool.specs.OneLine.{is_one_line, IsAlone, IsSound}
+use Rattle.sudoers_tree.specs.Policy.{texts}
+use Rattle.sudoers_tool.specs.Leading.{Leads}
 use Rattle.sudoers_tool.specs.declared.editor.Entry.{Entry}
 
 or-false : (x : Bool) → (x || false) ≡ x
@@ -71,16 +75,6 @@ each_at [] at l each = absurd (omega arith)
 each_at (k ∷ ks) zero l each = each.0
 each_at (k ∷ ks) (suc n) l each = each_at ks n (omega arith) each.1
 
-pub size_insert : (ls : List (List ℕ)) (at : ℕ) (t : List ℕ) → length (join (insert ls at t)) ≡ length (join ls) + length t
-size_insert ls zero t = omega (arith, length-append t (join ls))
-size_insert [] (suc n) t = omega (arith, length-append t [])
-size_insert (k ∷ ks) (suc n) t = omega (arith, length-append k (join (insert ks n t)), length-append k (join ks), size_insert ks n t)
-
-pub size_remove : (ls : List (List ℕ)) (at : ℕ) (d : List ℕ) → at < length ls → length (join (remove ls at)) + length (slice_index_or ls at d) ≡ length (join ls)
-size_remove [] at d l = absurd (omega arith)
-size_remove (k ∷ ks) zero d l = omega (arith, length-append k (join ks))
-size_remove (k ∷ ks) (suc n) d l = omega (arith, length-append k (join (remove ks n)), length-append k (join ks), size_remove ks n d (omega arith))
-
 pub remove-insert : (ls : List (List ℕ)) (at : ℕ) (t : List ℕ) → at ≤ length ls → remove (insert ls at t) at ≡ ls
 remove-insert ls zero t l = refl
 remove-insert [] (suc n) t l = absurd (omega arith)
@@ -108,47 +102,43 @@ is_one t alone = rw alone refl
 
 -- STEPS
 
-checked_ok : (ls : List (List ℕ)) → has_unended_inside ls ≡ false → length (join ls) ≤ 1048576 → lines_or_refusal ls ≡ Ok ls
-checked_ok ls h l = rw (h, le-ltb 1048576 (length (join ls)) l) refl
+-- the lines of a policy are no refusal
+pub settled : (ls : List (List ℕ)) → IsSound ls → lines_or_refusal ls ≡ Ok ls
+settled ls sound = rw (sound.ended, le-ltb 1048576 (length (join ls)) sound.fits, sound.read) refl
 
-pub step_insert : (ls : List (List ℕ)) (at : ℕ) (t : List ℕ) → at ≤ length ls → is_one_line t ≡ true → has_unended_inside (insert ls at t) ≡ false → length (join ls) + length t ≤ 1048576 → step (Insert at t) ls ≡ Ok (insert ls at t)
-step_insert ls at t l one closed fits =
-    rw (le-ltb (length ls) at l, one) (checked_ok (insert ls at t) closed (omega (arith, size_insert ls at t)))
+pub step_insert : (ls : List (List ℕ)) (at : ℕ) (t : List ℕ) → at ≤ length ls → is_one_line t ≡ true → step (Insert at t) ls ≡ lines_or_refusal (insert ls at t)
+step_insert ls at t l one = rw (le-ltb (length ls) at l, one) refl
 
-pub step_delete : (ls : List (List ℕ)) (at : ℕ) → IsSound ls → at < length ls → step (Delete at) ls ≡ Ok (remove ls at)
-step_delete ls at policy l =
-    rw (lt-ltb at (length ls) l) (checked_ok (remove ls at) (open_remove ls at policy.ended) (omega (arith, policy.fits, size_remove ls at [] l)))
+pub step_delete : (ls : List (List ℕ)) (at : ℕ) → at < length ls → step (Delete at) ls ≡ lines_or_refusal (remove ls at)
+step_delete ls at l = rw (lt-ltb at (length ls) l) refl
 
-pub policy_insert : (ls : List (List ℕ)) (at : ℕ) (t : List ℕ) → IsSound ls → IsAlone t → has_unended_inside (insert ls at t) ≡ false → length (join ls) + length t ≤ 1048576 → IsSound (insert ls at t)
-policy_insert ls at t policy is closed fits = record {
-  each = each_insert ls at t policy.each is;
-  ended = closed;
-  fits = omega (arith, size_insert ls at t);
-}
+-- lines of which only the last may lack LF go by what their text is read as
+pub by_text : (ls : List (List ℕ)) → has_unended_inside ls ≡ false → lines_or_refusal ls ≡ where_policy ls (policy_or_refusal (join ls))
+by_text ls ended = rw ended refl
 
-pub policy_remove : (ls : List (List ℕ)) (at : ℕ) → IsSound ls → at < length ls → IsSound (remove ls at)
-policy_remove ls at policy l = record {
-  each = each_remove ls at policy.each;
-  ended = open_remove ls at policy.ended;
-  fits = omega (arith, policy.fits, size_remove ls at [] l);
-}
+pub refuses_lines : (f : EditFault) (ls : List (List ℕ)) (r : Result (List Line) EditFault) → Refuses f r → Refuses f (where_policy ls r)
+refuses_lines NoLine ls r is = ap (where_policy ls) is
+refuses_lines NotOneLine ls r is = ap (where_policy ls) is
+refuses_lines OpenLine ls r is = ap (where_policy ls) is
+refuses_lines TooLarge ls r is = ap (where_policy ls) is
+refuses_lines (NotPolicy fault) ls r is = ap (where_policy ls) is
+refuses_lines NoMemory ls r is = tt
 
 -- one step as a run
 run_one : (e : Edit) (ls new : List (List ℕ)) → step e ls ≡ Ok new → run (e ∷ []) ls ≡ Some new
 run_one e ls new h = rw h refl
 
-pub back_insert : (ls : List (List ℕ)) (at : ℕ) (t : List ℕ) → IsSound (insert ls at t) → at ≤ length ls → run (Delete at ∷ []) (insert ls at t) ≡ Some ls
-back_insert ls at t policy l =
-    run_one (Delete at) (insert ls at t) ls (step_delete (insert ls at t) at policy (omega (arith, length_insert ls at t l)) ∙ ap (λ z. Ok z) (remove-insert ls at t l))
+pub back_insert : (ls : List (List ℕ)) (at : ℕ) (t : List ℕ) → IsSound ls → at ≤ length ls → run (Delete at ∷ []) (insert ls at t) ≡ Some ls
+back_insert ls at t sound l =
+    run_one (Delete at) (insert ls at t) ls
+    (step_delete (insert ls at t) at (omega (arith, length_insert ls at t l)) ∙ ap lines_or_refusal (remove-insert ls at t l) ∙ settled ls sound)
 
 pub back_delete : (ls : List (List ℕ)) (at : ℕ) → IsSound ls → at < length ls → run (Insert at (slice_index_or ls at []) ∷ []) (remove ls at) ≡ Some ls
-back_delete ls at policy l =
+back_delete ls at sound l =
     let t : List ℕ = slice_index_or ls at [] in
-    let whole : insert (remove ls at) at t ≡ ls = insert-remove ls at [] l in
-    let sizes : length (join (remove ls at)) + length t ≡ length (join ls) = size_remove ls at [] l in
     run_one (Insert at t) (remove ls at) ls
-    (step_insert (remove ls at) at t (omega (arith, length_remove ls at l)) (is_one t (each_at ls at l policy.each)) (rw whole policy.ended) (omega (arith, policy.fits))
-    ∙ ap (λ z. Ok z) whole)
+    (step_insert (remove ls at) at t (omega (arith, length_remove ls at l)) (is_one t (each_at ls at l sound.each))
+    ∙ ap lines_or_refusal (insert-remove ls at [] l) ∙ settled ls sound)
 
 -- JOURNALS
 
@@ -176,25 +166,6 @@ left_by e ls new journal later forth back undoable later_is =
       begun = ap (λ (entries : List Entry). first_lines entries new) same ∙ begins_same (record { edit = e; inverse = inv e ls }) (reverse journal) ls new back;
     }
 
-abbrev pub Inserted : (ls new : List (List ℕ)) (journal later : List Entry) (at : ℕ) (t : List ℕ) → Type 0
-Inserted ls new journal later at t = Leaves (Insert at t) (Delete at ∷ []) ls new journal later
-
-pub inserted : (ls new : List (List ℕ)) (journal later : List Entry) (at : ℕ) (t : List ℕ) → IsSound ls → IsUndoable (reverse journal) ls → at ≤ length ls → IsAlone t → has_unended_inside (insert ls at t) ≡ false → length (join ls) + length t ≤ 1048576 → new ≡ insert ls at t → later ≡ journal ++ record { edit = Insert at t; inverse = Delete at ∷ [] } ∷ [] → Inserted ls new journal later at t
-inserted ls new journal later at t sound undoable l alone closed fits is later_is =
-    let forth : step (Insert at t) ls ≡ Ok (insert ls at t) = step_insert ls at t l (is_one t alone) closed fits in
-    let whole : IsSound (insert ls at t) = policy_insert ls at t sound alone closed fits in
-    left_by (Insert at t) ls new journal later (forth ∙ ap (λ z. Ok z) (sym is))
-    (ap (λ z. run (Delete at ∷ []) z) is ∙ back_insert ls at t whole l) undoable later_is
-
-abbrev pub Deleted : (ls new : List (List ℕ)) (journal later : List Entry) (at : ℕ) → Type 0
-Deleted ls new journal later at = Leaves (Delete at) (Insert at (slice_index_or ls at []) ∷ []) ls new journal later
-
-pub deleted : (ls new : List (List ℕ)) (journal later : List Entry) (at : ℕ) → IsSound ls → IsUndoable (reverse journal) ls → at < length ls → new ≡ remove ls at → later ≡ journal ++ record { edit = Delete at; inverse = Insert at (slice_index_or ls at []) ∷ [] } ∷ [] → Deleted ls new journal later at
-deleted ls new journal later at sound undoable l is later_is =
-    let forth : step (Delete at) ls ≡ Ok (remove ls at) = step_delete ls at sound l in
-    left_by (Delete at) ls new journal later (forth ∙ ap (λ z. Ok z) (sym is))
-    (ap (λ z. run (Insert at (slice_index_or ls at []) ∷ []) z) is ∙ back_delete ls at sound l) undoable later_is
-
 -- the last line, as the code reads it
 pub last_decides : (ls : List (List ℕ)) (at : ℕ) (t x : List ℕ) → at ≡ length ls → 0 < at → slice_index_or ls (at - 1) x ≡ x → has_unended_inside ls ≡ false → not (ends_in_lf x) ≡ has_unended_inside (insert ls at t)
 last_decides ls zero t x l some is h = absurd (omega arith)
@@ -202,8 +173,53 @@ last_decides ls (suc n) t x l some is h =
     let e : suc n - 1 ≡ n = omega arith in
     ap (λ z. not (ends_in_lf z)) (sym is ∙ ap (λ k. slice_index_or ls k x) e) ∙ open_insert_end ls n t x (sym l) h
 
--- an insertion past the limit
-pub step_big : (ls : List (List ℕ)) (at : ℕ) (t : List ℕ) → at ≤ length ls → is_one_line t ≡ true → has_unended_inside (insert ls at t) ≡ false → 1048576 < length (join ls) + length t → step (Insert at t) ls ≡ Err TooLarge
-step_big ls at t l one closed big =
-    let over : 1048576 < length (join (insert ls at t)) = omega (arith, size_insert ls at t) in
-    rw (le-ltb (length ls) at l, one, closed, lt-ltb 1048576 (length (join (insert ls at t))) over) refl
+-- WHERE EDITS LEAD
+
+pub insert_leads : (ls : List (List ℕ)) (at : ℕ) (t text : List ℕ) → IsSound ls → at ≤ length ls → is_one_line t ≡ true → IsAlone t
+    → has_unended_inside (insert ls at t) ≡ false → text ≡ join (insert ls at t)
+    → Leads (record { edit = Insert at t; inverse = Delete at ∷ [] }) ls text
+insert_leads ls at t text sound within one alone ended is = record {
+  new = insert ls at t;
+  joined = is;
+  each = each_insert ls at t sound.each alone;
+  ended = ended;
+  forth = step_insert ls at t within one;
+  inverse = refl;
+  back = back_insert ls at t sound within;
+}
+
+pub delete_leads : (ls : List (List ℕ)) (at : ℕ) (text : List ℕ) → IsSound ls → at < length ls → text ≡ join (remove ls at)
+    → Leads (record { edit = Delete at; inverse = Insert at (slice_index_or ls at []) ∷ [] }) ls text
+delete_leads ls at text sound within is = record {
+  new = remove ls at;
+  joined = is;
+  each = each_remove ls at sound.each;
+  ended = open_remove ls at sound.ended;
+  forth = step_delete ls at within;
+  inverse = refl;
+  back = back_delete ls at sound within;
+}
+
+-- What an accepted edit leaves.
+pub settles : (entry : Entry) (ls new : List (List ℕ)) (text : List ℕ) (policy : List Line) (journal later : List Entry) → Leads entry ls text
+    → policy_or_refusal text ≡ Ok policy → ((lines : List (List ℕ)) → StandAlone lines → has_unended_inside lines ≡ false
+    → policy_or_refusal (join lines) ≡ Ok policy → texts policy ≡ lines)
+    → IsUndoable (reverse journal) ls → later ≡ journal ++ entry ∷ [] → new ≡ texts policy
+    → Leaves entry.edit entry.inverse ls new journal later
+settles entry ls new text policy journal later leads read same undoable later_is is =
+    let whole : policy_or_refusal (join leads.new) ≡ Ok policy = ap policy_or_refusal (sym leads.joined) ∙ read in
+    let reached : leads.new ≡ new = sym (same leads.new leads.each leads.ended whole) ∙ sym is in
+    let forth : step entry.edit ls ≡ Ok leads.new = leads.forth ∙ by_text leads.new leads.ended ∙ ap (where_policy leads.new) whole in
+    let entry_is : entry ≡ record { edit = entry.edit; inverse = inv entry.edit ls } = ap (λ i. record { edit = entry.edit; inverse = i }) leads.inverse in
+    let left =
+    left_by entry.edit ls new journal later (forth ∙ ap (λ z. Ok z) reached)
+    (ap (λ i. run i new) (sym leads.inverse) ∙ ap (run entry.inverse) (sym reached) ∙ leads.back) undoable
+    (later_is ∙ ap (λ e. journal ++ e ∷ []) entry_is) in
+    record { forth = left.forth; undoable = left.undoable; begun = left.begun }
+
+-- A refusal of the text is one of the edit.
+pub refused : (entry : Entry) (ls : List (List ℕ)) (text : List ℕ) (f : EditFault) → Leads entry ls text → Refuses f (policy_or_refusal text)
+    → Refuses f (step entry.edit ls)
+refused entry ls text f leads is =
+    subst (λ r. Refuses f r) (sym (leads.forth ∙ by_text leads.new leads.ended))
+    (refuses_lines f leads.new (policy_or_refusal (join leads.new)) (subst (λ t. Refuses f (policy_or_refusal t)) leads.joined is))

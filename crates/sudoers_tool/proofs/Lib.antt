@@ -8,5 +8,6 @@ mod PolicyLemmas
 mod ProgramLemmas
 mod ReadingLemmas
 mod ScriptLemmas
+mod ShowLemmas
 mod SpellingLemmas
 mod WordLemmas

@@ -4,18 +4,33 @@ use Rattle.std.specs.Result.{result_ok, result_unwrap_or}
 use Rattle.sudoers_text.specs.Line.{join}
 use Rattle.sudoers_text.specs.Ended.{has_unended_inside}
 use Rattle.sudoers_text.specs.Fault.{text_limit}
+use Rattle.sudoers_tree.specs.declared.line.Line.{Line}
+use Rattle.sudoers_tree.specs.declared.fault.ReadFault.{ReadFault}
+use Rattle.sudoers_tree.specs.Reading.{read_of}
 use Rattle.sudoers_tool.specs.OneLine.{is_one_line}
 use Rattle.sudoers_tool.specs.declared.edit.Edit.{Edit}
 use Rattle.sudoers_tool.specs.declared.edit.Edit.TheVariants.{Insert, Delete}
 use Rattle.sudoers_tool.specs.declared.edit.EditFault.{EditFault}
-use Rattle.sudoers_tool.specs.declared.edit.EditFault.TheVariants.{NoLine, NotOneLine, OpenLine, TooLarge, NoMemory}
+use Rattle.sudoers_tool.specs.declared.edit.EditFault.TheVariants.{NoLine, NotOneLine, OpenLine, TooLarge, NotPolicy, NoMemory}
 use Rattle.sudoers_tool.specs.declared.editor.Entry.{Entry}
 
--- these lines, if only the last may lack LF and they are within the limit
+abbrev pub by_read : Result (List Line) ReadFault → Result (List Line) EditFault
+by_read (Ok policy) = Ok policy
+by_read (Err fault) = Err (NotPolicy fault)
+
+-- the policy that the text is, if it is within the limit and one
+abbrev pub policy_or_refusal : List ℕ → Result (List Line) EditFault
+policy_or_refusal text = if nat_lt text_limit (length text) then Err TooLarge else by_read (read_of text)
+
+-- these lines, where their text is a policy
+abbrev pub where_policy : List (List ℕ) → Result (List Line) EditFault → Result (List (List ℕ)) EditFault
+where_policy lines (Ok policy) = Ok lines
+where_policy lines (Err fault) = Err fault
+
+-- these lines, if only the last may lack LF, and they are those of a policy
 abbrev pub lines_or_refusal : List (List ℕ) → Result (List (List ℕ)) EditFault
 lines_or_refusal lines =
-    if has_unended_inside lines then Err OpenLine
-    else (if nat_lt text_limit (length (join lines)) then Err TooLarge else Ok lines)
+    if has_unended_inside lines then Err OpenLine else where_policy lines (policy_or_refusal (join lines))
 
 -- the lines after an edit, or the first cause of its refusal
 abbrev pub step : Edit → List (List ℕ) → Result (List (List ℕ)) EditFault
@@ -79,12 +94,13 @@ abbrev pub first_of : Desk → List (List ℕ)
 first_of desk = first_lines (reverse desk.journal) desk.lines
 
 -- a fault that is told: the stated one, or want of memory
-abbrev pub Refuses : EditFault → Result (List (List ℕ)) EditFault → Type 0
+abbrev pub Refuses : {X : Type 0} → EditFault → Result X EditFault → Type 0
 Refuses NoMemory wanted = Unit {0}
 Refuses NoLine wanted = wanted ≡ Err NoLine
 Refuses NotOneLine wanted = wanted ≡ Err NotOneLine
 Refuses OpenLine wanted = wanted ≡ Err OpenLine
 Refuses TooLarge wanted = wanted ≡ Err TooLarge
+Refuses (NotPolicy fault) wanted = wanted ≡ Err (NotPolicy fault)
 
 -- the run stops at this place for this cause, or memory ran out
 abbrev pub StopsAt : ℕ → EditFault → List Edit → List (List ℕ) → Type 0
@@ -93,3 +109,4 @@ StopsAt place NoLine edits lines = run_all 0 edits lines ≡ Err (place, NoLine)
 StopsAt place NotOneLine edits lines = run_all 0 edits lines ≡ Err (place, NotOneLine)
 StopsAt place OpenLine edits lines = run_all 0 edits lines ≡ Err (place, OpenLine)
 StopsAt place TooLarge edits lines = run_all 0 edits lines ≡ Err (place, TooLarge)
+StopsAt place (NotPolicy fault) edits lines = run_all 0 edits lines ≡ Err (place, NotPolicy fault)

@@ -3,6 +3,12 @@ use Rattle.std.specs.Prelude.{ℕ, ◌+◌, List, ◌++◌, codes}
 use Rattle.std.specs.Fmt.{decimal}
 use Rattle.sudoers_text.specs.declared.fault.TextFault.{TextFault}
 use Rattle.sudoers_text.specs.declared.fault.TextFault.TheVariants as text
+use Rattle.sudoers_line.specs.declared.fault.Why.{Why}
+use Rattle.sudoers_line.specs.declared.fault.Why.TheVariants as why
+use Rattle.sudoers_line.specs.declared.node.Kind.{Kind}
+use Rattle.sudoers_line.specs.declared.node.Kind.TheVariants as kind
+use Rattle.sudoers_tree.specs.declared.fault.ReadFault.{ReadFault}
+use Rattle.sudoers_tree.specs.declared.fault.ReadFault.TheVariants as read
 use Rattle.sudoers_tool.specs.declared.edit.EditFault.{EditFault}
 use Rattle.sudoers_tool.specs.declared.edit.EditFault.TheVariants as edit
 use Rattle.sudoers_tool.specs.declared.script.ScriptFault.{ScriptFault}
@@ -20,6 +26,37 @@ text_of_text (text.Nul at) file = file ++ codes ": NUL at byte " ++ decimal at
 text_of_text text.OpenContinuation file = file ++ codes ": OpenContinuation"
 text_of_text text.NoMemory file = codes "NoMemory"
 
+abbrev pub kind_name : Kind → List ℕ
+kind_name kind.User = codes "User_Alias"
+kind_name kind.Runas = codes "Runas_Alias"
+kind_name kind.Host = codes "Host_Alias"
+kind_name kind.Cmnd = codes "Cmnd_Alias"
+
+abbrev pub why_name : Why → List ℕ
+why_name why.UnexpectedByte = codes "UnexpectedByte"
+why_name why.UnexpectedToken = codes "UnexpectedToken"
+why_name why.EndOfLine = codes "EndOfLine"
+why_name why.OpenQuote = codes "OpenQuote"
+why_name why.EmptyName = codes "EmptyName"
+why_name why.BadId = codes "BadId"
+why_name why.BadAddress = codes "BadAddress"
+why_name why.BadStamp = codes "BadStamp"
+why_name why.Regex = codes "Regex"
+
+-- a kind's name in a file
+abbrev pub name_text : List ℕ → Kind → List ℕ → List ℕ
+name_text file k name = file ++ codes ": " ++ kind_name k ++ codes " " ++ name
+
+-- a fault of a policy: its lines and columns count from 1
+abbrev pub text_of_read : ReadFault → List ℕ → List ℕ
+text_of_read (read.Text fault) file = text_of_text fault file
+text_of_read (read.Syntax line col why) file =
+    file ++ codes ":" ++ decimal line ++ codes ":" ++ decimal col ++ codes ": syntax error: " ++ why_name why
+text_of_read (read.Reserved k name) file = name_text file k name ++ codes " reserved"
+text_of_read (read.Duplicate k name) file = name_text file k name ++ codes " defined twice"
+text_of_read (read.TooMany k) file = file ++ codes ": too many " ++ kind_name k
+text_of_read read.NoMemory file = codes "NoMemory"
+
 -- a fault at a line of the script
 abbrev pub script_text : ℕ → List ℕ → List ℕ
 script_text line name = codes "script:" ++ decimal line ++ codes ": " ++ name
@@ -36,17 +73,18 @@ abbrev pub edit_name : ℕ → List ℕ → List ℕ
 edit_name place name = codes "edit " ++ decimal (place + 1) ++ codes ": " ++ name
 
 -- Want of memory has one text, wherever it was met.
-abbrev pub text_of_edit : ℕ → EditFault → List ℕ
-text_of_edit place edit.NoLine = edit_name place (codes "NoLine")
-text_of_edit place edit.NotOneLine = edit_name place (codes "NotOneLine")
-text_of_edit place edit.OpenLine = edit_name place (codes "OpenLine")
-text_of_edit place edit.TooLarge = edit_name place (codes "TooLarge")
-text_of_edit place edit.NoMemory = codes "NoMemory"
+abbrev pub text_of_edit : ℕ → EditFault → List ℕ → List ℕ
+text_of_edit place edit.NoLine file = edit_name place (codes "NoLine")
+text_of_edit place edit.NotOneLine file = edit_name place (codes "NotOneLine")
+text_of_edit place edit.OpenLine file = edit_name place (codes "OpenLine")
+text_of_edit place edit.TooLarge file = edit_name place (codes "TooLarge")
+text_of_edit place (edit.NotPolicy fault) file = edit_name place (codes "NotPolicy: ") ++ text_of_read fault file
+text_of_edit place edit.NoMemory file = codes "NoMemory"
 
 abbrev pub text_of_layer : LayerFault → List ℕ → List ℕ
-text_of_layer (layer.Text fault) file = text_of_text fault file
+text_of_layer (layer.Policy fault) file = text_of_read fault file
 text_of_layer (layer.Script fault) file = text_of_script fault
-text_of_layer (layer.Edit place fault) file = text_of_edit place fault
+text_of_layer (layer.Edit place fault) file = text_of_edit place fault file
 text_of_layer layer.NoMemory file = codes "NoMemory"
 
 abbrev pub text_of_tool : ToolFault → List ℕ → List ℕ

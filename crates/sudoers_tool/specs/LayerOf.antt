@@ -1,7 +1,7 @@
 -- A layer's fault as the program tells it: want of memory is one fault, wherever it was met.
 use Rattle.std.specs.Prelude.{ℕ}
-use Rattle.sudoers_text.specs.declared.fault.TextFault.{TextFault}
-use Rattle.sudoers_text.specs.declared.fault.TextFault.TheVariants as text
+use Rattle.sudoers_tree.specs.declared.fault.ReadFault.{ReadFault}
+use Rattle.sudoers_tree.specs.declared.fault.ReadFault.TheVariants as read
 use Rattle.sudoers_tool.specs.declared.edit.EditFault.{EditFault}
 use Rattle.sudoers_tool.specs.declared.edit.EditFault.TheVariants as edit
 use Rattle.sudoers_tool.specs.declared.script.ScriptFault.{ScriptFault}
@@ -9,12 +9,13 @@ use Rattle.sudoers_tool.specs.declared.script.ScriptFault.TheVariants as script
 use Rattle.sudoers_tool.specs.declared.fault.LayerFault.{LayerFault}
 use Rattle.sudoers_tool.specs.declared.fault.LayerFault.TheVariants as layer
 
-abbrev pub layer_of_text : TextFault → LayerFault
-layer_of_text text.TooLarge = layer.Text text.TooLarge
-layer_of_text (text.LineTooLong line) = layer.Text (text.LineTooLong line)
-layer_of_text (text.Nul at) = layer.Text (text.Nul at)
-layer_of_text text.OpenContinuation = layer.Text text.OpenContinuation
-layer_of_text text.NoMemory = layer.NoMemory
+abbrev pub layer_of_read : ReadFault → LayerFault
+layer_of_read (read.Text fault) = layer.Policy (read.Text fault)
+layer_of_read (read.Syntax line col why) = layer.Policy (read.Syntax line col why)
+layer_of_read (read.Reserved kind name) = layer.Policy (read.Reserved kind name)
+layer_of_read (read.Duplicate kind name) = layer.Policy (read.Duplicate kind name)
+layer_of_read (read.TooMany kind) = layer.Policy (read.TooMany kind)
+layer_of_read read.NoMemory = layer.NoMemory
 
 abbrev pub layer_of_script : ScriptFault → LayerFault
 layer_of_script (script.BadWord line) = layer.Script (script.BadWord line)
@@ -28,4 +29,14 @@ layer_of_edit place edit.NoLine = layer.Edit place edit.NoLine
 layer_of_edit place edit.NotOneLine = layer.Edit place edit.NotOneLine
 layer_of_edit place edit.OpenLine = layer.Edit place edit.OpenLine
 layer_of_edit place edit.TooLarge = layer.Edit place edit.TooLarge
+layer_of_edit place (edit.NotPolicy fault) = layer.Edit place (edit.NotPolicy fault)
 layer_of_edit place edit.NoMemory = layer.NoMemory
+
+-- a fault of a text that an edit leads to
+abbrev pub edit_of_read : ReadFault → EditFault
+edit_of_read (read.Text fault) = edit.NotPolicy (read.Text fault)
+edit_of_read (read.Syntax line col why) = edit.NotPolicy (read.Syntax line col why)
+edit_of_read (read.Reserved kind name) = edit.NotPolicy (read.Reserved kind name)
+edit_of_read (read.Duplicate kind name) = edit.NotPolicy (read.Duplicate kind name)
+edit_of_read (read.TooMany kind) = edit.NotPolicy (read.TooMany kind)
+edit_of_read read.NoMemory = edit.NoMemory

@@ -2,9 +2,12 @@ pub mod Device
 pub mod Physical
 pub mod OneLine
 pub mod Editing
+pub mod Leading
 pub mod Script
 pub mod ScriptReading
 pub mod ScriptStanding
 pub mod FaultText
+pub mod Shown
 pub mod LayerOf
 pub mod Program
+pub mod Show

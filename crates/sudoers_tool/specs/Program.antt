@@ -2,8 +2,9 @@
 use Rattle.std.specs.Prelude.{◌≡◌, ◌⊎◌, ◌+◌, ℕ, Bool, false, ◌&&◌, ◌==◌, nat_lt, if◌then◌else◌, List, [], ◌∷◌, ◌++◌, length, Option, Some, None, Result, Ok, Err}
 use Rattle.std.specs.Option.{option_map}
 use Rattle.sudoers_text.specs.Line.{join}
-use Rattle.sudoers_text.specs.Cut.{cut_of}
-use Rattle.sudoers_text.specs.declared.fault.TextFault.{TextFault}
+use Rattle.sudoers_tree.specs.declared.fault.ReadFault.{ReadFault}
+use Rattle.sudoers_tree.specs.Policy.{texts}
+use Rattle.sudoers_tree.specs.Reading.{read_of}
 use Rattle.sudoers_tool.specs.declared.edit.Edit.{Edit}
 use Rattle.sudoers_tool.specs.declared.edit.EditFault.{EditFault}
 use Rattle.sudoers_tool.specs.declared.script.ScriptFault.{ScriptFault}
@@ -50,9 +51,9 @@ abbrev pub by_script : {A : Type 0} → Result A ScriptFault → Result A LayerF
 by_script (Ok x) = Ok x
 by_script (Err fault) = Err (layer.Script fault)
 
-abbrev pub by_text : {A : Type 0} → Result A TextFault → Result A LayerFault
-by_text (Ok x) = Ok x
-by_text (Err fault) = Err (layer.Text fault)
+abbrev pub by_read : {A : Type 0} → Result A ReadFault → Result A LayerFault
+by_read (Ok x) = Ok x
+by_read (Err fault) = Err (layer.Policy fault)
 
 abbrev pub by_edit : {A : Type 0} → Result A (ℕ × EditFault) → Result A LayerFault
 by_edit (Ok x) = Ok x
@@ -64,11 +65,14 @@ output_text inverse lines =
     if nat_lt edit_limit (length inverse) then Err (layer.Script script.TooMany)
     else Ok (spelling inverse ++ 37 ∷ 37 ∷ 10 ∷ [] ++ join lines)
 
--- the inverse script, the mark and the edited policy; or the first fault of the script, of the policy, of the edits
+-- what comes of edits of these lines: the inverse script, the mark and the edited policy, or the first refusal
+abbrev pub edited_output : List Edit → List (List ℕ) → Result (List ℕ) LayerFault
+edited_output edits lines = by_edit (run_all 0 edits lines) >>= (λ new. output_text (inv_run edits lines) new)
+
+-- the same of a script and a policy; or the first fault of the script, of the policy, of the edits
 abbrev pub edit_output : List ℕ → List ℕ → Result (List ℕ) LayerFault
 edit_output script policy =
-    by_script (reading script) >>= (λ edits. by_text (cut_of policy) >>= (λ lines.
-    by_edit (run_all 0 edits lines) >>= (λ new. output_text (inv_run edits lines) new)))
+    by_script (reading script) >>= (λ edits. by_read (read_of policy) >>= (λ lines. edited_output edits (texts lines)))
 
 abbrev pub by_layer : {A : Type 0} → Result A LayerFault → Result A ToolFault
 by_layer (Ok x) = Ok x
@@ -103,21 +107,21 @@ NeedsEnd (Err tool.Read) = ⊥
 NeedsEnd (Err tool.NoEnd) = ⊥
 NeedsEnd (Err tool.InputTooLarge) = ⊥
 NeedsEnd (Err (tool.Layer layer.NoMemory)) = ⊥
-NeedsEnd (Err (tool.Layer (layer.Text fault))) = Unit {0}
+NeedsEnd (Err (tool.Layer (layer.Policy fault))) = Unit {0}
 NeedsEnd (Err (tool.Layer (layer.Script fault))) = Unit {0}
 NeedsEnd (Err (tool.Layer (layer.Edit place fault))) = Unit {0}
 NeedsEnd (Err tool.NoMark) = Unit {0}
 NeedsEnd (Err tool.Write) = Unit {0}
 
--- Where reading stopped: with the first byte past the limit the input is too large; a reader that failed or was given up had
--- given no such byte.
-abbrev pub StopsReading : Option (List ℕ) → Option (List ℕ) → ToolFault → Type 0
-StopsReading old new tool.InputTooLarge = TakesExactly old new (input_limit + 1)
-StopsReading old new tool.Read = TakesAtMost old new input_limit
-StopsReading old new tool.NoEnd = TakesAtMost old new input_limit
-StopsReading old new (tool.Layer fault) = Unit {0}
-StopsReading old new tool.NoMark = Unit {0}
-StopsReading old new tool.Write = Unit {0}
+-- Where reading stopped that has this limit: with the first byte past it the input is too large; a reader that failed or was
+-- given up had given no such byte.
+abbrev pub StopsReading : ℕ → Option (List ℕ) → Option (List ℕ) → ToolFault → Type 0
+StopsReading limit old new tool.InputTooLarge = TakesExactly old new (limit + 1)
+StopsReading limit old new tool.Read = TakesAtMost old new limit
+StopsReading limit old new tool.NoEnd = TakesAtMost old new limit
+StopsReading limit old new (tool.Layer fault) = Unit {0}
+StopsReading limit old new tool.NoMark = Unit {0}
+StopsReading limit old new tool.Write = Unit {0}
 
 -- the faults of reading
 abbrev pub IsReadFault : ToolFault → Type 0

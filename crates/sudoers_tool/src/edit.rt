@@ -4,6 +4,7 @@ ghost use Rattle.std.specs.Prelude.{◌≡◌, ◌∷◌, [], ◌++◌, length, 
 use crate::text::Text;
 use std::alloc::{AllocError, AllocFailed, Global};
 use std::marker::Model;
+use sudoers_tree::ReadFault;
 use thiserror::Error;
 
 /// An edit of a policy. Lines count from 0.
@@ -16,7 +17,7 @@ pub enum Edit {
 }
 
 /// Why an edit is refused, the first cause in this order.
-#[derive(Clone, Copy, Debug, PartialEq, Eq, Error)]
+#[derive(Debug, Drop, Error)]
 pub enum EditFault {
     /// The line is not there.
     #[error("NoLine")]
@@ -30,6 +31,9 @@ pub enum EditFault {
     /// The result would pass the limit of a policy.
     #[error("TooLarge")]
     TooLarge,
+    /// The result would be no policy.
+    #[error("NotPolicy: {0}")]
+    NotPolicy(ReadFault),
     /// A growth of memory was refused.
     #[error("NoMemory")]
     NoMemory,
@@ -54,6 +58,20 @@ impl<T: Drop> From<AllocFailed<T>> for EditFault {
 
     fn from(_error: AllocFailed<T>) -> EditFault {
         EditFault::NoMemory
+    }
+}
+
+impl From<ReadFault> for EditFault {
+    ghost use Rattle.std.specs.Prelude.{◌≡◌};
+    ghost use Rattle.sudoers_tool.specs.LayerOf.{edit_of_read};
+
+    ghost from_gives = { λ fault e. e ≡ edit_of_read fault };
+
+    fn from(fault: ReadFault) -> EditFault {
+        match fault {
+            ReadFault::NoMemory => EditFault::NoMemory,
+            fault => EditFault::NotPolicy(fault),
+        }
     }
 }
 

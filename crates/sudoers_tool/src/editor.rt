@@ -3,14 +3,19 @@ ghost use Rattle.std.specs.Prelude.{◌≡◌, ◌≢◌, ◌+◌, ◌-◌, ◌<
 ghost use Rattle.std.specs.List.{flat_map};
 ghost use Rattle.sudoers_text.specs.Line.{join};
 ghost use Rattle.sudoers_text.specs.Ended.{has_unended_inside};
-ghost use Rattle.sudoers_tool.specs.OneLine.{is_one_line, IsAlone};
+ghost use Rattle.sudoers_text.specs.Cut.{StandAlone};
+ghost use Rattle.sudoers_tree.specs.declared.line.Line.{Line as LineOf};
+ghost use Rattle.sudoers_tree.specs.Policy.{texts};
+ghost use Rattle.sudoers_tool.specs.OneLine.{is_one_line, IsAlone, IsSound};
+ghost use Rattle.sudoers_tool.specs.Editing.{policy_or_refusal};
 
 use crate::edit::{Edit, EditFault, Edits};
-use crate::policy::Policy;
+use crate::reread::{reread, text_with, text_without};
 use crate::text::Text;
 use std::alloc::{AllocError, Global};
 use std::marker::Model;
-use sudoers_text::{TEXT_LIMIT, TextFault, cut, ends_in_lf, lines_stand_alone};
+use sudoers_text::{TextFault, cut, ends_in_lf, lines_of_join, lines_stand_alone};
+use sudoers_tree::{Policy, policy_is_cut};
 
 /// An accepted edit, with the edits that take it back.
 #[derive(Debug, Drop)]
@@ -21,7 +26,7 @@ pub struct Entry {
 
 /// A policy, and the accepted edits that stand, the oldest first. The policy that it began with is kept nowhere: the
 /// journal leads back to it.
-#[derive(Debug, Drop)]
+#[derive(Drop)]
 pub struct Editor {
     policy: Policy,
     journal: Vec<Entry>,
@@ -29,21 +34,23 @@ pub struct Editor {
 
 impl Model for Editor {
     ghost use Rattle.std.specs.Prelude.{reverse};
+    ghost use Rattle.sudoers_tree.specs.Policy.{texts};
     ghost use Rattle.sudoers_tool.specs.Editing.{Desk, IsUndoable};
 
     ghost Value = { Desk };
 
-    ghost view = { λ editor. record { lines = editor.policy; journal = editor.journal.items } };
+    ghost view = { λ editor. record { lines = texts editor.policy; journal = editor.journal.items } };
 
-    ghost invariant = { λ editor. IsUndoable (reverse editor.journal.items) editor.policy };
+    ghost invariant = { λ editor. IsUndoable (reverse editor.journal.items) (texts editor.policy) };
 }
 
 impl Editor {
     ghost use Rattle.sudoers_tool.specs.Editing.{step, inv, run, run_all, inv_run, first_of, edits_of, Refuses, StopsAt};
+    ghost use Rattle.sudoers_tool.specs.Leading.{Leads};
 
     /// The policy, and an empty journal.
     pub fn new(policy: Policy) -> Editor
-        ensures lines { result.lines ≡ policy }
+        ensures lines { result.lines ≡ texts policy }
         ensures journal { result.journal ≡ [] }
     {
         let alloc = policy.allocator();
@@ -56,8 +63,8 @@ impl Editor {
     /// The policy as it stands: the edits of the journal, made one after another, lead to it from the lines that the editor
     /// began with.
     pub fn policy(&self) -> &Policy
-        ensures lines { result.now ≡ self.now.lines }
-        ensures forth { run (edits_of self.now.journal) (first_of self.now) ≡ Some result.now }
+        ensures lines { texts result.now ≡ self.now.lines }
+        ensures forth { run (edits_of self.now.journal) (first_of self.now) ≡ Some (texts result.now) }
     {
         &self.policy
     }
@@ -101,7 +108,6 @@ impl Editor {
         ensures unchanged { OnErr result (self.new ≡ self.old) }
     {
         let alloc = self.policy.allocator();
-        self.policy.is_sound();
         let place = at as usize;
         if place > self.policy.len() {
             return Err(EditFault::NoLine);
@@ -112,19 +118,12 @@ impl Editor {
         if leaves_unended(&self.policy, place, text) {
             return Err(EditFault::OpenLine);
         }
-        if text.len() > TEXT_LIMIT - self.policy.size() {
-            return Err(EditFault::TooLarge);
-        }
-        let edit = Edit::Insert {
-            at,
-            text: Text::from_slice(alloc, text)?,
-        };
+        let whole = text_with(alloc, self.policy.lines(), place, text)?;
         let inverse = Edits::one(alloc, Edit::Delete { at })?;
-        let line = Text::from_slice(alloc, text)?;
-        self.journal.reserve(1)?;
-        self.policy.with_line(place, line)?;
-        self.journal.push(Entry { edit, inverse }).unwrap();
-        Ok(())
+        let text = Text::from_slice(alloc, text)?;
+        is_sound(&self.policy);
+        let edit = Edit::Insert { at, text };
+        self.settle(alloc, whole.as_slice(), Entry { edit, inverse })
     }
 
     fn delete(&mut self, at: u32) -> Result<(), EditFault>
@@ -136,17 +135,32 @@ impl Editor {
         ensures unchanged { OnErr result (self.new ≡ self.old) }
     {
         let alloc = self.policy.allocator();
-        self.policy.is_sound();
         let place = at as usize;
-        if place >= self.policy.len() {
+        let Some(line) = self.policy.line(place) else {
             return Err(EditFault::NoLine);
-        }
-        let text = Text::from_slice(alloc, self.policy.line(place))?;
+        };
+        let text = Text::from_slice(alloc, line)?;
+        let whole = text_without(alloc, self.policy.lines(), place)?;
         let inverse = Edits::one(alloc, Edit::Insert { at, text })?;
-        self.journal.reserve(1)?;
-        let _line = self.policy.without_line(place);
+        is_sound(&self.policy);
         let edit = Edit::Delete { at };
-        self.journal.push(Entry { edit, inverse }).unwrap();
+        self.settle(alloc, whole.as_slice(), Entry { edit, inverse })
+    }
+
+    /// Reads the text to which an edit leads; where it is a policy, this comes in the place of the present one, and the edit into
+    /// the journal.
+    fn settle(&mut self, alloc: Global, whole: &[u8], entry: Entry) -> Result<(), EditFault>
+        requires { Leads entry self.old.lines whole.now }
+        ensures step { OnOk result (step entry.edit self.old.lines ≡ Ok self.new.lines) }
+        ensures journal { OnOk result (self.new.journal ≡ self.old.journal ++ entry ∷ []) }
+        ensures begun { first_of self.new ≡ first_of self.old }
+        ensures refused { IfErr result (λ fault. Refuses fault (step entry.edit self.old.lines)) }
+        ensures unchanged { OnErr result (self.new ≡ self.old) }
+    {
+        reads_lines();
+        self.journal.reserve(1)?;
+        self.policy = reread(alloc, whole)?;
+        self.journal.push(entry).unwrap();
         Ok(())
     }
 
@@ -195,16 +209,37 @@ impl Editor {
 /// Whether a line without LF would stand before another once the text stands at a place.
 fn leaves_unended(policy: &Policy, at: usize, text: &[u8]) -> bool
     requires { at ≤ length policy.now }
-    ensures { result ≡ has_unended_inside (insert policy.now at text.now) }
+    ensures { result ≡ has_unended_inside (insert (texts policy.now) at text.now) }
 {
-    policy.is_sound();
+    is_sound(policy);
     if at < policy.len() {
         !ends_in_lf(text)
     } else if at > 0 {
-        !ends_in_lf(policy.line(at - 1))
+        match policy.line(at - 1) {
+            Some(last) => !ends_in_lf(last),
+            None => false,
+        }
     } else {
         false
     }
+}
+
+/// A law: what the lines of a policy are.
+fn is_sound(policy: &Policy)
+    ensures { IsSound (texts policy.now) }
+{
+    policy.is_policy();
+    policy_is_cut();
+    lines_stand_alone();
+}
+
+/// A law: lines that are each the one line of a text, all but the last ending in LF, are those of the policy that their join is.
+fn reads_lines()
+    ensures { (lines : List (List ℕ)) (policy : List LineOf) → StandAlone lines → has_unended_inside lines ≡ false
+        → policy_or_refusal (join lines) ≡ Ok policy → texts policy ≡ lines }
+{
+    policy_is_cut();
+    lines_of_join();
 }
 
 /// Whether a text is exactly one logical line.

@@ -1,20 +1,22 @@
 //! Why the program gives up, and the text that it then shows.
 ghost use Rattle.std.specs.Prelude.{◌≡◌, ◌+◌, ◌<◌, ◌^◌, ◌++◌, IfOk, OnOk};
 ghost use Rattle.std.specs.Fmt.{decimal};
-ghost use Rattle.sudoers_tool.specs.FaultText.{text_of_tool, text_of_layer, text_of_text, text_of_script, text_of_edit, script_text, edit_name};
+ghost use Rattle.sudoers_tool.specs.FaultText.{text_of_tool, text_of_layer, text_of_read, text_of_text, text_of_script, text_of_edit, script_text, edit_name, name_text, kind_name, why_name};
 
 use crate::edit::EditFault;
 use crate::script::ScriptFault;
 use std::alloc::{AllocError, Global};
+use sudoers_line::{Kind, Why};
 use sudoers_text::TextFault;
+use sudoers_tree::ReadFault;
 use thiserror::Error;
 
 /// A fault of a layer below. Want of memory is `NoMemory` here, wherever it was met.
-#[derive(Clone, Copy, Debug, PartialEq, Eq, Error)]
+#[derive(Debug, Drop, Error)]
 pub enum LayerFault {
-    /// The policy cannot be cut into lines.
+    /// The text is no policy.
     #[error("{0}")]
-    Text(TextFault),
+    Policy(ReadFault),
     /// The script is none, or the inverse list is too long.
     #[error("{0}")]
     Script(ScriptFault),
@@ -27,7 +29,7 @@ pub enum LayerFault {
 }
 
 /// Why the program gives up.
-#[derive(Clone, Copy, Debug, PartialEq, Eq, Error)]
+#[derive(Debug, Drop, Error)]
 pub enum ToolFault {
     /// The reader failed.
     #[error("Read")]
@@ -49,16 +51,16 @@ pub enum ToolFault {
     InputTooLarge,
 }
 
-impl From<TextFault> for LayerFault {
+impl From<ReadFault> for LayerFault {
     ghost use Rattle.std.specs.Prelude.{◌≡◌};
-    ghost use Rattle.sudoers_tool.specs.LayerOf.{layer_of_text};
+    ghost use Rattle.sudoers_tool.specs.LayerOf.{layer_of_read};
 
-    ghost from_gives = { λ fault e. e ≡ layer_of_text fault };
+    ghost from_gives = { λ fault e. e ≡ layer_of_read fault };
 
-    fn from(fault: TextFault) -> LayerFault {
+    fn from(fault: ReadFault) -> LayerFault {
         match fault {
-            TextFault::NoMemory => LayerFault::NoMemory,
-            _ => LayerFault::Text(fault),
+            ReadFault::NoMemory => LayerFault::NoMemory,
+            fault => LayerFault::Policy(fault),
         }
     }
 }
@@ -87,7 +89,7 @@ impl From<(usize, EditFault)> for LayerFault {
         let (place, fault) = refused;
         match fault {
             EditFault::NoMemory => LayerFault::NoMemory,
-            _ => LayerFault::Edit(place, fault),
+            fault => LayerFault::Edit(place, fault),
         }
     }
 }
@@ -148,10 +150,95 @@ fn layer_text(alloc: Global, fault: &LayerFault, file: &[u8]) -> Result<Vec<u8>,
     ensures { IfOk result (λ text. text.items ≡ text_of_layer fault.now file.now) }
 {
     match fault {
-        LayerFault::Text(fault) => text_fault_text(alloc, fault, file),
+        LayerFault::Policy(fault) => read_fault_text(alloc, fault, file),
         LayerFault::Script(fault) => script_fault_text(alloc, fault),
-        LayerFault::Edit(place, fault) => edit_fault_text(alloc, *place, fault),
+        LayerFault::Edit(place, fault) => edit_fault_text(alloc, *place, fault, file),
         LayerFault::NoMemory => Vec::from_slice(alloc, b"NoMemory"),
+    }
+}
+
+fn read_fault_text(alloc: Global, fault: &ReadFault, file: &[u8]) -> Result<Vec<u8>, AllocError>
+    ensures { IfOk result (λ text. text.items ≡ text_of_read fault.now file.now) }
+{
+    match fault {
+        ReadFault::Text(fault) => text_fault_text(alloc, fault, file),
+        ReadFault::Syntax { line, col, why } => syntax_text(alloc, *line, *col, *why, file),
+        ReadFault::Reserved { kind, name } => {
+            at_name(alloc, *kind, name.as_slice(), b" reserved", file)
+        }
+        ReadFault::Duplicate { kind, name } => {
+            at_name(alloc, *kind, name.as_slice(), b" defined twice", file)
+        }
+        ReadFault::TooMany { kind } => {
+            let mut text = concat(alloc, file, b": too many ")?;
+            text.extend_from_slice(kind_word(*kind))?;
+            Ok(text)
+        }
+        ReadFault::NoMemory => Vec::from_slice(alloc, b"NoMemory"),
+    }
+}
+
+fn syntax_text(
+    alloc: Global,
+    line: usize,
+    col: usize,
+    why: Why,
+    file: &[u8],
+) -> Result<Vec<u8>, AllocError>
+    ensures { IfOk result (λ text. text.items ≡ text_of_read (ReadFault.Syntax line col why) file.now) }
+{
+    let mut text = concat(alloc, file, b":")?;
+    append_number(alloc, &mut text, line)?;
+    text.extend_from_slice(b":")?;
+    append_number(alloc, &mut text, col)?;
+    text.extend_from_slice(b": syntax error: ")?;
+    text.extend_from_slice(why_word(why))?;
+    Ok(text)
+}
+
+/// A kind's name in the file, and what is wrong with it.
+fn at_name(
+    alloc: Global,
+    kind: Kind,
+    name: &[u8],
+    wrong: &[u8],
+    file: &[u8],
+) -> Result<Vec<u8>, AllocError>
+    ensures { IfOk result (λ text. text.items ≡ name_text file.now kind name.now ++ wrong.now) }
+{
+    let mut text = concat(alloc, file, b": ")?;
+    text.extend_from_slice(kind_word(kind))?;
+    text.extend_from_slice(b" ")?;
+    text.extend_from_slice(name)?;
+    text.extend_from_slice(wrong)?;
+    Ok(text)
+}
+
+/// The word with which definitions of this kind begin.
+pub fn kind_word(kind: Kind) -> &'static [u8]
+    ensures { result.now ≡ kind_name kind }
+{
+    match kind {
+        Kind::User => b"User_Alias",
+        Kind::Runas => b"Runas_Alias",
+        Kind::Host => b"Host_Alias",
+        Kind::Cmnd => b"Cmnd_Alias",
+    }
+}
+
+fn why_word(why: Why) -> &'static [u8]
+    ensures { result.now ≡ why_name why }
+{
+    match why {
+        Why::UnexpectedByte => b"UnexpectedByte",
+        Why::UnexpectedToken => b"UnexpectedToken",
+        Why::EndOfLine => b"EndOfLine",
+        Why::OpenQuote => b"OpenQuote",
+        Why::EmptyName => b"EmptyName",
+        Why::BadId => b"BadId",
+        Why::BadAddress => b"BadAddress",
+        Why::BadStamp => b"BadStamp",
+        Why::Regex => b"Regex",
     }
 }
 
@@ -188,8 +275,13 @@ fn script_fault_text(alloc: Global, fault: &ScriptFault) -> Result<Vec<u8>, Allo
     }
 }
 
-fn edit_fault_text(alloc: Global, place: usize, fault: &EditFault) -> Result<Vec<u8>, AllocError>
-    ensures { IfOk result (λ text. text.items ≡ text_of_edit place fault.now) }
+fn edit_fault_text(
+    alloc: Global,
+    place: usize,
+    fault: &EditFault,
+    file: &[u8],
+) -> Result<Vec<u8>, AllocError>
+    ensures { IfOk result (λ text. text.items ≡ text_of_edit place fault.now file.now) }
 {
     match fault {
         EditFault::NoMemory => Vec::from_slice(alloc, b"NoMemory"),
@@ -197,6 +289,11 @@ fn edit_fault_text(alloc: Global, place: usize, fault: &EditFault) -> Result<Vec
         EditFault::NotOneLine => at_edit(alloc, place, b"NotOneLine"),
         EditFault::OpenLine => at_edit(alloc, place, b"OpenLine"),
         EditFault::TooLarge => at_edit(alloc, place, b"TooLarge"),
+        EditFault::NotPolicy(fault) => {
+            let mut text = at_edit(alloc, place, b"NotPolicy: ")?;
+            text.extend_from_slice(read_fault_text(alloc, fault, file)?.as_slice())?;
+            Ok(text)
+        }
     }
 }
 
@@ -229,7 +326,7 @@ fn concat(alloc: Global, front: &[u8], back: &[u8]) -> Result<Vec<u8>, AllocErro
     Ok(text)
 }
 
-fn append_number(alloc: Global, text: &mut Vec<u8>, number: usize) -> Result<(), AllocError>
+pub fn append_number(alloc: Global, text: &mut Vec<u8>, number: usize) -> Result<(), AllocError>
     ensures { OnOk result (text.new.items ≡ text.old.items ++ decimal number) }
 {
     let digits = number.to_string(alloc)?;

@@ -1,4 +1,4 @@
-//! A sudoers policy editor whose promises are proved.
+//! A tool for sudoers policies whose promises are proved.
 #![tactic(auto)]
 
 mod device;
@@ -6,39 +6,42 @@ mod edit;
 mod editor;
 mod fault;
 mod physical;
-mod policy;
+mod reread;
 mod program;
 mod script;
 mod script_line;
+mod show;
 mod spelling;
 mod text;
 
 use clap::error::ErrorKind;
-use clap::{Command, Error};
+use clap::{Arg, ArgMatches, Command, Error};
 use device::Counted;
 use fault::{ToolFault, fault_text};
 use program::run_edit;
+use show::run_show;
 use std::alloc::{AllocError, Global};
+use std::fs;
 use std::io;
 use std::io::Write;
 use std::process::ExitCode;
 
-/// The policy's name in the texts of faults.
-const POLICY: &[u8] = b"policy";
+/// The policy's name in the texts of the faults of `edit`.
+const POLICY: &str = "policy";
+
+/// The name of the standard input as a file.
+const STDIN: &str = "-";
 
 /// Status 0, or 1 where there was a fault, or 2 where the words were not understood.
 fn main(rt: HostRuntime) -> ExitCode {
     match run(&rt) {
-        Ok(status) => ExitCode::from(status),
-        Err(fault) => {
-            let _ = tell(&rt, &fault);
-            ExitCode::from(1)
-        }
+        Ok(code) => code,
+        Err(fault) => told(&rt, &fault, POLICY),
     }
 }
 
 /// Reads the words, and does what they ask for.
-fn run(rt: &HostRuntime) -> Result<u8, ToolFault> {
+fn run(rt: &HostRuntime) -> Result<ExitCode, ToolFault> {
     let mut command = command_words(rt.alloc())?;
     let words = match words(rt) {
         Ok(words) => words,
@@ -48,12 +51,27 @@ fn run(rt: &HostRuntime) -> Result<u8, ToolFault> {
         Err(_) => {
             let message = "invalid UTF-8 was detected in one or more arguments";
             let error = command.error(ErrorKind::InvalidValue, message)?;
-            return show(rt, &error);
+            return show_usage(rt, &error);
         }
     };
     match command.try_get_matches_from(words.as_slice()) {
-        Ok(_) => edit_streams(rt),
-        Err(error) => show(rt, &error),
+        Ok(matches) => Ok(obey(rt, &matches)),
+        Err(error) => show_usage(rt, &error),
+    }
+}
+
+/// Does what the words ask for, and tells a fault.
+fn obey(rt: &HostRuntime, matches: &ArgMatches<'_>) -> ExitCode {
+    let (file, outcome) = match matches.subcommand() {
+        Some(("show", words)) => {
+            let file = words.get_str("FILE").unwrap_or(STDIN);
+            (file, show_file(rt, file))
+        }
+        _ => (POLICY, edit_streams(rt)),
+    };
+    match outcome {
+        Ok(status) => ExitCode::from(status),
+        Err(fault) => told(rt, &fault, file),
     }
 }
 
@@ -62,9 +80,16 @@ fn command_words<'a>(alloc: Global) -> Result<Command<'a>, AllocError> {
     let edit = Command::new(alloc, "edit").about(
         "Edits a policy: a script, a line `%%` and the policy in; the script that takes the edits back, `%%` and the edited policy out",
     );
+    let file = Arg::new(alloc, "FILE")
+        .required(true)
+        .help("The policy file, or `-` for the standard input");
+    let show = Command::new(alloc, "show")
+        .about("Shows the logical lines of a policy with their numbers and kinds, and its definitions of aliases")
+        .arg(file)?;
     Command::new(alloc, "sudoers_tool")
-        .about("Edits sudoers policies. With no command it does what `edit` does")
-        .subcommand(edit)
+        .about("Shows and edits sudoers policies. With no command it does what `edit` does")
+        .subcommand(edit)?
+        .subcommand(show)
 }
 
 /// The words of the command line.
@@ -74,12 +99,12 @@ fn words(rt: &HostRuntime) -> io::Result<Vec<String>> {
 }
 
 /// Shows clap's text: of help on the standard output, of words that it does not understand on the standard error.
-fn show(rt: &HostRuntime, error: &Error) -> Result<u8, ToolFault> {
+fn show_usage(rt: &HostRuntime, error: &Error) -> Result<ExitCode, ToolFault> {
     if error.kind() == ErrorKind::OutOfMemory {
         return Err(ToolFault::from(AllocError));
     }
     match error.print(rt) {
-        Ok(()) => Ok(if error.use_stderr() { 2 } else { 0 }),
+        Ok(()) => Ok(ExitCode::from(if error.use_stderr() { 2 } else { 0 })),
         Err(_) => Err(ToolFault::Write),
     }
 }
@@ -91,9 +116,28 @@ fn edit_streams(rt: &HostRuntime) -> Result<u8, ToolFault> {
     run_edit(rt.alloc(), &mut reader, &mut writer)
 }
 
+/// Shows a file, or the standard input.
+fn show_file(rt: &HostRuntime, file: &str) -> Result<u8, ToolFault> {
+    let mut writer = Counted::new(rt.stdout());
+    if file == STDIN {
+        return run_show(rt.alloc(), &mut Counted::new(rt.stdin()), &mut writer);
+    }
+    match fs::open(rt, file) {
+        Ok(opened) => run_show(rt.alloc(), &mut Counted::new(opened), &mut writer),
+        Err(error) if error.kind() == io::ErrorKind::OutOfMemory => Err(ToolFault::from(AllocError)),
+        Err(_) => Err(ToolFault::Read),
+    }
+}
+
+/// Status 1, for a fault that is told on the standard error.
+fn told(rt: &HostRuntime, fault: &ToolFault, file: &str) -> ExitCode {
+    let _ = tell(rt, fault, file);
+    ExitCode::from(1)
+}
+
 /// Writes a fault's text to the standard error. Where it finds no memory nothing is written.
-fn tell(rt: &HostRuntime, fault: &ToolFault) -> io::Result<()> {
-    let text = fault_text(rt.alloc(), fault, POLICY)?;
+fn tell(rt: &HostRuntime, fault: &ToolFault, file: &str) -> io::Result<()> {
+    let text = fault_text(rt.alloc(), fault, file.as_bytes())?;
     let mut message = Vec::from_slice(rt.alloc(), b"sudoers_tool: ")?;
     message.extend_from_slice(text.as_slice())?;
     message.extend_from_slice(b"\n")?;

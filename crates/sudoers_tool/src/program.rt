@@ -2,18 +2,19 @@
 ghost use Rattle.std.specs.Prelude.{◌≡◌, ◌≢◌, ◌+◌, ◌<◌, ◌≤◌, ◌++◌, length, Ok, Err, IfOk, IfErr, OnOk, OnErr, IfSome, IsOkAnd, MatchResult, min, ◌-◌, ◌^◌};
 ghost use Rattle.std.specs.Option.{option_map};
 ghost use Rattle.std.specs.Io.KnownBytes.{Keeps, Appends};
+ghost use Rattle.sudoers_tree.specs.Policy.{texts};
 ghost use Rattle.sudoers_tool.specs.Device.{Rose, AppendsFront, TakesAtMost, TakesExactly, counted_up};
-ghost use Rattle.sudoers_tool.specs.Program.{is_mark as is_mark_text, split_text, edit_output as output_of_edit, output_of, output_text, input_limit, TellsLayer, TellsTool, NeedsEnd, StopsReading, IsReadFault, IsAnswerFault, pull_limit};
+ghost use Rattle.sudoers_tool.specs.Program.{is_mark as is_mark_text, split_text, edit_output as output_of_edit, edited_output, output_of, output_text, input_limit, TellsLayer, TellsTool, NeedsEnd, StopsReading, IsReadFault, IsAnswerFault, pull_limit};
 
 use crate::device::{DeviceFailed, Pulled, Sink, Source};
-use crate::edit::Edits;
+use crate::edit::{Edit, Edits};
 use crate::editor::Editor;
 use crate::fault::{LayerFault, ToolFault};
 use crate::physical::first_line_len;
-use crate::policy::Policy;
 use crate::script::read_script;
 use crate::spelling::write_script;
 use std::alloc::Global;
+use sudoers_tree::Policy;
 
 /// How many bytes the program reads at most.
 pub const INPUT_LIMIT: usize = 4_000_000;
@@ -60,22 +61,27 @@ pub fn run_edit<R: Source, W: Sink>(
     ensures no_end { result ≡ Err ToolFault.NoEnd
         → min (R.Source.pulls reader.old + pull_limit) (2 ^ 64 - 1) ≤ R.Source.pulls reader.new }
     // It stops at the first byte past the limit, and only there is the input too large.
-    ensures stops { IfErr result (StopsReading (R.remaining reader.old) (R.remaining reader.new)) }
+    ensures stops { IfErr result (StopsReading input_limit (R.remaining reader.old) (R.remaining reader.new)) }
     // Any other outcome, but want of memory and an input that is too large, comes only where the reader told its end.
     ensures ended { NeedsEnd result → Rose (R.ends reader.old) (R.ends reader.new) }
 {
-    let input = read_all(alloc, reader)?;
+    let input = read_all(alloc, reader, INPUT_LIMIT)?;
     let output = answer(alloc, input.as_slice())?;
     write_all(writer, output.as_slice())?;
     Ok(0)
 }
 
-/// Reads all there is, up to the limit.
-fn read_all<R: Source>(alloc: Global, reader: &mut R) -> Result<Vec<u8>, ToolFault>
-    ensures all { IfOk result (λ input. (length input.items ≤ input_limit)
+/// Reads all there is, up to a limit: with the first byte past it the input is too large.
+pub fn read_all<R: Source>(
+    alloc: Global,
+    reader: &mut R,
+    limit: usize,
+) -> Result<Vec<u8>, ToolFault>
+    requires { limit ≤ input_limit }
+    ensures all { IfOk result (λ input. (length input.items ≤ limit)
         × IfSome (R.remaining reader.old) (λ known. input.items ≡ known)) }
     ensures large { result ≡ Err ToolFault.InputTooLarge
-        → IfSome (R.remaining reader.old) (λ known. input_limit < length known) }
+        → IfSome (R.remaining reader.old) (λ known. limit < length known) }
     ensures faults { IfErr result IsReadFault }
     ensures read { result ≡ Err ToolFault.Read
         → Rose (R.Source.failures reader.old) (R.Source.failures reader.new) }
@@ -84,7 +90,7 @@ fn read_all<R: Source>(alloc: Global, reader: &mut R) -> Result<Vec<u8>, ToolFau
     ensures asked { R.Source.pulls reader.new ≤ R.Source.pulls reader.old + pull_limit }
     ensures no_end { result ≡ Err ToolFault.NoEnd
         → min (R.Source.pulls reader.old + pull_limit) (2 ^ 64 - 1) ≤ R.Source.pulls reader.new }
-    ensures stops { IfErr result (StopsReading (R.remaining reader.old) (R.remaining reader.new)) }
+    ensures stops { IfErr result (StopsReading limit (R.remaining reader.old) (R.remaining reader.new)) }
     ensures ended { OnOk result (Rose (R.ends reader.old) (R.ends reader.new)) }
 {
     let mut input = Vec::new(alloc);
@@ -92,14 +98,14 @@ fn read_all<R: Source>(alloc: Global, reader: &mut R) -> Result<Vec<u8>, ToolFau
     for pull in 0..PULL_LIMIT {
         // Only the proof looks at this count.
         let _ = pull;
-        let room = buffer.len().min(INPUT_LIMIT + 1 - input.len());
+        let room = buffer.len().min(limit + 1 - input.len());
         match reader.pull(&mut buffer[..room]) {
             Ok(Pulled::Bytes(n)) => {
                 if n == 0 {
                     return Ok(input);
                 }
                 input.extend_from_slice(&buffer[..n])?;
-                if input.len() > INPUT_LIMIT {
+                if input.len() > limit {
                     return Err(ToolFault::InputTooLarge);
                 }
             }
@@ -111,7 +117,7 @@ fn read_all<R: Source>(alloc: Global, reader: &mut R) -> Result<Vec<u8>, ToolFau
 }
 
 /// Writes all the bytes.
-fn write_all<W: Sink>(writer: &mut W, bytes: &[u8]) -> Result<(), ToolFault>
+pub fn write_all<W: Sink>(writer: &mut W, bytes: &[u8]) -> Result<(), ToolFault>
     ensures all { OnOk result (Appends (W.contents writer.old) (W.contents writer.new) bytes.now) }
     ensures part { OnErr result (AppendsFront (W.contents writer.old) (W.contents writer.new) bytes.now) }
     ensures fault { IfErr result (λ fault. (fault ≡ ToolFault.Write)
@@ -173,16 +179,24 @@ fn edit_output(alloc: Global, script: &[u8], policy: &[u8]) -> Result<Vec<u8>, L
 {
     let edits = read_script(alloc, script)?;
     let policy = Policy::read(alloc, policy)?;
+    edited(alloc, edits.as_slice(), policy)
+}
+
+/// What comes of edits of a policy.
+fn edited(alloc: Global, edits: &[Edit], policy: Policy) -> Result<Vec<u8>, LayerFault>
+    ensures { MatchResult result (λ out. edited_output edits.now (texts policy) ≡ Ok out.items)
+        (λ fault. TellsLayer fault (edited_output edits.now (texts policy))) }
+{
     let mut editor = Editor::new(policy);
-    editor.apply_all(edits.as_slice())?;
+    editor.apply_all(edits)?;
     let inverse = editor.inverse()?;
     output(alloc, &inverse, editor.policy())
 }
 
 /// A script, the mark and a policy.
 fn output(alloc: Global, inverse: &Edits, policy: &Policy) -> Result<Vec<u8>, LayerFault>
-    ensures { MatchResult result (λ out. output_text inverse.now policy.now ≡ Ok out.items)
-        (λ fault. TellsLayer fault (output_text inverse.now policy.now)) }
+    ensures { MatchResult result (λ out. output_text inverse.now (texts policy.now) ≡ Ok out.items)
+        (λ fault. TellsLayer fault (output_text inverse.now (texts policy.now))) }
 {
     let mut out = write_script(alloc, inverse.as_slice())?;
     out.extend_from_slice(MARK)?;

@@ -110,6 +110,13 @@ impl Policy {
         self.lines.len()
     }
 
+    /// The lines with what they say.
+    pub fn lines(&self) -> &[Line]
+        ensures { result.now ≡ self.now }
+    {
+        self.lines.as_slice()
+    }
+
     /// The allocator of its lines.
     pub fn allocator(&self) -> Global {
         self.alloc

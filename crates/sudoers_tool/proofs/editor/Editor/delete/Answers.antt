@@ -1,34 +1,39 @@
-use Rattle.std.proofs.Common.{◌≡◌, ◌∷◌, ◌++◌, ◌<◌, List, [], ℕ, length, slice_index_or, ap, ◌∙◌, sym, arith, rules}
+use Rattle.std.proofs.Common.{◌≡◌, ◌∙◌, ◌<◌, ◌∷◌, ◌++◌, [], List, ℕ, length, remove, slice_index_or, Some, ap, sym, subst, OnOk}
+use Rattle.std.proofs.lemmas.Option.{slice_get_within}
+use Rattle.std.specs.Prelude.{slice_get}
+use Rattle.sudoers_text.specs.Line.{join}
+use Rattle.sudoers_tree.specs.declared.line.Line.{Line}
+use Rattle.sudoers_tree.specs.Policy.{texts}
 use Rattle.sudoers_tool.specs.declared.edit.Edit.TheVariants.{Insert, Delete}
-use Rattle.sudoers_tool.specs.Editing.{Desk, first_of, step, inv}
-use Rattle.sudoers_tool.proofs.EditLemmas.{Deleted, deleted}
-use Rattle.sudoers_tool.proofs.PolicyLemmas.{at_get}
+use Rattle.sudoers_tool.specs.Editing.{Desk}
+use Rattle.sudoers_tool.specs.Leading.{Leads}
+use Rattle.sudoers_tool.proofs.EditLemmas.{delete_leads}
+use Rattle.sudoers_tool.proofs.PolicyLemmas.{text_at, at_get}
 use Rattle.sudoers_tool.proofs.editor.Editor.delete.Goals as goal
 
--- the line that is taken out
-line_is : (c : goal.After-drop-line-inside) → c.in_ok-text.text ≡ slice_index_or c.self.inside.policy c.args.at []
-line_is c = c.in_ok-text.ensures ∙ sym (at_get c.self.inside.policy c.args.at c.line.result.now [] c.line.ensures)
-
--- what the journal holds then
-later_is : (c : goal.After-drop-line-inside) → c.push.new.self.items ≡ c.self.inside.journal.items ++ record { edit = Delete c.args.at; inverse = Insert c.args.at (slice_index_or c.self.inside.policy c.args.at []) ∷ [] } ∷ []
-later_is c = let same = line_is c in rw (← same) (search rules)
-
--- what the deletion leaves
-left : (c : goal.After-drop-line-inside) → Deleted c.self.inside.policy c.without_line-line.new.self c.self.inside.journal.items c.push.new.self.items c.args.at
-left c =
-    let lines : List (List ℕ) = c.self.inside.policy in
-    let within : c.args.at < length lines = omega (arith, c.if-place-len.false, c.len.ensures) in
-    deleted lines c.without_line-line.new.self c.self.inside.journal.items c.push.new.self.items c.args.at c.is_sound.ensures c.self.invariant within (search rules) (later_is c)
-
-pub invariant_of-self-2 : goal.invariant_of-self-2
-invariant_of-self-2 c = (left c).undoable
-
-pub returns-clause-step : goal.returns-clause-step
-returns-clause-step c = ap (λ (desk : Desk). step (Delete c.args.at) desk.lines) (sym c.self.view_is) ∙ (left c).forth
+pub settle-requires : goal.settle-requires
+settle-requires c =
+    let policy : List Line = c.self.inside.policy in
+    let line : List ℕ = c.in-Some.line.now in
+    let here : slice_get (texts policy) c.args.at ≡ Some line = text_at policy c.args.at ∙ sym c.in-Some.ensures in
+    let within : c.args.at < length (texts policy) = slice_get_within (texts policy) c.args.at line here in
+    let copied : slice_index_or (texts policy) c.args.at [] ≡ c.in_ok-text.text = at_get (texts policy) c.args.at line [] here ∙ sym c.in_ok-text.ensures in
+    let whole : c.as_slice.result.now ≡ join (remove (texts policy) c.args.at) =
+    c.as_slice.ensures.value ∙ c.in_ok-whole.ensures ∙ ap (λ ls. join (remove (texts ls) c.args.at)) c.lines.ensures in
+    let leads = delete_leads (texts policy) c.args.at c.as_slice.result.now c.is_sound.ensures within whole in
+    let inverse : Insert c.args.at (slice_index_or (texts policy) c.args.at []) ∷ [] ≡ c.in_ok-inverse.inverse =
+    ap (λ t. Insert c.args.at t ∷ []) copied ∙ sym c.in_ok-inverse.ensures in
+    let told : Leads (record { edit = Delete c.args.at; inverse = c.in_ok-inverse.inverse }) (texts policy) c.as_slice.result.now =
+    subst (λ i. Leads (record { edit = Delete c.args.at; inverse = i }) (texts policy) c.as_slice.result.now) inverse leads in
+    subst (λ (d : Desk). Leads (record { edit = Delete c.args.at; inverse = c.in_ok-inverse.inverse }) d.lines c.as_slice.result.now) c.self.view_is told
 
 pub returns-clause-journal : goal.returns-clause-journal
 returns-clause-journal c =
-    later_is c ∙ ap (λ (desk : Desk). desk.journal ++ record { edit = Delete c.args.at; inverse = inv (Delete c.args.at) desk.lines } ∷ []) c.self.view_is
-
-pub returns-clause-begun : goal.returns-clause-begun
-returns-clause-begun c = (left c).begun ∙ ap (λ (desk : Desk). first_of desk) c.self.view_is
+    let policy : List Line = c.self.inside.policy in
+    let line : List ℕ = c.in-Some.line.now in
+    let here : slice_get (texts policy) c.args.at ≡ Some line = text_at policy c.args.at ∙ sym c.in-Some.ensures in
+    let copied : c.in_ok-text.text ≡ slice_index_or (texts policy) c.args.at [] = c.in_ok-text.ensures ∙ sym (at_get (texts policy) c.args.at line [] here) in
+    let inverse : c.in_ok-inverse.inverse ≡ Insert c.args.at (slice_index_or c.args.self.now.lines c.args.at []) ∷ [] =
+    c.in_ok-inverse.ensures ∙ ap (λ t. Insert c.args.at t ∷ []) copied ∙ ap (λ (d : Desk). Insert c.args.at (slice_index_or d.lines c.args.at []) ∷ []) c.self.view_is in
+    subst (λ i. OnOk c.settle.result (c.settle.new.self.journal ≡ c.args.self.now.journal ++ record { edit = Delete c.args.at; inverse = i } ∷ [])) inverse
+    c.settle.ensures.journal

@@ -1,6 +1,7 @@
 use Rattle.std.proofs.Common.{List, reverse, IfOk, ap, ◌∙◌, subst}
 use Rattle.std.proofs.lemmas.Result.{IfOk-weaker}
 use Rattle.std.specs.List.{flat_map}
+use Rattle.sudoers_tree.specs.Policy.{texts}
 use Rattle.sudoers_tool.specs.declared.edit.Edit.{Edit}
 use Rattle.sudoers_tool.specs.declared.editor.Entry.{Entry}
 use Rattle.sudoers_tool.specs.Editing.{Desk}
@@ -10,7 +11,7 @@ use Rattle.sudoers_tool.proofs.editor.Editor.inverse.Goals as goal
 -- the inverses_of edits take back all that stand
 told : (c : goal.After-inverses_of) → IfOk c.inverses_of.result (λ (edits : List Edit). TakesBack c.args.self.now edits)
 told c =
-    let desk : Desk = record { lines = c.self.inside.policy; journal = c.self.inside.journal.items } in
+    let desk : Desk = record { lines = texts c.self.inside.policy; journal = c.self.inside.journal.items } in
     subst (λ (d : Desk). IfOk c.inverses_of.result (λ (edits : List Edit). TakesBack d edits)) c.self.view_is
     (IfOk-weaker c.inverses_of.result _ _ (λ (edits : List Edit) is.
     takes_back desk c.self.invariant edits (is ∙ ap (λ (z : List Entry). flat_map (λ (x : Entry). x.inverse) (reverse z)) c.as_slice.ensures.value)) c.inverses_of.ensures)
