@@ -1,7 +1,7 @@
-"""Ordinary policies and scripts of edits, the same in every run.
+"""Policies and scripts of edits, the same in every run.
 
-A policy is a list of logical lines, as people keep them: comments, empty lines,
-Defaults, aliases with continuations, and user specifications that use them.
+An ordinary policy is a list of logical lines, as people keep them: comments, empty
+lines, Defaults, aliases with continuations, and user specifications that use them.
 """
 
 import random
@@ -10,6 +10,8 @@ TAGS = ("", "NOPASSWD: ", "PASSWD: ", "NOEXEC: ", "SETENV: ", "NOPASSWD: NOEXEC:
 TOOLS = ("systemctl", "journalctl", "apt-get", "mount", "tail", "useradd", "ip", "tcpdump")
 OPTIONS = ("env_reset", "mail_badpass", "requiretty", "!visiblepw", "passwd_tries=3", "timestamp_timeout=15")
 NAMES = ("ann", "bob", "cho", "dan", "eve", "fay", "gil", "hal")
+KINDS = ("User_Alias", "Host_Alias")
+MOST_OF_A_KIND = 4_000
 
 
 def joined(members):
@@ -60,6 +62,17 @@ def policy(size):
         lines.append("#" + "-" * (filler - 2) + "\n")
         rest -= filler
     return [line.encode() for line in lines]
+
+
+def many_aliases(count):
+    """A policy of `count` aliases with two members each, all lines of one size; a kind may have 4,096 aliases."""
+    numbers = range(count)
+    return "".join(f"{KINDS[n // MOST_OF_A_KIND]} A{n:05} = a{n:05}, b{n:05}\n" for n in numbers).encode()
+
+
+def many_members(count):
+    """A policy of one alias with `count` members, in one line; a line may have 65,536 bytes."""
+    return b"User_Alias A = " + b",".join([b"x"] * count) + b"\n"
 
 
 def one_edit(lines):

@@ -4,6 +4,7 @@ The files of a folder, each of which may be missing:
 
     words        the command words, one a line (none)
     stdin        standard input (empty)
+    policy       a file that the words may name: the program runs in the folder
     stdout       standard output, byte for byte (empty)
     stderr       standard error, byte for byte (empty)
     stdout_has   in place of stdout: each line of it has to occur there
@@ -19,7 +20,7 @@ from dataclasses import dataclass
 from program import Wanted, run
 
 FOLDER = os.path.join(os.path.dirname(os.path.abspath(__file__)), "cases")
-FILES = {"words", "stdin", "stdout", "stderr", "stdout_has", "stderr_has", "status", "back"}
+FILES = {"words", "stdin", "policy", "stdout", "stderr", "stdout_has", "stderr_has", "status", "back"}
 
 
 @dataclass(frozen=True)
@@ -30,7 +31,8 @@ class Case:
     words: tuple
     stdin: bytes
     wanted: Wanted
-    back: bool
+    back: bool = False
+    folder: object = None
 
 
 def read_file(folder, name):
@@ -68,7 +70,7 @@ def load(name):
     status = int(read_file(folder, "status") or b"0")
     wanted = Wanted(stdout, stderr, status, stdout_has, stderr_has)
     back = read_file(folder, "back") is not None
-    return Case(name, lines_of(read_file(folder, "words")), read_file(folder, "stdin") or b"", wanted, back)
+    return Case(name, lines_of(read_file(folder, "words")), read_file(folder, "stdin") or b"", wanted, back, folder)
 
 
 def load_all():
@@ -78,14 +80,14 @@ def load_all():
 
 def check_back(program, case):
     """The output of the case as input has to give the case's input."""
-    answer = run(program, case.words, case.wanted.stdout)
+    answer = run(program, case.words, case.wanted.stdout, folder=case.folder)
     return ["the way back:", *problems] if (problems := Wanted(case.stdin).problems(answer)) else []
 
 
 def run_all(program, tally):
     """Runs each case of the folder, and its way back where it is flagged."""
     for case in load_all():
-        problems = case.wanted.problems(run(program, case.words, case.stdin))
+        problems = case.wanted.problems(run(program, case.words, case.stdin, folder=case.folder))
         if case.back and not problems:
             problems = check_back(program, case)
         tally.note(case.name, problems)

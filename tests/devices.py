@@ -6,6 +6,7 @@ was met has to answer as the program does with ample memory and honest devices.
 """
 
 import subprocess
+from dataclasses import dataclass
 
 import cases
 import real_devices
@@ -13,9 +14,21 @@ from preload import Preloaded
 from program import Wanted, fault
 
 READ_CALLS = 4_194_304
-INPUT_LIMIT = 4_000_000
 PIECES = (1, 2, 3, 7)
 MOST = 100_000
+
+
+@dataclass(frozen=True)
+class Input:
+    """How many bytes the program reads under these words, and the fault that it tells of more."""
+
+    words: tuple
+    limit: int
+    too_large: str
+
+
+EDIT = Input((), 4_000_000, "InputTooLarge")
+SHOW = Input(("show", "-"), 1_048_576, "-: TooLarge")
 
 # Cases of the folder that are run under every refusal and failure.
 EDITS = (
@@ -32,27 +45,65 @@ EDITS = (
     "policy_ending_in_a_continuation",
     "mark_with_a_carriage_return",
     "empty_input_has_no_mark",
+    "definition_may_be_replaced_by_delete_and_insert",
+    "insert_of_a_second_definition",
+    "insert_of_a_reserved_word_as_a_name",
+    "syntax_fault_of_an_edit_is_told_by_its_place_in_the_result",
+    "syntax_fault_of_the_policy_comes_before_edits",
+    "policy_is_read_where_the_script_is_empty",
 )
+SHOWS = (
+    "show_of_standard_input",
+    "show_of_an_empty_standard_input",
+    "show_takes_no_script",
+)
+
+# Cases of the folder that are run under every refusal of memory alone: they read no standard input.
 WORDS = (
     "unknown_subcommand_is_a_bad_word",
     "edit_takes_no_word",
     "unknown_long_flag_is_a_bad_word",
-    "help_names_the_program_and_edit",
+    "help_names_the_program_and_its_subcommands",
     "help_of_edit",
+    "help_of_show",
+    "show_without_a_file",
+    "show_of_a_file_that_is_not_there",
+    "show_of_a_folder",
+    "show_tells_each_line_with_its_kind",
+    "show_tells_a_second_definition",
+    "show_tells_a_reserved_word",
+    "show_tells_a_syntax_fault",
+    "show_tells_an_open_end",
+    "show_tells_a_nul",
 )
 
 
+def ordinary_line(number):
+    """A comment, or at every fifth number a user specification."""
+    if number % 5 > 0:
+        return b"# line %d\n" % number
+    return b"user%d ALL=(ALL) \\\n    /usr/bin/tool%d\n" % (number, number)
+
+
 def many_lines_case():
-    """Forty edits on a policy of sixty lines, so that every list grows often."""
-    numbers = range(1, 41)
+    """Twelve edits on a policy of twenty lines, so that every list grows often."""
+    numbers = range(1, 13)
     script = b"".join(b"insert %d\n|# line %d is new\n" % (2 * n, n) for n in numbers)
     inverse = b"".join(b"delete %d\n" % (2 * n) for n in reversed(numbers))
-    old = [b"user%d ALL=(ALL) \\\n    /usr/bin/tool%d\n" % (n, n) for n in range(1, 61)]
+    old = [ordinary_line(number) for number in range(1, 21)]
     new = list(old)
     for n in numbers:
         new.insert(2 * n - 1, b"# line %d is new\n" % n)
     wanted = Wanted(inverse + b"%%\n" + b"".join(new))
-    return cases.Case("forty_edits_on_sixty_lines", (), script + b"%%\n" + b"".join(old), wanted, False)
+    return cases.Case("twelve_edits_on_twenty_lines", (), script + b"%%\n" + b"".join(old), wanted)
+
+
+def many_definitions_case():
+    """`show` of twenty lines of definitions, so that every list and the index of names grow often."""
+    numbers = range(1, 21)
+    policy = b"".join(b"User_Alias A%d = bob, ann : B%d = A%d\n" % (n, n, n) for n in numbers)
+    lines = b"".join(b"%d alias %d\n%d.1 User_Alias A%d 2\n%d.2 User_Alias B%d 1\n" % (6 * (n,)) for n in numbers)
+    return cases.Case("show_of_forty_definitions", ("show", "-"), policy, Wanted(lines))
 
 
 class Stand:
@@ -65,7 +116,7 @@ class Stand:
 
     def run(self, case, **settings):
         """One run of a case under these settings: the answer and the counts."""
-        return self.library.run(self.program, case.words, case.stdin, **settings)
+        return self.library.run(self.program, case, **settings)
 
     def note(self, case, what, problems):
         """Counts one run, named after its case and what was done to it."""
@@ -123,17 +174,22 @@ def refuse_growths(stand, case, wanted, **settings):
             stand.note(case, refusal, [f"still met at {MOST}"])
 
 
-def check_memory(stand, edits, words):
-    """Every growth of every case, and of runs whose devices fail too."""
-    for case in [*edits, *words, many_lines_case()]:
-        refuse_growths(stand, case, case.wanted)
-    case = edits[1]
+def refuse_growths_and_more(stand, case, given):
+    """Every growth of runs whose devices fail too."""
     refuse_growths(stand, case, case.wanted, interrupt_read=1)
     refuse_growths(stand, case, fault("Read"), fail_read=2)
-    refuse_growths(stand, case, fault("InputTooLarge"), endless=1)
+    refuse_growths(stand, case, fault(given.too_large), endless=1)
     for room in (0, 5):
         wanted = Wanted(case.wanted.stdout[:room], fault("Write").stderr, 1)
         refuse_growths(stand, case, wanted, write_room=room)
+
+
+def check_memory(stand, edits, shows, words):
+    """Every growth of every case, and of runs whose devices fail too."""
+    for case in [*edits, *shows, *words, many_lines_case(), many_definitions_case()]:
+        refuse_growths(stand, case, case.wanted)
+    refuse_growths_and_more(stand, edits[1], EDIT)
+    refuse_growths_and_more(stand, shows[0], SHOW)
 
 
 # ---- standard input --------------------------------------------------------------
@@ -167,59 +223,68 @@ def interrupt_up_to_the_last_read(stand, case):
         stand.note(case, f"{interrupted} interrupted reads", wanted.problems(answer))
 
 
-def last_allowed_read(stand, case):
+def last_allowed_read(stand, case, given):
     """What the last allowed read gives still counts; what one more would give does not."""
     last = {"interrupt_reads": READ_CALLS - 1, "fail_read": READ_CALLS}
     past = {"interrupt_reads": READ_CALLS, "fail_read": READ_CALLS + 1}
-    spare = READ_CALLS - INPUT_LIMIT - 1
+    spare = READ_CALLS - given.limit - 1
     for what, settings, wanted in (
         ("last read fails", last, "Read"),
         ("the read behind the last would fail", past, "NoEnd"),
-        ("last read passes the limit", {"interrupt_reads": spare, "endless": 1, "short_read": 1}, "InputTooLarge"),
+        ("last read passes the limit", {"interrupt_reads": spare, "endless": 1, "short_read": 1}, given.too_large),
         ("last read meets the limit", {"interrupt_reads": spare + 1, "endless": 1, "short_read": 1}, "NoEnd"),
     ):
         answer, _ = stand.run(case, **settings)
         stand.note(case, what, fault(wanted).problems(answer))
 
 
-def endless_problems(answer, report):
-    """An endless input is given up as soon as its byte 4,000,001 is there."""
-    problems = fault("InputTooLarge").problems(answer)
+def endless_problems(answer, report, given):
+    """An endless input is given up as soon as it has one byte more than may be read."""
+    problems = fault(given.too_large).problems(answer)
     before = report.read_bytes - report.last_read
-    if not before <= INPUT_LIMIT < report.read_bytes:
+    if not before <= given.limit < report.read_bytes:
         problems.append(f"reading stopped at byte {report.read_bytes}, the last read from {before} on")
     return problems
 
 
-def endless_input(stand):
+def endless_input(stand, given):
     """An input without end, in big reads and byte by byte."""
-    case = cases.Case("endless_input", (), b"", fault("InputTooLarge"), False)
+    case = cases.Case(f"endless_input_of_{given.limit}", given.words, b"", fault(given.too_large))
     for piece in (0, 1, 7):
         answer, report = stand.run(case, endless=1, short_read=piece)
-        stand.note(case, f"reads of {piece or 'any'} bytes", endless_problems(answer, report))
+        stand.note(case, f"reads of {piece or 'any'} bytes", endless_problems(answer, report, given))
 
 
-def input_at_the_limit_byte_by_byte(stand):
-    """The greatest input is read though each read gives one byte alone."""
-    script = b"#" * INPUT_LIMIT
-    case = cases.Case("input_at_the_limit_byte_by_byte", (), script, fault("NoMark"), False)
+def read_byte_by_byte(stand, case):
+    """The whole input is read though each read gives one byte alone."""
     answer, report = stand.run(case, short_read=1)
     problems = case.wanted.problems(answer)
-    if report.read_bytes != INPUT_LIMIT:
-        problems.append(f"bytes read: wanted {INPUT_LIMIT}, came {report.read_bytes}")
+    if report.read_bytes != len(case.stdin):
+        problems.append(f"bytes read: wanted {len(case.stdin)}, came {report.read_bytes}")
     stand.note(case, "reads of 1 byte", problems)
 
 
-def check_reads(stand, edits):
+def inputs_at_the_limit():
+    """The greatest inputs that are read to their end."""
+    script = b"#" * EDIT.limit
+    yield cases.Case("input_of_edit_at_the_limit", EDIT.words, script, fault("NoMark"))
+    line = b"#" * 65_535 + b"\n"
+    shown = b"".join(b"%d comment %d\n" % (number, number) for number in range(1, 17))
+    yield cases.Case("input_of_show_at_the_limit", SHOW.words, line * 16, Wanted(shown))
+
+
+def check_reads(stand, edits, shows):
     """All that can go wrong with standard input."""
-    for case in edits:
+    for case in [*edits, *shows]:
         fail_reads(stand, case)
-    for case in (edits[1], edits[5]):
+    for case in (edits[1], edits[5], shows[0], shows[2]):
         interrupt_for_ever(stand, case)
         interrupt_up_to_the_last_read(stand, case)
-    last_allowed_read(stand, edits[1])
-    endless_input(stand)
-    input_at_the_limit_byte_by_byte(stand)
+    for case, given in ((edits[1], EDIT), (shows[0], SHOW)):
+        last_allowed_read(stand, case, given)
+        endless_input(stand, given)
+    for case in inputs_at_the_limit():
+        read_byte_by_byte(stand, case)
 
 
 # ---- standard output -------------------------------------------------------------
@@ -242,9 +307,9 @@ def fail_writes(stand, case, piece):
         stand.note(case, f"writes of {piece or 'any'} bytes, room for {room}", problems)
 
 
-def check_writes(stand, edits):
+def check_writes(stand, written):
     """All that can go wrong with standard output."""
-    for case in [case for case in edits if case.wanted.stdout]:
+    for case in [case for case in written if case.wanted.stdout]:
         for piece in (0, 3):
             fail_writes(stand, case, piece)
             how = f"writes of {piece or 'any'} bytes, "
@@ -284,8 +349,10 @@ def run_all(program, tally):
     """Builds the library and runs everything above."""
     by_name = {case.name: case for case in cases.load_all()}
     edits = [by_name[name] for name in EDITS]
+    shows = [by_name[name] for name in SHOWS]
     words = [by_name[name] for name in WORDS]
-    real_devices.run_all(program, tally, edits[1])
+    for case, given in ((edits[1], EDIT), (shows[0], SHOW)):
+        real_devices.run_all(program, tally, case, given.too_large)
     try:
         library = Preloaded()
     except (OSError, subprocess.CalledProcessError) as error:
@@ -295,6 +362,6 @@ def run_all(program, tally):
         stand = Stand(program, library, tally)
         check_library(stand, edits[1])
         check_pieces(stand, by_name.values())
-        check_reads(stand, edits)
-        check_writes(stand, edits)
-        check_memory(stand, edits, words)
+        check_reads(stand, edits, shows)
+        check_writes(stand, [*edits, *shows])
+        check_memory(stand, edits, shows, words)

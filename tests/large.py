@@ -1,7 +1,8 @@
 """Cases at the limits, whose inputs are too big to be kept as files.
 
-Each function answers the input of one case and what has to come of it; its name
-is the case's name. Every accepted one is also run back.
+Each function answers the input of one case, what has to come of it and the words
+of `show` where there are any; its name is the case's name. Every accepted edit is
+also run back.
 """
 
 from program import Wanted, fault, run
@@ -10,6 +11,7 @@ INPUT_LIMIT = 4_000_000
 POLICY_LIMIT = 1_048_576
 LINE_LIMIT = 65_536
 EDIT_LIMIT = 65_536
+ALIAS_LIMIT = 4_096
 
 MARK = b"%%\n"
 SMALL = b"# a\n"
@@ -46,6 +48,16 @@ def refused(script, policy, text):
 def accepted(script, policy, inverse, edited):
     """A script on a policy that gives this inverse and this text."""
     return script + MARK + policy, Wanted(inverse + MARK + edited)
+
+
+def shown(policy, text):
+    """What `show` writes of a policy."""
+    return policy, Wanted(text), "show", "-"
+
+
+def not_shown(policy, text):
+    """A policy of which `show` tells the fault with this text."""
+    return policy, fault(text), "show", "-"
 
 
 # ---- the input ---------------------------------------------------------------
@@ -165,7 +177,8 @@ def open_line_past_the_limit():
 
 @case
 def line_of_many_pieces_at_the_limit_is_read():
-    return unchanged(b"x\\\n" * (LINE_LIMIT // 3) + b"\n" + SMALL)
+    line = b"bob ALL=ALL"
+    return unchanged(line + b"\\\n" * ((LINE_LIMIT - len(line)) // 2) + b"\n" + SMALL)
 
 
 @case
@@ -291,9 +304,167 @@ def open_line_comes_before_the_policy_limit():
 
 
 @case
+def policy_limit_comes_before_a_syntax_fault():
+    return refused(b"insert 1\n|bob\n", full_policy(), "edit 1: TooLarge")
+
+
+@case
+def syntax_fault_in_a_policy_at_the_limit():
+    policy = full_policy()[LINE_LIMIT:] + comment(LINE_LIMIT - 4)
+    return refused(b"insert 1\n|bob\n", policy, "edit 1: NotPolicy: policy:1:4: syntax error: EndOfLine")
+
+
+@case
 def open_last_line_comes_before_the_policy_limit():
     policy = full_policy()[:-1] + b"#"
     return refused(b"insert 17\n|\n", policy, "edit 1: OpenLine")
+
+
+# ---- the definitions ---------------------------------------------------------
+
+KINDS = (b"User_Alias", b"Runas_Alias", b"Host_Alias", b"Cmnd_Alias")
+
+
+def definitions(kind, count):
+    """So many definitions of a kind, each in a line of its own."""
+    return b"".join(b"%s A%d = ALL\n" % (kind, number) for number in range(1, count + 1))
+
+
+def definitions_in_one_line(kind, count):
+    """So many definitions of a kind in one line."""
+    return kind + b" " + b":".join(b"A%d=ALL" % number for number in range(1, count + 1)) + b"\n"
+
+
+@case
+def policy_of_as_many_definitions_as_allowed_is_read():
+    return unchanged(b"".join(definitions(kind, ALIAS_LIMIT) for kind in KINDS))
+
+
+@case
+def policy_with_one_definition_too_many():
+    return refused(b"", definitions(b"Host_Alias", ALIAS_LIMIT + 1), "policy: too many Host_Alias")
+
+
+@case
+def definitions_of_both_words_of_commands_count_together():
+    policy = definitions(b"Cmd_Alias", ALIAS_LIMIT) + b"Cmnd_Alias B = ALL\n"
+    return refused(b"", policy, "policy: too many Cmnd_Alias")
+
+
+@case
+def line_with_one_definition_too_many():
+    return refused(b"", definitions_in_one_line(b"User_Alias", ALIAS_LIMIT + 1), "policy: too many User_Alias")
+
+
+@case
+def insert_of_the_last_definition_allowed_is_accepted():
+    policy, line = definitions(b"Runas_Alias", ALIAS_LIMIT - 1), b"Runas_Alias B = ALL\n"
+    return accepted(b"insert 1\n|" + line, policy, b"delete 1\n", line + policy)
+
+
+@case
+def insert_of_one_definition_too_many():
+    policy = definitions(b"Runas_Alias", ALIAS_LIMIT)
+    script = b"insert 1\n|Runas_Alias B = ALL\n"
+    return refused(script, policy, "edit 1: NotPolicy: policy: too many Runas_Alias")
+
+
+@case
+def insert_of_a_definition_behind_a_delete_in_a_full_kind_is_accepted():
+    policy = definitions(b"User_Alias", ALIAS_LIMIT)
+    line = b"User_Alias A1 = ALL\n"
+    return accepted(
+        b"delete 1\ninsert %d\n|" % ALIAS_LIMIT + line,
+        policy,
+        b"delete %d\ninsert 1\n|" % ALIAS_LIMIT + line,
+        policy.removeprefix(line) + line,
+    )
+
+
+@case
+def insert_of_a_definition_of_another_kind_is_accepted():
+    policy, line = definitions(b"User_Alias", ALIAS_LIMIT), b"Host_Alias A1 = ALL\n"
+    return accepted(b"insert 1\n|" + line, policy, b"delete 1\n", line + policy)
+
+
+@case
+def reserved_word_comes_before_one_definition_too_many():
+    policy = definitions(b"Cmnd_Alias", ALIAS_LIMIT) + b"Cmnd_Alias ALL = ALL : B = ALL\n"
+    return refused(b"", policy, "policy: Cmnd_Alias ALL reserved")
+
+
+@case
+def one_definition_too_many_comes_before_a_reserved_word_behind_it():
+    policy = definitions(b"Cmnd_Alias", ALIAS_LIMIT) + b"Cmnd_Alias B = ALL : ALL = ALL\n"
+    return refused(b"", policy, "policy: too many Cmnd_Alias")
+
+
+# ---- what show writes --------------------------------------------------------
+
+
+@case
+def show_of_a_policy_at_the_limit():
+    lines = range(1, POLICY_LIMIT // LINE_LIMIT + 1)
+    return shown(full_policy(), b"".join(b"%d comment %d\n" % (number, number) for number in lines))
+
+
+@case
+def show_of_a_policy_one_byte_past_the_limit():
+    return not_shown(full_policy() + b"\n", "-: TooLarge")
+
+
+@case
+def show_of_a_policy_far_past_the_limit():
+    return not_shown(b"bob ALL=ALL\n" * (INPUT_LIMIT // 4), "-: TooLarge")
+
+
+@case
+def policy_past_the_limit_comes_before_other_faults_of_show():
+    return not_shown(b"bob\n\0" + full_policy(), "-: TooLarge")
+
+
+@case
+def show_of_a_line_past_the_limit():
+    return not_shown(b"bob\n" + comment(LINE_LIMIT + 1), "-:2:1: line too long")
+
+
+@case
+def show_of_a_line_at_the_limit():
+    line = b"bob ALL=ALL"
+    policy = line + b"\\\n" * ((LINE_LIMIT - len(line)) // 2) + b"\n" + SMALL
+    return shown(policy, b"1 spec 1\n2 comment %d\n" % (policy.count(b"\n")))
+
+
+@case
+def show_of_very_many_lines():
+    count = POLICY_LIMIT // 12
+    lines = b"".join(b"%d spec %d\n" % (number, number) for number in range(1, count + 1))
+    return shown(b"bob ALL=ALL\n" * count, lines)
+
+
+@case
+def show_of_very_many_definitions():
+    policy = b"".join(definitions(kind, ALIAS_LIMIT) for kind in KINDS)
+    names = [b"%s A%d" % (kind, number) for kind in KINDS for number in range(1, ALIAS_LIMIT + 1)]
+    lines = b"".join(b"%d alias %d\n%d.1 %s 1\n" % (n, n, n, name) for n, name in enumerate(names, 1))
+    return shown(policy, lines)
+
+
+@case
+def show_of_very_many_definitions_in_one_line():
+    lines = (b"1.%d User_Alias A%d 1\n" % (number, number) for number in range(1, ALIAS_LIMIT + 1))
+    return shown(definitions_in_one_line(b"User_Alias", ALIAS_LIMIT), b"1 alias 1\n" + b"".join(lines))
+
+
+@case
+def show_of_one_definition_too_many():
+    return not_shown(definitions(b"User_Alias", ALIAS_LIMIT + 1), "-: too many User_Alias")
+
+
+@case
+def show_of_very_many_members():
+    line = b"Cmnd_Alias A = /a" + b",/a" * 20_000 + b"\n"
+    return shown(line, b"1 alias 1\n1.1 Cmnd_Alias A 20001\n")
 
 
 # ---- the script --------------------------------------------------------------
@@ -362,10 +533,10 @@ def too_many_edits_come_before_policy_faults():
 
 
 def run_all(program, tally):
-    """Runs each case of the table, and the way back of each accepted one."""
+    """Runs each case of the table, and the way back of each accepted edit."""
     for make in CASES:
-        stdin, wanted = make()
-        problems = wanted.problems(run(program, (), stdin))
-        if wanted.status == 0 and not problems:
+        stdin, wanted, *words = make()
+        problems = wanted.problems(run(program, words, stdin))
+        if wanted.status == 0 and not words and not problems:
             problems = Wanted(stdin).problems(run(program, (), wanted.stdout))
         tally.note(make.__name__, problems)

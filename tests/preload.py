@@ -54,13 +54,13 @@ class Preloaded:
     def __exit__(self, *_):
         self.folder.cleanup()
 
-    def run(self, program, words, stdin, **settings):
-        """Runs the program; `settings` are the library's, without `SHIM_`, in lower case."""
+    def run(self, program, case, **settings):
+        """Runs the program on a case; `settings` are the library's, without `SHIM_`, in lower case."""
         with open(self.report, "wb") as file:
             file.write(bytes(LAYOUT.size))
         environment = {"LD_PRELOAD": self.library, "SHIM_REPORT": self.report}
         for name, value in settings.items():
             environment["SHIM_" + name.upper()] = str(value)
-        answer = run(program, words, stdin, environment)
+        answer = run(program, case.words, case.stdin, environment, folder=case.folder)
         with open(self.report, "rb") as file:
             return answer, Report(*LAYOUT.unpack(file.read()))

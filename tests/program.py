@@ -50,8 +50,8 @@ def fault(text):
     return Wanted(stderr=NAME + text.encode() + b"\n", status=1)
 
 
-def run(program, words=(), stdin=b"", environment=None, stdout=subprocess.PIPE):
-    """Runs `program` with these words; `stdin` is bytes or an open file.
+def run(program, words=(), stdin=b"", environment=None, stdout=subprocess.PIPE, folder=None):
+    """Runs `program` with these words, in `folder` where one is given; `stdin` is bytes or an open file.
 
     Where `stdout` is an open file, the answer holds nothing of what went there.
     """
@@ -62,6 +62,7 @@ def run(program, words=(), stdin=b"", environment=None, stdout=subprocess.PIPE):
             stdout=stdout,
             stderr=subprocess.PIPE,
             env=environment or {},
+            cwd=folder,
             timeout=SECONDS,
             check=False,
             **how,

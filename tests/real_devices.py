@@ -6,17 +6,17 @@ import threading
 from program import fault, run
 
 
-def run_all(program, tally, case):
-    """A folder as input, a full device and a closed pipe as output, an endless pipe."""
+def run_all(program, tally, case, too_large):
+    """A folder as input, a full device and a closed pipe as output, an endless pipe, which is told with `too_large`."""
     folder = os.open("/", os.O_RDONLY)
     try:
-        problems = fault("Read").problems(run(program, (), folder))
+        problems = fault("Read").problems(run(program, case.words, folder))
     finally:
         os.close(folder)
-    tally.note("a folder as standard input", problems)
+    tally.note(f"{case.name}, a folder as standard input", problems)
     for name, open_output in (("a full device", full_device), ("a closed pipe", closed_pipe)):
-        tally.note(f"{name} as standard output", write_problems(program, case, open_output()))
-    tally.note("a pipe without end as standard input", pipe_problems(program))
+        tally.note(f"{case.name}, {name} as standard output", write_problems(program, case, open_output()))
+    tally.note(f"{case.name}, a pipe without end as standard input", pipe_problems(program, case, too_large))
 
 
 def full_device():
@@ -49,13 +49,13 @@ def feed(writer):
             pass
 
 
-def pipe_problems(program):
+def pipe_problems(program, case, too_large):
     """The program ends by itself though the pipe never does."""
     reader, writer = os.pipe()
     feeder = threading.Thread(target=feed, args=(writer,))
     feeder.start()
     try:
-        problems = fault("InputTooLarge").problems(run(program, (), reader))
+        problems = fault(too_large).problems(run(program, case.words, reader))
     finally:
         os.close(reader)
         feeder.join()

@@ -82,6 +82,10 @@ impl<T: Drop> Items<T> {
     pub fn push(&mut self, item: T) -> Result<(), AllocError>
         ensures { OnOk result (self.new ≡ self.old ++ item ∷ []) }
     {
+        // A list of one item is the most frequent, and takes no more room than that.
+        if self.items.len() == self.items.capacity() {
+            self.items.reserve_exact(self.items.len().max(1))?;
+        }
         self.items.push(item)?;
         Ok(())
     }

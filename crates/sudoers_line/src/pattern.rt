@@ -121,7 +121,7 @@ fn push_escape(pattern: &mut Vec<u8>, spelling: Spelling, rest: &[u8]) -> Result
 pub fn pattern(alloc: Global, spelling: Spelling, text: &[u8]) -> Result<Items<u8>, AllocError>
     ensures { IfOk result (λ pattern. pattern ≡ pattern_of spelling text.now) }
 {
-    let mut pattern = Vec::new(alloc);
+    let mut pattern = Vec::with_capacity(alloc, text.len())?;
     let mut at = 0;
     while at < text.len() {
         let byte = text[at];

@@ -6,8 +6,8 @@ mod edit;
 mod editor;
 mod fault;
 mod physical;
-mod reread;
 mod program;
+mod reread;
 mod script;
 mod script_line;
 mod show;
@@ -21,10 +21,9 @@ use fault::{ToolFault, fault_text};
 use program::run_edit;
 use show::run_show;
 use std::alloc::{AllocError, Global};
-use std::fs;
-use std::io;
 use std::io::Write;
 use std::process::ExitCode;
+use std::{fs, io};
 
 /// The policy's name in the texts of the faults of `edit`.
 const POLICY: &str = "policy";
@@ -84,7 +83,9 @@ fn command_words<'a>(alloc: Global) -> Result<Command<'a>, AllocError> {
         .required(true)
         .help("The policy file, or `-` for the standard input");
     let show = Command::new(alloc, "show")
-        .about("Shows the logical lines of a policy with their numbers and kinds, and its definitions of aliases")
+        .about(
+            "Shows the logical lines of a policy with their numbers and kinds, and its definitions of aliases",
+        )
         .arg(file)?;
     Command::new(alloc, "sudoers_tool")
         .about("Shows and edits sudoers policies. With no command it does what `edit` does")
@@ -124,7 +125,9 @@ fn show_file(rt: &HostRuntime, file: &str) -> Result<u8, ToolFault> {
     }
     match fs::open(rt, file) {
         Ok(opened) => run_show(rt.alloc(), &mut Counted::new(opened), &mut writer),
-        Err(error) if error.kind() == io::ErrorKind::OutOfMemory => Err(ToolFault::from(AllocError)),
+        Err(error) if error.kind() == io::ErrorKind::OutOfMemory => Err(ToolFault::from(
+            AllocError,
+        )),
         Err(_) => Err(ToolFault::Read),
     }
 }

@@ -184,3 +184,6 @@ fn line_word(kind: LineKind) -> &'static [u8]
         LineKind::Spec => b"spec",
     }
 }
+
+#[cfg(test)]
+mod tests;

@@ -47,7 +47,11 @@ fn edits_and_their_inverse_lead_there_and_back(rt: HostRuntime) -> Result<(), Fa
 #[test]
 fn faults_are_told_by_name_and_place(rt: HostRuntime) -> Result<(), Fail> {
     let alloc = rt.alloc();
-    let faults: [(&[u8], &[u8]); 12] = [
+    let faults: [(&[u8], &[u8]); 13] = [
+        (
+            b"insert 2\n|User_Alias A = y\n%%\nUser_Alias A = x\n",
+            b"edit 1: NotPolicy: policy: User_Alias A defined twice",
+        ),
         (b"delete 1\n", b"NoMark"),
         (b"delete 0\n%%\n", b"script:1: BadNumber"),
         (b"insert 1\n%%\n", b"script:1: NoPayload"),
@@ -122,9 +126,11 @@ fn a_reader_that_fails_at_any_call_is_told_and_nothing_is_written(
     for calls in 0..text.len() + 1 {
         let mut reader = Counted::new(Failing { text, calls });
         let mut writer = Counted::new(Vec::<u8>::new(alloc));
-        assert_eq!(rt;
-            run_edit(alloc, &mut reader, &mut writer),
-            Err(ToolFault::Read)
+        assert!(rt;
+            matches!(
+                run_edit(alloc, &mut reader, &mut writer),
+                Err(ToolFault::Read)
+            )
         );
         assert_eq!(rt; reader.failures(), 1);
         assert_eq!(rt; writer.device().len(), 0);
@@ -132,7 +138,7 @@ fn a_reader_that_fails_at_any_call_is_told_and_nothing_is_written(
     let calls = text.len() + 1;
     let mut reader = Counted::new(Failing { text, calls });
     let mut writer = Counted::new(Vec::<u8>::new(alloc));
-    assert_eq!(rt; run_edit(alloc, &mut reader, &mut writer), Ok(0));
+    assert!(rt; matches!(run_edit(alloc, &mut reader, &mut writer), Ok(0)));
     assert_eq!(rt;
         writer.device().as_slice(),
         b"insert 1\n|# a\n%%\n# b\n".as_slice()
@@ -165,18 +171,22 @@ fn a_reader_without_end_is_given_up(rt: HostRuntime) -> Result<(), Fail> {
         calls: 0,
     });
     let mut writer = Counted::new(Vec::<u8>::new(alloc));
-    assert_eq!(rt;
-        run_edit(alloc, &mut reader, &mut writer),
-        Err(ToolFault::NoEnd)
+    assert!(rt;
+        matches!(
+            run_edit(alloc, &mut reader, &mut writer),
+            Err(ToolFault::NoEnd)
+        )
     );
     assert_eq!(rt; reader.device().calls, 4_194_304);
     let mut reader = Counted::new(Endless {
         interrupted: false,
         calls: 0,
     });
-    assert_eq!(rt;
-        run_edit(alloc, &mut reader, &mut writer),
-        Err(ToolFault::InputTooLarge)
+    assert!(rt;
+        matches!(
+            run_edit(alloc, &mut reader, &mut writer),
+            Err(ToolFault::InputTooLarge)
+        )
     );
     assert_eq!(rt; writer.device().len(), 0);
     Ok(())
@@ -215,9 +225,11 @@ fn a_writer_that_fails_has_taken_a_front_of_the_output(rt: HostRuntime) -> Resul
             left,
             taken: Vec::new(alloc),
         });
-        assert_eq!(rt;
-            run_edit(alloc, &mut reader, &mut writer),
-            Err(ToolFault::Write)
+        assert!(rt;
+            matches!(
+                run_edit(alloc, &mut reader, &mut writer),
+                Err(ToolFault::Write)
+            )
         );
         assert_eq!(rt; writer.failures(), 1);
         assert_eq!(rt; writer.device().taken.as_slice(), &whole[..left]);
