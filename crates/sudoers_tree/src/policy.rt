@@ -22,6 +22,7 @@ use crate::mention::Sought;
 use crate::place::{Place, Span};
 use crate::reading::read_lines;
 use std::alloc::{AllocError, Global};
+use std::boxed::Box;
 use std::marker::Model;
 use sudoers_line::{Kind, Member, Node};
 use sudoers_text::cut;
@@ -30,7 +31,7 @@ use sudoers_text::cut;
 #[derive(Drop)]
 pub struct Policy {
     lines: Vec<Line>,
-    index: Index,
+    index: Box<Index>,
     size: usize,
     alloc: Global,
 }
@@ -49,7 +50,7 @@ impl Model for Policy {
     ghost view = { λ policy. policy.lines.items };
 
     ghost invariant = { λ policy. (read_of (join (texts policy.lines.items)) ≡ Ok policy.lines.items)
-        × Indexes policy.index (definitions policy.lines.items)
+        × Indexes policy.index.value (definitions policy.lines.items)
         × (policy.size ≡ length (join (texts policy.lines.items))) };
 }
 
@@ -73,7 +74,7 @@ impl Policy {
         let reading = read_lines(alloc, &lines)?;
         Ok(Policy {
             lines: reading.lines,
-            index: reading.index,
+            index: Box::new(alloc, reading.index)?,
             size: text.len(),
             alloc,
         })

@@ -5,6 +5,8 @@ use Rattle.sudoers_tree.specs.declared.fault.ReadFault.TheVariants.{NoMemory}
 use Rattle.sudoers_tree.specs.Wrapped.{fault_of_text}
 use Rattle.sudoers_tree.specs.Fault.{IsFaultOf}
 use Rattle.sudoers_tree.specs.Reading.{read_of, IsOutcome, ReadGives}
+use Rattle.sudoers_tree.specs.Definition.{definitions}
+use Rattle.sudoers_tree.specs.Index.{Indexes}
 use Rattle.sudoers_tree.proofs.ReadText.{not_cut, is_cut, faulty, fault_given}
 use Rattle.sudoers_tree.proofs.policy.Policy.read.Goals as goal
 
@@ -46,4 +48,6 @@ invariant_of-result c =
     let outcome : read_of text ≡ Ok c.in_ok-reading.reading.lines.items =
     is_cut text c.in_ok-lines.lines c.in_ok-lines.ensures.outcome ∙ c.in_ok-reading.ensures.0 in
     let is : IsOutcome text (Ok c.in_ok-reading.reading.lines.items) = subst (IsOutcome text) outcome (c.read_is.ensures text) in
-    (ap read_of is.1 ∙ outcome, c.in_ok-reading.ensures.1, ap length (sym is.1))
+    let kept : Indexes c.in_ok-new.field-0.value (definitions c.in_ok-reading.reading.lines.items) =
+    subst (λ index. Indexes index (definitions c.in_ok-reading.reading.lines.items)) (sym c.in_ok-new.ensures.ok) c.in_ok-reading.ensures.1 in
+    (ap read_of is.1 ∙ outcome, kept, ap length (sym is.1))
