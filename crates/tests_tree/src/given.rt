@@ -76,12 +76,16 @@ pub fn are_answered(rt: &impl Abort, alloc: Global, table: &str) -> Result<(), F
     Ok(())
 }
 
+/// What the bytes say as one line, `none` where they say nothing.
+pub fn one_line_text(alloc: Global, text: &[u8]) -> Result<String, AllocError> {
+    let node = read_line(alloc, text)?;
+    node_text(alloc, text, node.as_ref())
+}
+
 /// Each text of the table says, as one line, what is below it.
 pub fn are_answered_as_one_line(rt: &impl Abort, alloc: Global, table: &str) -> Result<(), Fail> {
     for (case, wanted) in cases(rt, alloc, table)? {
-        let text = text_of(alloc, case)?;
-        let node = read_line(alloc, text.as_bytes())?;
-        let found = node_text(alloc, text.as_bytes(), node.as_ref())?;
+        let found = one_line_text(alloc, text_of(alloc, case)?.as_bytes())?;
         assert_eq!(rt; found.as_str(), wanted, "of {case}");
     }
     Ok(())

@@ -1,10 +1,7 @@
 //! What bytes say that are one logical line.
 
-use crate::given::{are_answered_as_one_line, repeated};
-use crate::show::node_text;
+use crate::given::{are_answered_as_one_line, one_line_text, repeated};
 use std::test::Fail;
-use sudoers_line::Node;
-use sudoers_tree::read_line;
 
 #[test]
 fn one_line_is_told_with_what_it_says(rt: HostRuntime) -> Result<(), Fail> {
@@ -48,7 +45,7 @@ spec [#501] [ALL] = ALL
 
 #[test]
 fn what_is_no_line_says_nothing(rt: HostRuntime) -> Result<(), Fail> {
-    assert!(rt; read_line(rt.alloc(), b"")?.is_none());
+    assert_eq!(rt; one_line_text(rt.alloc(), b"")?.as_str(), "none");
     are_answered_as_one_line(
         &rt,
         rt.alloc(),
@@ -132,25 +129,41 @@ alias host: A [x] : A [y]
 #[test]
 fn a_line_has_no_limits(rt: HostRuntime) -> Result<(), Fail> {
     let text = repeated(rt.alloc(), &[("# ", 1), ("a", 70_000), ("\n", 1)])?;
-    let node = read_line(rt.alloc(), text.as_bytes())?;
-    assert!(rt; matches!(&node, Some(Node::Comment)));
+    assert_eq!(rt;
+        one_line_text(rt.alloc(), text.as_bytes())?.as_str(),
+        "comment"
+    );
     let text = repeated(rt.alloc(), &[(" ", 1_048_577)])?;
-    let node = read_line(rt.alloc(), text.as_bytes())?;
-    assert!(rt; matches!(&node, Some(Node::Blank)));
+    assert_eq!(rt;
+        one_line_text(rt.alloc(), text.as_bytes())?.as_str(),
+        "blank"
+    );
     let text = repeated(
         rt.alloc(),
         &[("bob \\\n", 1), ("#", 1_100_000), ("\\\n", 1)],
     )?;
-    assert!(rt; read_line(rt.alloc(), text.as_bytes())?.is_none());
+    assert_eq!(rt;
+        one_line_text(rt.alloc(), text.as_bytes())?.as_str(),
+        "none"
+    );
     let text = repeated(
         rt.alloc(),
         &[("bob ALL=ALL", 1), (" ", 65_536), ("\\\n", 40_000)],
     )?;
-    assert!(rt; read_line(rt.alloc(), text.as_bytes())?.is_none());
+    assert_eq!(rt;
+        one_line_text(rt.alloc(), text.as_bytes())?.as_str(),
+        "none"
+    );
     let text = repeated(rt.alloc(), &[("# ", 1), ("a", 70_000), ("\n\n", 1)])?;
-    assert!(rt; read_line(rt.alloc(), text.as_bytes())?.is_none());
+    assert_eq!(rt;
+        one_line_text(rt.alloc(), text.as_bytes())?.as_str(),
+        "none"
+    );
     let text = repeated(rt.alloc(), &[("# ", 1), ("a", 70_000), ("\0", 1)])?;
-    assert!(rt; read_line(rt.alloc(), text.as_bytes())?.is_none());
+    assert_eq!(rt;
+        one_line_text(rt.alloc(), text.as_bytes())?.as_str(),
+        "none"
+    );
     Ok(())
 }
 
@@ -166,16 +179,14 @@ fn a_long_line_is_read_whole(rt: HostRuntime) -> Result<(), Fail> {
             ("list", 1),
         ],
     )?;
-    let node = read_line(rt.alloc(), text.as_bytes())?;
-    let found = node_text(rt.alloc(), text.as_bytes(), node.as_ref())?;
+    let found = one_line_text(rt.alloc(), text.as_bytes())?;
     assert_eq!(rt; found.as_str(), "spec [bob] [ALL] = ALL, list");
     let text = repeated(rt.alloc(), &[("User_Alias A1=x", 1), (":A1=x", 5_000)])?;
-    let node = read_line(rt.alloc(), text.as_bytes())?;
     let wanted = repeated(
         rt.alloc(),
         &[("alias user: A1 [x]", 1), (" : A1 [x]", 5_000)],
     )?;
-    let found = node_text(rt.alloc(), text.as_bytes(), node.as_ref())?;
+    let found = one_line_text(rt.alloc(), text.as_bytes())?;
     assert!(rt; found.as_str() == wanted.as_str());
     Ok(())
 }
