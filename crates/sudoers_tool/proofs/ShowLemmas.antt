@@ -1,5 +1,5 @@
 -- A file that is too large.
-use Rattle.std.proofs.Common.{◌≡◌, ◌<◌, ℕ, List, length, Option, Some, None, Err, IfSome, inr, subst, sym, refl}
+use Rattle.std.proofs.Common.{◌≡◌, ◌<◌, ◌++◌, ◌∙◌, ap, codes, ℕ, Bool, List, length, Option, Some, None, Err, IfSome, inr, subst, sym, refl}
 use Rattle.std.proofs.lemmas.Bool.{lt-ltb}
 use Rattle.sudoers_text.specs.Fault.{text_limit}
 use Rattle.sudoers_text.specs.Cut.{cut_of}
@@ -9,13 +9,25 @@ use Rattle.sudoers_tree.specs.Reading.{read_of}
 use Rattle.sudoers_tool.specs.declared.fault.LayerFault.TheVariants as layer
 use Rattle.sudoers_tool.specs.declared.fault.ToolFault.{ToolFault}
 use Rattle.sudoers_tool.specs.declared.fault.ToolFault.TheVariants as tool
-use Rattle.sudoers_tool.specs.Show.{show_output, TellsShow}
+use Rattle.sudoers_tool.specs.FaultText.{text_of_read}
+use Rattle.sudoers_tool.specs.Show.{show_read, show_output, TellsShow}
+use Rattle.sudoers_tool.specs.Check.{TellsCheck, check_text, check_status}
+
+read_large : (input : List ℕ) → text_limit < length input → read_of input ≡ Err (read.Text text.TooLarge)
+unfolding read_of cut_of
+read_large input large = rw (lt-ltb text_limit (length input) large) refl
 
 too_large : (input : List ℕ) → text_limit < length input → show_output input ≡ Err (layer.Policy (read.Text text.TooLarge))
-unfolding read_of cut_of
-too_large input large = rw (lt-ltb text_limit (length input) large) refl
+too_large input large = ap show_read (read_large input large)
 
 pub tells_large : (known : Option (List ℕ)) (fault : ToolFault) → fault ≡ tool.Layer (layer.Policy (read.Text text.TooLarge))
     → IfSome known (λ (input : List ℕ). text_limit < length input) → IfSome known (TellsShow fault)
 tells_large None fault is large = tt
 tells_large (Some input) fault is large = subst (λ f. TellsShow f input) (sym is) (inr (too_large input large))
+
+-- What is told of a file that is too large when it is checked.
+pub tells_check : (known : Option (List ℕ)) (file : List ℕ) (strict : Bool) (told : List ℕ) (status : ℕ) → told ≡ text_of_read (read.Text text.TooLarge) file ++ codes "\n" → status ≡ 1
+    → IfSome known (λ (input : List ℕ). text_limit < length input) → IfSome known (TellsCheck file strict told status)
+tells_check None file strict told status is one large = tt
+tells_check (Some input) file strict told status is one large =
+    (is ∙ ap (check_text file strict) (sym (read_large input large)), one ∙ ap (check_status strict) (sym (read_large input large)))

@@ -6,9 +6,9 @@ use Rattle.sudoers_text.specs.declared.fault.TextFault.TheVariants as text
 use Rattle.sudoers_line.specs.declared.fault.Why.{Why}
 use Rattle.sudoers_line.specs.declared.fault.Why.TheVariants as why
 use Rattle.sudoers_line.specs.declared.node.Kind.{Kind}
-use Rattle.sudoers_line.specs.declared.node.Kind.TheVariants as kind
 use Rattle.sudoers_tree.specs.declared.fault.ReadFault.{ReadFault}
 use Rattle.sudoers_tree.specs.declared.fault.ReadFault.TheVariants as read
+use Rattle.sudoers_tree.specs.Kind.{kind_name}
 use Rattle.sudoers_tool.specs.declared.edit.EditFault.{EditFault}
 use Rattle.sudoers_tool.specs.declared.edit.EditFault.TheVariants as edit
 use Rattle.sudoers_tool.specs.declared.script.ScriptFault.{ScriptFault}
@@ -25,12 +25,6 @@ text_of_text (text.LineTooLong line) file = file ++ codes ":" ++ decimal line ++
 text_of_text (text.Nul at) file = file ++ codes ": NUL at byte " ++ decimal at
 text_of_text text.OpenContinuation file = file ++ codes ": OpenContinuation"
 text_of_text text.NoMemory file = codes "NoMemory"
-
-abbrev pub kind_name : Kind → List ℕ
-kind_name kind.User = codes "User_Alias"
-kind_name kind.Runas = codes "Runas_Alias"
-kind_name kind.Host = codes "Host_Alias"
-kind_name kind.Cmnd = codes "Cmnd_Alias"
 
 abbrev pub why_name : Why → List ℕ
 why_name why.UnexpectedByte = codes "UnexpectedByte"

@@ -11,3 +11,4 @@ pub mod Shown
 pub mod LayerOf
 pub mod Program
 pub mod Show
+pub mod Check

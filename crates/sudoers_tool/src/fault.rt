@@ -1,14 +1,14 @@
 //! Why the program gives up, and the text that it then shows.
 ghost use Rattle.std.specs.Prelude.{◌≡◌, ◌+◌, ◌<◌, ◌^◌, ◌++◌, IfOk, OnOk};
 ghost use Rattle.std.specs.Fmt.{decimal};
-ghost use Rattle.sudoers_tool.specs.FaultText.{text_of_tool, text_of_layer, text_of_read, text_of_text, text_of_script, text_of_edit, script_text, edit_name, name_text, kind_name, why_name};
+ghost use Rattle.sudoers_tool.specs.FaultText.{text_of_tool, text_of_layer, text_of_read, text_of_text, text_of_script, text_of_edit, script_text, edit_name, name_text, why_name};
 
 use crate::edit::EditFault;
 use crate::script::ScriptFault;
 use std::alloc::{AllocError, Global};
 use sudoers_line::{Kind, Why};
 use sudoers_text::TextFault;
-use sudoers_tree::ReadFault;
+use sudoers_tree::{ReadFault, kind_word};
 use thiserror::Error;
 
 /// A fault of a layer below. Want of memory is `NoMemory` here, wherever it was met.
@@ -157,7 +157,8 @@ fn layer_text(alloc: Global, fault: &LayerFault, file: &[u8]) -> Result<Vec<u8>,
     }
 }
 
-fn read_fault_text(alloc: Global, fault: &ReadFault, file: &[u8]) -> Result<Vec<u8>, AllocError>
+/// The text of a fault of a policy file.
+pub fn read_fault_text(alloc: Global, fault: &ReadFault, file: &[u8]) -> Result<Vec<u8>, AllocError>
     ensures { IfOk result (λ text. text.items ≡ text_of_read fault.now file.now) }
 {
     match fault {
@@ -212,18 +213,6 @@ fn at_name(
     text.extend_from_slice(name)?;
     text.extend_from_slice(wrong)?;
     Ok(text)
-}
-
-/// The word with which definitions of this kind begin.
-pub fn kind_word(kind: Kind) -> &'static [u8]
-    ensures { result.now ≡ kind_name kind }
-{
-    match kind {
-        Kind::User => b"User_Alias",
-        Kind::Runas => b"Runas_Alias",
-        Kind::Host => b"Host_Alias",
-        Kind::Cmnd => b"Cmnd_Alias",
-    }
 }
 
 fn why_word(why: Why) -> &'static [u8]

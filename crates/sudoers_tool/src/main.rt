@@ -1,6 +1,7 @@
 //! A tool for sudoers policies whose promises are proved.
 #![tactic(auto)]
 
+mod check;
 mod device;
 mod edit;
 mod editor;
@@ -14,8 +15,9 @@ mod show;
 mod spelling;
 mod text;
 
+use check::run_check;
 use clap::error::ErrorKind;
-use clap::{Arg, ArgMatches, Command, Error};
+use clap::{Arg, ArgAction, ArgMatches, Command, Error};
 use device::Counted;
 use fault::{ToolFault, fault_text};
 use program::run_edit;
@@ -62,6 +64,13 @@ fn run(rt: &HostRuntime) -> Result<ExitCode, ToolFault> {
 /// Does what the words ask for, and tells a fault.
 fn obey(rt: &HostRuntime, matches: &ArgMatches<'_>) -> ExitCode {
     let (file, outcome) = match matches.subcommand() {
+        Some(("check", words)) => {
+            let file = words.get_str("FILE").unwrap_or(STDIN);
+            (
+                file,
+                check_file(rt, file, words.get_flag("quiet"), words.get_flag("strict")),
+            )
+        }
         Some(("show", words)) => {
             let file = words.get_str("FILE").unwrap_or(STDIN);
             (file, show_file(rt, file))
@@ -79,18 +88,40 @@ fn command_words<'a>(alloc: Global) -> Result<Command<'a>, AllocError> {
     let edit = Command::new(alloc, "edit").about(
         "Edits a policy: a script, a line `%%` and the policy in; the script that takes the edits back, `%%` and the edited policy out",
     );
-    let file = Arg::new(alloc, "FILE")
-        .required(true)
-        .help("The policy file, or `-` for the standard input");
     let show = Command::new(alloc, "show")
         .about(
             "Shows the logical lines of a policy with their numbers and kinds, and its definitions of aliases",
         )
-        .arg(file)?;
+        .arg(file_word(alloc))?;
     Command::new(alloc, "sudoers_tool")
-        .about("Shows and edits sudoers policies. With no command it does what `edit` does")
+        .about("Checks, shows and edits sudoers policies. With no command it does what `edit` does")
         .subcommand(edit)?
+        .subcommand(check_words(alloc)?)?
         .subcommand(show)
+}
+
+/// The words of `check`.
+fn check_words<'a>(alloc: Global) -> Result<Command<'a>, AllocError> {
+    let quiet = Arg::new(alloc, "quiet")
+        .short('q')
+        .action(ArgAction::SetTrue)
+        .help("Writes nothing on the standard output; the status tells");
+    let strict = Arg::new(alloc, "strict")
+        .short('s')
+        .action(ArgAction::SetTrue)
+        .help("Undefined names and cyclic aliases are faults");
+    Command::new(alloc, "check")
+        .about("Checks a policy: names that are undefined, aliases that are cyclic or unused")
+        .arg(quiet)?
+        .arg(strict)?
+        .arg(file_word(alloc))
+}
+
+/// The word for a policy file.
+fn file_word<'a>(alloc: Global) -> Arg<'a> {
+    Arg::new(alloc, "FILE")
+        .required(true)
+        .help("The policy file, or `-` for the standard input")
 }
 
 /// The words of the command line.
@@ -123,8 +154,26 @@ fn show_file(rt: &HostRuntime, file: &str) -> Result<u8, ToolFault> {
     if file == STDIN {
         return run_show(rt.alloc(), &mut Counted::new(rt.stdin()), &mut writer);
     }
+    let opened = open(rt, file)?;
+    run_show(rt.alloc(), &mut Counted::new(opened), &mut writer)
+}
+
+/// Checks a file, or the standard input.
+fn check_file(rt: &HostRuntime, file: &str, quiet: bool, strict: bool) -> Result<u8, ToolFault> {
+    let mut writer = Counted::new(rt.stdout());
+    let name = file.as_bytes();
+    if file == STDIN {
+        let mut reader = Counted::new(rt.stdin());
+        return run_check(rt.alloc(), &mut reader, name, quiet, strict, &mut writer);
+    }
+    let mut reader = Counted::new(open(rt, file)?);
+    run_check(rt.alloc(), &mut reader, name, quiet, strict, &mut writer)
+}
+
+/// Opens a file. One that cannot be opened cannot be read.
+fn open(rt: &HostRuntime, file: &str) -> Result<fs::File, ToolFault> {
     match fs::open(rt, file) {
-        Ok(opened) => run_show(rt.alloc(), &mut Counted::new(opened), &mut writer),
+        Ok(opened) => Ok(opened),
         Err(error) if error.kind() == io::ErrorKind::OutOfMemory => Err(ToolFault::from(
             AllocError,
         )),

@@ -11,12 +11,12 @@ ghost use Rattle.sudoers_tool.specs.Shown.{kind_word as word_of_kind, shown_def,
 ghost use Rattle.sudoers_tool.specs.Show.{show_output, TellsShow, IsFileFault, IsShowFault, StopsShow, NeedsShowEnd};
 
 use crate::device::{Sink, Source};
-use crate::fault::{LayerFault, ToolFault, append_number, kind_word};
+use crate::fault::{LayerFault, ToolFault, append_number};
 use crate::program::{read_all, write_all};
 use std::alloc::{AllocError, Global};
 use sudoers_line::{Def, Kind, Node};
 use sudoers_text::{TEXT_LIMIT, TextFault};
-use sudoers_tree::{LineKind, Policy, ReadFault, lf_count};
+use sudoers_tree::{LineKind, Policy, ReadFault, kind_word, lf_count};
 
 /// Reads a policy file, and writes for each of its lines its number, its kind and the number of its first physical line, and
 /// for each definition of an alias its numbers, its kind, its name and how many members it has. All numbers count from 1.

@@ -1,9 +1,9 @@
-//! The kinds of lines.
+//! The kinds of lines, and the words for the kinds of aliases.
 
 ghost use Rattle.std.specs.Prelude.{◌≡◌};
-ghost use Rattle.sudoers_tree.specs.Kind.{line_kind};
+ghost use Rattle.sudoers_tree.specs.Kind.{line_kind, kind_name};
 
-use sudoers_line::Node;
+use sudoers_line::{Kind, Node};
 
 /// What sort of line it is (sudoers(5), SUDOERS FILE FORMAT).
 #[derive(Clone, Copy, Debug, PartialEq, Eq)]
@@ -35,5 +35,17 @@ impl LineKind {
             Node::Alias { .. } => LineKind::Alias,
             Node::Spec { .. } => LineKind::Spec,
         }
+    }
+}
+
+/// The word with which definitions of this kind begin (sudoers(5), Aliases).
+pub fn kind_word(kind: Kind) -> &'static [u8]
+    ensures { result.now ≡ kind_name kind }
+{
+    match kind {
+        Kind::User => b"User_Alias",
+        Kind::Runas => b"Runas_Alias",
+        Kind::Host => b"Host_Alias",
+        Kind::Cmnd => b"Cmnd_Alias",
     }
 }

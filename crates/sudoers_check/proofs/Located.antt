@@ -1,0 +1,230 @@
+-- The numbers of definitions, by their places.
+use Rattle.std.proofs.Common.{◌≡◌, ℕ, zero, suc, ◌+◌, ◌<◌, ◌≤◌, true, false, List, [], ◌∷◌, ◌++◌, length, refl, sym, ap, ap₂, subst, ◌∙◌, arith, if◌then◌else◌, Option, Some, None, option_map, slice_index_or}
+use Rattle.std.proofs.lemmas.List.{length-append}
+use Rattle.sudoers_line.specs.declared.node.Kind.{Kind}
+use Rattle.sudoers_line.specs.declared.node.Kind.TheVariants.{User, Runas, Host, Cmnd}
+use Rattle.sudoers_line.specs.declared.node.Def.{Def}
+use Rattle.sudoers_line.specs.declared.node.Node.{Node}
+use Rattle.sudoers_line.specs.declared.node.Node.TheVariants as node
+use Rattle.sudoers_tree.specs.declared.line.Line.{Line}
+use Rattle.sudoers_tree.specs.declared.place.Place.{Place}
+use Rattle.sudoers_tree.specs.Definition.{Definition, is_kind, definitions_from, definitions_in, definitions_since, definitions, defines, defined, place_of}
+use Rattle.sudoers_tree.specs.Policy.{count_of, IsPolicy}
+use Rattle.sudoers_check.specs.Numbers.{count_in, firsts_since, number_of}
+
+-- HOW MANY
+
+pub from_length : (k : Kind) (line n : ℕ) (ds : List Def) → length (definitions_from k line n ds) ≡ length ds
+from_length k line n [] = refl
+from_length k line n (d ∷ ds) = ap suc (from_length k line (n + 1) ds)
+
+pub in_length : (line : ℕ) (n : Node) → length (definitions_in line n) ≡ count_in n
+in_length line (node.Alias k defs) = from_length k line 0 defs
+in_length line node.Blank = refl
+in_length line node.Comment = refl
+in_length line (node.Include dir path) = refl
+in_length line (node.Defaults scope params) = refl
+in_length line (node.Spec users groups) = refl
+
+-- how many definitions lines have
+abbrev pub total : List Line → ℕ
+total [] = 0
+total (line ∷ lines) = count_in line.node + total lines
+
+pub since_length : (n : ℕ) (lines : List Line) → length (definitions_since n lines) ≡ total lines
+since_length n [] = refl
+since_length n (line ∷ lines) =
+    let e = length-append (definitions_in n line.node) (definitions_since (n + 1) lines) in
+    e ∙ ap₂ (λ x y. x + y) (in_length n line.node) (since_length (n + 1) lines)
+
+one_more : (k : Kind) (n u r h c : ℕ) → n ≡ u + r + h + c
+    → suc n ≡ (if is_kind User k then 1 + u else u) + (if is_kind Runas k then 1 + r else r) + (if is_kind Host k then 1 + h else h) + (if is_kind Cmnd k then 1 + c else c)
+one_more User n u r h c e = omega (arith, e)
+one_more Runas n u r h c e = omega (arith, e)
+one_more Host n u r h c e = omega (arith, e)
+one_more Cmnd n u r h c e = omega (arith, e)
+
+-- each is of one kind
+by_kinds : (ds : List Definition) → length ds ≡ count_of User ds + count_of Runas ds + count_of Host ds + count_of Cmnd ds
+by_kinds [] = refl
+by_kinds (d ∷ ds) = one_more d.kind (length ds) (count_of User ds) (count_of Runas ds) (count_of Host ds) (count_of Cmnd ds) (by_kinds ds)
+
+pub firsts_length : (s : ℕ) (lines : List Line) → length (firsts_since s lines) ≡ length lines
+firsts_length s [] = refl
+firsts_length s (line ∷ lines) = ap suc (firsts_length (s + count_in line.node) lines)
+
+pub few_in_all : (lines : List Line) → IsPolicy lines → length (definitions lines) ≤ 16384
+few_in_all lines policy =
+    omega (arith, by_kinds (definitions lines), policy.few User, policy.few Runas, policy.few Host, policy.few Cmnd)
+
+pub few_total : (lines : List Line) → IsPolicy lines → total lines ≤ 16384
+few_total lines policy = omega (arith, few_in_all lines policy, since_length 0 lines)
+
+-- WHICH
+
+-- The definition at this place is the one with this number, where so many stand before these lines, the first of which has number n.
+pub record IsAt (s n : ℕ) (lines : List Line) (p : Place) (i : ℕ) : Type 0 where
+  pub line : ℕ
+  pub is : p.line ≡ n + line
+  pub within : line < length lines
+  pub first : slice_index_or (firsts_since s lines) line 0 + p.def ≡ s + i
+  pub small : i < total lines
+
+-- the definition that is found among those of a line
+record IsIn (line m : ℕ) (defs : List Def) (d : Definition) (i : ℕ) : Type 0 where
+  on : d.place.line ≡ line
+  at : d.place.def ≡ m + i
+  within : i < length defs
+
+-- What is found, and its number.
+abbrev Found : (Definition → ℕ → Type 0) → Option Definition → Option ℕ → Type 0
+Found At None None = Unit {0}
+Found At None (Some i) = ⊥
+Found At (Some d) None = ⊥
+Found At (Some d) (Some i) = At d i
+
+widen : (P Q : Definition → ℕ → Type 0) (f : ℕ → ℕ) (o : Option Definition) (number : Option ℕ) → ((d : Definition) (i : ℕ) → P d i → Q d (f i)) → Found P o number → Found Q o (option_map f number)
+widen P Q f None None h found = tt
+widen P Q f None (Some i) h found = found
+widen P Q f (Some d) None h found = found
+widen P Q f (Some d) (Some i) h found = h d i found
+
+widen_same : (P Q : Definition → ℕ → Type 0) (o : Option Definition) (number : Option ℕ) → ((d : Definition) (i : ℕ) → P d i → Q d i) → Found P o number → Found Q o number
+widen_same P Q None None h found = tt
+widen_same P Q None (Some i) h found = found
+widen_same P Q (Some d) None h found = found
+widen_same P Q (Some d) (Some i) h found = h d i found
+
+in_line : (k : Kind) (name : List ℕ) (j : Kind) (line m : ℕ) (defs : List Def)
+    → Found (IsIn line m defs) (defined k name (definitions_from j line m defs)) (number_of k name (definitions_from j line m defs))
+in_line k name j line m [] = tt
+in_line k name j line m (d ∷ ds) =
+    elim (defines k name (record { kind = j; place = record { line = line; def = m }; def = d })) as (λ b.
+    Found (IsIn line m (d ∷ ds)) (if b then Some (record { kind = j; place = record { line = line; def = m }; def = d }) else defined k name (definitions_from j line (m + 1) ds))
+    (if b then Some 0 else option_map suc (number_of k name (definitions_from j line (m + 1) ds)))) [
+      | true ↦ record { on = refl; at = omega arith; within = omega arith }
+      | false ↦ widen (IsIn line (m + 1) ds) (IsIn line m (d ∷ ds)) suc (defined k name (definitions_from j line (m + 1) ds)) (number_of k name (definitions_from j line (m + 1) ds))
+          (λ x i is. record { on = is.on; at = omega (arith, is.at); within = omega (arith, is.within) }) (in_line k name j line (m + 1) ds)
+    ]
+
+-- among definitions one after another
+abbrev or_else : {A : Type 0} → Option A → Option A → Option A
+or_else (Some x) other = Some x
+or_else None other = other
+
+defined_append : (k : Kind) (name : List ℕ) (xs ys : List Definition) → defined k name (xs ++ ys) ≡ or_else (defined k name xs) (defined k name ys)
+defined_append k name [] ys = refl
+defined_append k name (x ∷ xs) ys = elim (defines k name x) as (λ b. (if b then Some x else defined k name (xs ++ ys)) ≡ or_else (if b then Some x else defined k name xs) (defined k name ys)) [
+  | true ↦ refl
+  | false ↦ defined_append k name xs ys
+]
+
+abbrev pub later : ℕ → Option ℕ → Option ℕ → Option ℕ
+later n (Some i) other = Some i
+later n None other = option_map (λ i. n + i) other
+
+suc_later : (n : ℕ) (o other : Option ℕ) → option_map suc (later n o other) ≡ later (suc n) (option_map suc o) other
+suc_later n (Some i) other = refl
+suc_later n None None = refl
+suc_later n None (Some i) = ap (λ x. Some x) (omega arith)
+
+pub number_append : (k : Kind) (name : List ℕ) (xs ys : List Definition) → number_of k name (xs ++ ys) ≡ later (length xs) (number_of k name xs) (number_of k name ys)
+number_append k name [] ys = same (number_of k name ys)
+  where
+    same : (o : Option ℕ) → o ≡ option_map (λ i. 0 + i) o
+    same None = refl
+    same (Some i) = ap (λ n. Some n) (omega arith)
+number_append k name (x ∷ xs) ys = elim (defines k name x) as (λ b. (if b then Some 0 else option_map suc (number_of k name (xs ++ ys))) ≡ later (suc (length xs)) (if b then Some 0 else option_map suc (number_of k name xs)) (number_of k name ys)) [
+  | true ↦ refl
+  | false ↦ ap (option_map suc) (number_append k name xs ys) ∙ suc_later (length xs) (number_of k name xs) (number_of k name ys)
+]
+
+one_of_two : (P Q R : Definition → ℕ → Type 0) (n : ℕ) (x y : Option Definition) (a b : Option ℕ) → Found P x a → Found Q y b → ((d : Definition) (i : ℕ) → P d i → R d i)
+    → ((d : Definition) (i : ℕ) → Q d i → R d (n + i)) → Found R (or_else x y) (later n a b)
+one_of_two P Q R n (Some d) y (Some i) b p q h g = h d i p
+one_of_two P Q R n (Some d) y None b p q h g = absurd p
+one_of_two P Q R n None y (Some i) b p q h g = absurd p
+one_of_two P Q R n None y None b p q h g = widen Q R (λ i. n + i) y b g q
+
+in_node : (k : Kind) (name : List ℕ) (s n : ℕ) (line : Line) (lines : List Line) → Found (λ d i. IsAt s n (line ∷ lines) d.place i) (defined k name (definitions_in n line.node)) (number_of k name (definitions_in n line.node))
+in_node k name s n line lines = by_node line.node refl
+  where
+    by_node : (x : Node) → line.node ≡ x → Found (λ d i. IsAt s n (line ∷ lines) d.place i) (defined k name (definitions_in n x)) (number_of k name (definitions_in n x))
+    by_node (node.Alias j defs) e =
+        widen_same (IsIn n 0 defs) (λ d i. IsAt s n (line ∷ lines) d.place i) (defined k name (definitions_from j n 0 defs)) (number_of k name (definitions_from j n 0 defs))
+        (λ d i is. let few : count_in line.node ≡ length defs = ap count_in e in record {
+          line = 0;
+          is = omega (arith, is.on);
+          within = omega arith;
+          first = omega (arith, is.at);
+          small = omega (arith, is.within, few);
+        }) (in_line k name j n 0 defs)
+    by_node node.Blank e = tt
+    by_node node.Comment e = tt
+    by_node (node.Include dir path) e = tt
+    by_node (node.Defaults scope params) e = tt
+    by_node (node.Spec users groups) e = tt
+
+pub numbered : (k : Kind) (name : List ℕ) (s n : ℕ) (lines : List Line) → Found (λ d i. IsAt s n lines d.place i) (defined k name (definitions_since n lines)) (number_of k name (definitions_since n lines))
+numbered k name s n [] = tt
+numbered k name s n (line ∷ lines) =
+    let count : length (definitions_in n line.node) ≡ count_in line.node = in_length n line.node in
+    let both = one_of_two (λ d i. IsAt s n (line ∷ lines) d.place i) (λ d i. IsAt (s + count_in line.node) (n + 1) lines d.place i) (λ d i. IsAt s n (line ∷ lines) d.place i)
+    (length (definitions_in n line.node)) (defined k name (definitions_in n line.node)) (defined k name (definitions_since (n + 1) lines))
+    (number_of k name (definitions_in n line.node)) (number_of k name (definitions_since (n + 1) lines))
+    (in_node k name s n line lines) (numbered k name (s + count_in line.node) (n + 1) lines) (λ d i is. is)
+    (λ d i is. record {
+      line = suc is.line;
+      is = omega (arith, is.is);
+      within = omega (arith, is.within);
+      first = omega (arith, is.first, count);
+      small = omega (arith, is.small, count);
+    }) in
+    subst (λ o. Found (λ d i. IsAt s n (line ∷ lines) d.place i) o (number_of k name (definitions_since n (line ∷ lines)))) (sym (defined_append k name (definitions_in n line.node) (definitions_since (n + 1) lines)))
+    (subst (λ o. Found (λ d i. IsAt s n (line ∷ lines) d.place i) (or_else (defined k name (definitions_in n line.node)) (defined k name (definitions_since (n + 1) lines))) o)
+    (sym (number_append k name (definitions_in n line.node) (definitions_since (n + 1) lines))) both)
+
+-- A name that is defined nowhere has no number.
+pub no_number : (k : Kind) (name : List ℕ) (lines : List Line) → place_of k name lines ≡ None → number_of k name (definitions lines) ≡ None
+no_number k name lines e = by (defined k name (definitions lines)) (number_of k name (definitions lines)) (numbered k name 0 0 lines) e
+  where
+    by : (o : Option Definition) (number : Option ℕ) → Found (λ d i. IsAt 0 0 lines d.place i) o number → option_map (λ (d : Definition). d.place) o ≡ None → number ≡ None
+    by None None found e = refl
+    by None (Some i) found e = absurd found
+    by (Some d) number found e = absurd cc
+
+-- A name that is defined at this place has a number, which its place tells.
+pub its_number : (k : Kind) (name : List ℕ) (lines : List Line) (p : Place) → place_of k name lines ≡ Some p
+    → (i : ℕ) × (number_of k name (definitions lines) ≡ Some i) × IsAt 0 0 lines p i
+its_number k name lines p e = by (defined k name (definitions lines)) (number_of k name (definitions lines)) (numbered k name 0 0 lines) e
+  where
+    some_same : (x y : Place) → Some x ≡ Some y → x ≡ y
+    some_same x y e = ap (λ o. from o) e
+      where
+        from : Option Place → Place
+        from None = x
+        from (Some z) = z
+
+    by : (o : Option Definition) (number : Option ℕ) → Found (λ d i. IsAt 0 0 lines d.place i) o number → option_map (λ (d : Definition). d.place) o ≡ Some p
+        → (i : ℕ) × (number ≡ Some i) × IsAt 0 0 lines p i
+    by None number found e = absurd cc
+    by (Some d) None found e = absurd found
+    by (Some d) (Some i) found e = (i, refl, subst (λ x. IsAt 0 0 lines x i) (some_same d.place p e) found)
+
+any_default : (xs : List ℕ) (n a b : ℕ) → n < length xs → slice_index_or xs n a ≡ slice_index_or xs n b
+any_default [] n a b l = absurd (omega arith)
+any_default (x ∷ xs) zero a b l = refl
+any_default (x ∷ xs) (suc n) a b l = any_default xs n a b (omega (arith, l))
+
+-- What is told of a name that is defined at this place.
+pub told : (k : Kind) (name : List ℕ) (lines : List Line) (p : Place) (firsts : List ℕ) (first : ℕ) → firsts ≡ firsts_since 0 lines → place_of k name lines ≡ Some p
+    → first ≡ slice_index_or firsts p.line first → (number_of k name (definitions lines) ≡ Some (first + p.def)) × (first + p.def < total lines)
+told k name lines p firsts first are e is =
+    let n = its_number k name lines p e in
+    let on : p.line ≡ n.2.line = omega (arith, n.2.is) in
+    let inside : n.2.line < length (firsts_since 0 lines) = omega (arith, n.2.within, firsts_length 0 lines) in
+    let same : first ≡ slice_index_or (firsts_since 0 lines) n.2.line 0 =
+    is ∙ ap (λ xs. slice_index_or xs p.line first) are ∙ ap (λ l. slice_index_or (firsts_since 0 lines) l first) on
+    ∙ any_default (firsts_since 0 lines) n.2.line first 0 inside in
+    let sum : first + p.def ≡ n.0 = omega (arith, same, n.2.first) in
+    (n.1 ∙ ap (λ i. Some i) (sym sum), omega (arith, sum, n.2.small))

@@ -1,0 +1,13 @@
+use Rattle.std.proofs.Common.{◌≡◌, ◌++◌, List, drop}
+use Rattle.sudoers_tree.specs.Definition.{definitions}
+use Rattle.sudoers_check.specs.Mentioned.{Mention}
+use Rattle.sudoers_check.specs.Report.{undefined_behind}
+use Rattle.sudoers_check.specs.Noting.{noted_mentions, Agrees}
+use Rattle.sudoers_check.proofs.notes.note_undefined.Given as goal
+
+abbrev pub invariant-loop-mention : goal.invariant-loop-mention
+invariant-loop-mention l =
+    (before : List Mention) → Agrees (definitions l.policy) l.initial.seen before → (now : List Mention)
+    × Agrees (definitions l.policy) l.seen now × (now ++ drop l.mention-index l.mentions ≡ before ++ l.mentions)
+    × (l.notes.items ++ noted_mentions l.cursor.row l.cursor.text.now (undefined_behind (definitions l.policy) now (drop l.mention-index l.mentions))
+    ≡ l.initial.notes.items ++ noted_mentions l.initial.cursor.row l.initial.cursor.text.now (undefined_behind (definitions l.policy) before l.mentions))

@@ -1,0 +1,83 @@
+//! Where the bytes of a line stand in physical lines.
+
+ghost use Rattle.std.specs.Prelude.{◌≡◌, ◌≤◌, ◌+◌, ◌<◌, ◌^◌, length, take};
+ghost use Rattle.sudoers_text.specs.Fault.{lf_count as lfs};
+ghost use Rattle.sudoers_tree.specs.Physical.{column_behind, behind_lf};
+
+use sudoers_tree::lf_count;
+
+/// A place in a line that begins on the physical line `row`. Places are asked for in rising order; going back is slower.
+#[derive(Drop)]
+pub struct Cursor<'a> {
+    pub text: &'a [u8],
+    pub row: usize,
+    at: usize,
+    ends: usize,
+    behind: usize,
+    ghost within: { at ≤ length text.now },
+    ghost ends_are: { ends ≡ lfs (take at text.now) },
+    ghost behind_is: { behind ≡ behind_lf 0 (take at text.now) },
+    ghost most: { behind ≤ at },
+    ghost small: { row + length text.now < 2 ^ 62 },
+}
+
+impl<'a> Cursor<'a> {
+    /// The beginning of a line, whose first physical line is this.
+    pub fn new(text: &'a [u8], row: usize) -> Cursor<'a>
+        requires { row + length text.now < 2 ^ 62 }
+        ensures text { result.text.now ≡ text.now }
+        ensures row { result.row ≡ row }
+    {
+        Cursor {
+            text,
+            row,
+            at: 0,
+            ends: 0,
+            behind: 0,
+        }
+    }
+
+    /// The physical line and the column of a byte of the line, or of its end.
+    pub fn place(&mut self, start: usize) -> (usize, usize)
+        ensures line { result.0 ≡ self.old.row + lfs (take start self.old.text.now) }
+        ensures column { result.1 ≡ column_behind (take start self.old.text.now) }
+        ensures text { self.new.text.now ≡ self.old.text.now }
+        ensures row { self.new.row ≡ self.old.row }
+    {
+        let start = start.min(self.text.len());
+        if start < self.at {
+            self.at = 0;
+            self.ends = 0;
+            self.behind = 0;
+        }
+        self.forward(start);
+        (self.row + self.ends, self.behind + 1)
+    }
+
+    /// Goes on to a byte, or to the line's end.
+    fn forward(&mut self, start: usize)
+        requires here { self.old.at ≤ start }
+        requires within { start ≤ length self.old.text.now }
+        ensures at { self.new.at ≡ start }
+        ensures text { self.new.text.now ≡ self.old.text.now }
+        ensures row { self.new.row ≡ self.old.row }
+    {
+        let between = &self.text[self.at..start];
+        self.ends += lf_count(between);
+        self.behind = bytes_behind(self.behind, between);
+        self.at = start;
+    }
+}
+
+/// How many bytes stand behind the last LF of these, where so many stand before them.
+fn bytes_behind(before: usize, bytes: &[u8]) -> usize
+    requires { before + length bytes.now < 2 ^ 62 }
+    ensures is { result ≡ behind_lf before bytes.now }
+    ensures most { result ≤ before + length bytes.now }
+{
+    let mut behind = before;
+    for byte in bytes {
+        behind = if *byte == b'\n' { 0 } else { behind + 1 };
+    }
+    behind
+}

@@ -1,0 +1,17 @@
+//! The checks of a sudoers policy: names that are undefined, and aliases that are cyclic or unused.
+#![tactic(auto)]
+
+mod checking;
+mod cursor;
+mod cycles;
+mod graph;
+mod laws;
+mod mentioned;
+mod notes;
+mod numbers;
+mod report;
+mod seen;
+
+pub use checking::{check, unused};
+pub use laws::{chains_are, mentions_are};
+pub use report::{Note, Report, report_text};

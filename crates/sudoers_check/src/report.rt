@@ -1,0 +1,130 @@
+//! What is noted of a policy, and the text of it.
+
+ghost use Rattle.std.specs.Prelude.{◌≡◌, ◌++◌, IfOk, OnOk};
+ghost use Rattle.std.specs.List.{flat_map};
+ghost use Rattle.std.specs.Fmt.{decimal};
+ghost use Rattle.sudoers_check.specs.Report.{place_text, name_text, note_text, is_fine as is_fine_report, verdict, report_text as text_of_report};
+
+use std::alloc::{AllocError, Global};
+use sudoers_tree::{Items, Kind, kind_word};
+
+/// A name in a policy: its physical line and its column in bytes, both from 1.
+#[derive(Debug, Drop)]
+pub struct Note {
+    pub kind: Kind,
+    pub name: Items<u8>,
+    pub line: usize,
+    pub col: usize,
+}
+
+/// What is noted of the aliases of a policy (visudo(8)).
+#[derive(Debug, Drop)]
+pub struct Report {
+    /// Names that are mentioned and not defined, each once, where it is first mentioned and in the order of these mentions.
+    pub undefined: Items<Note>,
+    /// Aliases that mention themselves, or lead to themselves by others, where and in the order in which they are defined.
+    pub cyclic: Items<Note>,
+    /// Aliases to which neither a user specification nor a Defaults line leads, where and in the order in which they are
+    /// defined.
+    pub unused: Items<Note>,
+}
+
+impl Report {
+    /// There are no undefined names and no cyclic aliases, or they are not looked at.
+    pub fn is_fine(&self, strict: bool) -> bool
+        ensures { result ≡ is_fine_report strict self.now }
+    {
+        !strict || (self.undefined.len() == 0 && self.cyclic.len() == 0)
+    }
+}
+
+/// The text of a report on the file of this name: a line for each note and one that says whether the policy is fine. With
+/// `strict`, undefined names and cyclic aliases are faults.
+///
+/// # Errors
+///
+/// Want of memory alone.
+pub fn report_text(
+    alloc: Global,
+    report: &Report,
+    file: &[u8],
+    strict: bool,
+) -> Result<Vec<u8>, AllocError>
+    ensures { IfOk result (λ text. text.items ≡ text_of_report file.now strict report.now) }
+{
+    let mut text = Vec::new(alloc);
+    append_notes(
+        alloc,
+        &mut text,
+        file,
+        b"undefined",
+        report.undefined.as_slice(),
+    )?;
+    append_notes(alloc, &mut text, file, b"cyclic", report.cyclic.as_slice())?;
+    append_notes(alloc, &mut text, file, b"unused", report.unused.as_slice())?;
+    text.extend_from_slice(file)?;
+    text.extend_from_slice(verdict_text(report.is_fine(strict)))?;
+    Ok(text)
+}
+
+fn verdict_text(fine: bool) -> &'static [u8]
+    ensures { result.now ≡ verdict fine }
+{
+    if fine {
+        b": parsed OK\n"
+    } else {
+        b": faults found\n"
+    }
+}
+
+fn append_notes(
+    alloc: Global,
+    text: &mut Vec<u8>,
+    file: &[u8],
+    word: &[u8],
+    notes: &[Note],
+) -> Result<(), AllocError>
+    ensures { OnOk result (text.new.items ≡ text.old.items ++ flat_map (note_text file.now word.now) notes.now) }
+{
+    for note in notes {
+        append_place(alloc, text, file, note)?;
+        append_name(text, word, note)?;
+    }
+    Ok(())
+}
+
+/// The file, the line and the column.
+fn append_place(
+    alloc: Global,
+    text: &mut Vec<u8>,
+    file: &[u8],
+    note: &Note,
+) -> Result<(), AllocError>
+    ensures { OnOk result (text.new.items ≡ text.old.items ++ place_text file.now note.now) }
+{
+    text.extend_from_slice(file)?;
+    text.extend_from_slice(b":")?;
+    append_number(alloc, text, note.line)?;
+    text.extend_from_slice(b":")?;
+    append_number(alloc, text, note.col)?;
+    text.extend_from_slice(b": ")
+}
+
+/// The word, the kind and the name.
+fn append_name(text: &mut Vec<u8>, word: &[u8], note: &Note) -> Result<(), AllocError>
+    ensures { OnOk result (text.new.items ≡ text.old.items ++ name_text word.now note.now) }
+{
+    text.extend_from_slice(word)?;
+    text.extend_from_slice(b" ")?;
+    text.extend_from_slice(kind_word(note.kind))?;
+    text.extend_from_slice(b" ")?;
+    text.extend_from_slice(note.name.as_slice())?;
+    text.extend_from_slice(b"\n")
+}
+
+fn append_number(alloc: Global, text: &mut Vec<u8>, number: usize) -> Result<(), AllocError>
+    ensures { OnOk result (text.new.items ≡ text.old.items ++ decimal number) }
+{
+    let digits = number.to_string(alloc)?;
+    text.extend_from_slice(digits.as_bytes())
+}

@@ -1,0 +1,71 @@
+//! The names that were seen.
+
+ghost use Rattle.std.specs.Prelude.{◌≡◌, ◌∷◌, [], not, ◌||◌, List, ℕ, IfOk, OnOk};
+ghost use Rattle.std.specs.Str.{bytes_eq};
+ghost use Rattle.sudoers_line.specs.declared.node.Kind.{Kind as KindOf};
+ghost use Rattle.sudoers_check.specs.Seen.{key, has_seen};
+
+use indexmap::IndexSet;
+use std::alloc::{AllocError, Global};
+use std::marker::Model;
+use sudoers_tree::Kind;
+
+/// Names with their kinds.
+#[derive(Drop)]
+pub struct Seen {
+    keys: IndexSet<Vec<u8>>,
+}
+
+impl Model for Seen {
+    ghost use Rattle.std.specs.Prelude.{ℕ, List, map};
+
+    ghost Value = { List (List ℕ) };
+
+    ghost view = { λ seen. map (λ key. key.items) seen.keys.keys };
+}
+
+impl Seen {
+    /// No names.
+    pub fn new(alloc: Global) -> Seen
+        ensures { result ≡ [] }
+    {
+        Seen {
+            keys: IndexSet::new(alloc),
+        }
+    }
+
+    /// A name more. Whether it was not seen before.
+    ///
+    /// # Errors
+    ///
+    /// A growth of memory was refused.
+    pub fn add(&mut self, alloc: Global, kind: Kind, name: &[u8]) -> Result<bool, AllocError>
+        ensures new { IfOk result (λ is_new. is_new ≡ not (has_seen self.old kind name.now)) }
+        ensures added { OnOk result ((k : KindOf) (other : List ℕ) → has_seen self.new k other
+            ≡ has_seen self.old k other || bytes_eq (key k other) (key kind name.now)) }
+    {
+        let key = key_of(alloc, kind, name)?;
+        Ok(self.keys.insert(key)?)
+    }
+}
+
+/// The name behind a byte for its kind.
+fn key_of(alloc: Global, kind: Kind, name: &[u8]) -> Result<Vec<u8>, AllocError>
+    ensures { IfOk result (λ bytes. bytes.items ≡ key kind name.now) }
+{
+    let mut key = Vec::with_capacity(alloc, name.len().saturating_add(1))?;
+    key.push(byte_of(kind))?;
+    key.extend_from_slice(name)?;
+    Ok(key)
+}
+
+fn byte_of(kind: Kind) -> u8
+    ensures { key kind [] ≡ result ∷ [] }
+{
+    match kind {
+        Kind::User => b'u',
+        Kind::Runas => b'r',
+        Kind::Host => b'h',
+        Kind::Cmnd => b'c',
+    }
+}

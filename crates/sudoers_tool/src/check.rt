@@ -1,0 +1,137 @@
+//! The check of a policy file.
+ghost use Rattle.std.specs.Prelude.{◌≡◌, ◌≢◌, ◌⊎◌, ◌+◌, ◌<◌, ◌≤◌, ◌++◌, codes, length, Ok, Err, IfOk, IfErr, IfSome, OnOk, min, ◌-◌, ◌^◌};
+ghost use Rattle.std.specs.Io.KnownBytes.{Keeps, Appends};
+ghost use Rattle.sudoers_text.specs.Fault.{text_limit};
+ghost use Rattle.sudoers_tree.specs.Reading.{read_of};
+ghost use Rattle.sudoers_tool.specs.Device.{Rose, AppendsFront, TakesExactly};
+ghost use Rattle.sudoers_tool.specs.Program.{pull_limit};
+ghost use Rattle.sudoers_tool.specs.FaultText.{text_of_read};
+ghost use Rattle.sudoers_tool.specs.Check.{TellsCheck, check_text, check_status, check_output, IsCheckFault, StopsCheck, NeedsFile};
+
+use crate::device::{Sink, Source};
+use crate::fault::{ToolFault, read_fault_text};
+use crate::program::{read_all, write_all};
+use std::alloc::{AllocError, Global};
+use sudoers_check::{check, report_text};
+use sudoers_text::{TEXT_LIMIT, TextFault};
+use sudoers_tree::{Policy, ReadFault};
+
+/// Reads a policy file and writes what is to be noted of its aliases, or, where the file is no policy, its fault. The status
+/// is 0 where the file is fine, and else 1; with `strict`, undefined names and cyclic aliases are faults. With `quiet`,
+/// nothing is written. The file is called by the name `file` (visudo(8)).
+///
+/// # Errors
+///
+/// [`ToolFault`]: of reading, then of memory, then of writing. Nothing is written before a fault other than `Write`.
+pub fn run_check<R: Source, W: Sink>(
+    alloc: Global,
+    reader: &mut R,
+    file: &[u8],
+    quiet: bool,
+    strict: bool,
+    writer: &mut W,
+) -> Result<u8, ToolFault>
+    // The status and what is written are the stated functions of what is read.
+    ensures status { IfOk result (λ status. IfSome (R.remaining reader.old) (λ input. status ≡ check_status strict (read_of input))) }
+    ensures ok { IfOk result (λ status. IfSome (R.remaining reader.old) (λ input.
+        Appends (W.contents writer.old) (W.contents writer.new) (check_output file.now quiet strict input))) }
+    // A fault is one of the devices or want of memory.
+    ensures named { IfErr result IsCheckFault }
+    // Nothing is written but where a write failed, and then a front of the output.
+    ensures untouched { IfErr result (λ fault. fault ≢ ToolFault.Write
+        → Keeps (W.contents writer.old) (W.contents writer.new)) }
+    ensures front { result ≡ Err ToolFault.Write → IfSome (R.remaining reader.old) (λ input.
+        AppendsFront (W.contents writer.old) (W.contents writer.new) (check_output file.now quiet strict input)) }
+    // A device's fault is told exactly where that device failed.
+    ensures read { result ≡ Err ToolFault.Read
+        → Rose (R.Source.failures reader.old) (R.Source.failures reader.new) }
+    ensures read_well { result ≢ Err ToolFault.Read
+        → R.Source.failures reader.new ≡ R.Source.failures reader.old }
+    ensures write { result ≡ Err ToolFault.Write
+        → Rose (W.Sink.failures writer.old) (W.Sink.failures writer.new) }
+    ensures written_well { result ≢ Err ToolFault.Write
+        → W.Sink.failures writer.new ≡ W.Sink.failures writer.old }
+    // The reader is asked at most so often, and `NoEnd` is told only after so many calls.
+    ensures asked { R.Source.pulls reader.new ≤ R.Source.pulls reader.old + pull_limit }
+    ensures no_end { result ≡ Err ToolFault.NoEnd
+        → min (R.Source.pulls reader.old + pull_limit) (2 ^ 64 - 1) ≤ R.Source.pulls reader.new }
+    // It stops at the first byte past the limit of a policy file.
+    ensures stops { IfErr result (StopsCheck (R.remaining reader.old) (R.remaining reader.new)) }
+    // Else an outcome, but a fault of reading and want of memory, comes only where the reader told its end.
+    ensures ended { NeedsFile result → Rose (R.ends reader.old) (R.ends reader.new)
+        ⊎ TakesExactly (R.remaining reader.old) (R.remaining reader.new) (text_limit + 1) }
+{
+    let outcome = outcome_of(alloc, reader, file, strict)?;
+    if !quiet {
+        write_all(writer, outcome.text.as_slice())?;
+    }
+    Ok(outcome.status)
+}
+
+/// What is told of a file, and the status.
+#[derive(Drop)]
+struct Outcome {
+    text: Vec<u8>,
+    status: u8,
+}
+
+/// Reads a policy file and checks it.
+fn outcome_of<R: Source>(
+    alloc: Global,
+    reader: &mut R,
+    file: &[u8],
+    strict: bool,
+) -> Result<Outcome, ToolFault>
+    ensures told { IfOk result (λ outcome. IfSome (R.remaining reader.old) (TellsCheck file.now strict outcome.text.items outcome.status)) }
+    ensures named { IfErr result (λ fault. IsCheckFault fault × (fault ≢ ToolFault.Write)) }
+    ensures read { result ≡ Err ToolFault.Read
+        → Rose (R.Source.failures reader.old) (R.Source.failures reader.new) }
+    ensures read_well { result ≢ Err ToolFault.Read
+        → R.Source.failures reader.new ≡ R.Source.failures reader.old }
+    ensures asked { R.Source.pulls reader.new ≤ R.Source.pulls reader.old + pull_limit }
+    ensures no_end { result ≡ Err ToolFault.NoEnd
+        → min (R.Source.pulls reader.old + pull_limit) (2 ^ 64 - 1) ≤ R.Source.pulls reader.new }
+    ensures stops { IfErr result (StopsCheck (R.remaining reader.old) (R.remaining reader.new)) }
+    ensures ended { OnOk result (Rose (R.ends reader.old) (R.ends reader.new)
+        ⊎ TakesExactly (R.remaining reader.old) (R.remaining reader.new) (text_limit + 1)) }
+{
+    match read_all(alloc, reader, TEXT_LIMIT) {
+        Ok(input) => Ok(checked(alloc, input.as_slice(), file, strict)?),
+        Err(ToolFault::InputTooLarge) => Ok(too_large(alloc, file)?),
+        Err(fault) => Err(fault),
+    }
+}
+
+/// The report on the policy that a text is, or its fault.
+fn checked(alloc: Global, input: &[u8], file: &[u8], strict: bool) -> Result<Outcome, AllocError>
+    ensures text { IfOk result (λ outcome. outcome.text.items ≡ check_text file.now strict (read_of input.now)) }
+    ensures status { IfOk result (λ outcome. outcome.status ≡ check_status strict (read_of input.now)) }
+{
+    let policy = match Policy::read(alloc, input) {
+        Ok(policy) => policy,
+        Err(ReadFault::NoMemory) => return Err(AllocError),
+        Err(fault) => return refused(alloc, &fault, file),
+    };
+    let report = check(alloc, &policy)?;
+    let text = report_text(alloc, &report, file, strict)?;
+    let status = if report.is_fine(strict) { 0 } else { 1 };
+    Ok(Outcome { text, status })
+}
+
+/// The fault of a file that is too large.
+fn too_large(alloc: Global, file: &[u8]) -> Result<Outcome, AllocError>
+    ensures text { IfOk result (λ outcome. outcome.text.items ≡ text_of_read (ReadFault.Text TextFault.TooLarge) file.now ++ codes "\n") }
+    ensures status { IfOk result (λ outcome. outcome.status ≡ 1) }
+{
+    refused(alloc, &ReadFault::Text(TextFault::TooLarge), file)
+}
+
+/// The fault of a file.
+fn refused(alloc: Global, fault: &ReadFault, file: &[u8]) -> Result<Outcome, AllocError>
+    ensures text { IfOk result (λ outcome. outcome.text.items ≡ text_of_read fault.now file.now ++ codes "\n") }
+    ensures status { IfOk result (λ outcome. outcome.status ≡ 1) }
+{
+    let mut text = read_fault_text(alloc, fault, file)?;
+    text.extend_from_slice(b"\n")?;
+    Ok(Outcome { text, status: 1 })
+}
