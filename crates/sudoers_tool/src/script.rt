@@ -109,6 +109,18 @@ impl Reading {
                 self.check_room()?;
                 self.edits.push(Edit::Delete { at })?;
             }
+            Said::Move(from, to) => {
+                self.check_room()?;
+                self.edits.push(Edit::Move { from, to })?;
+            }
+            Said::EndLine => {
+                self.check_room()?;
+                self.edits.push(Edit::EndLine)?;
+            }
+            Said::OpenEnd => {
+                self.check_room()?;
+                self.edits.push(Edit::OpenEnd)?;
+            }
             Said::BadNumber => {
                 self.check_room()?;
                 return Err(ScriptFault::BadNumber { line });
