@@ -1,6 +1,7 @@
 //! The editor: a policy, and a journal of its edits.
 ghost use Rattle.std.specs.Prelude.{◌≡◌, ◌≢◌, ◌+◌, ◌-◌, ◌<◌, ◌≤◌, ◌∷◌, [], ◌++◌, length, insert, remove, reverse, Some, Ok, Err, IfOk, IfErr, OnOk, OnErr, MatchResult, slice_index_or, slice_get, IsTrue, vec_len, true, false, List, ℕ, take};
 ghost use Rattle.std.specs.List.{flat_map};
+ghost use Rattle.std.specs.Option.{option_copied};
 ghost use Rattle.sudoers_text.specs.Line.{join};
 ghost use Rattle.sudoers_text.specs.Ended.{has_unended_inside};
 ghost use Rattle.sudoers_text.specs.Cut.{StandAlone};
@@ -9,7 +10,6 @@ ghost use Rattle.sudoers_tree.specs.Policy.{texts};
 ghost use Rattle.sudoers_tool.specs.OneLine.{is_one_line, IsAlone, IsSound};
 ghost use Rattle.sudoers_tool.specs.Editing.{policy_or_refusal, moved};
 ghost use Rattle.sudoers_tool.specs.LastLine.{StaysCut};
-ghost use Rattle.std.specs.Option.{option_copied};
 
 use crate::edit::{Edit, EditFault, Edits};
 use crate::reread::{reread, text_moved, text_with, text_without};
