@@ -17,10 +17,10 @@ use Rattle.sudoers_text.proofs.Closed.{closed_line, inner_line, or_left}
 use Rattle.sudoers_text.proofs.Found.{cut_is, cut_gives_outcome}
 
 -- a line with which nothing is wrong, whatever lines it stands between
-record Clean (line : List ℕ) : Type 0 where
-  short : length line ≤ line_limit
-  none : NoNul line
-  closed : IsOpen line → ⊥
+pub record Clean (line : List ℕ) : Type 0 where
+  pub short : length line ≤ line_limit
+  pub none : NoNul line
+  pub closed : IsOpen line → ⊥
 
 abbrev AllClean : List (List ℕ) → Type 0
 AllClean [] = Unit {0}
@@ -51,7 +51,7 @@ none_front xs ys none k here = none k (get_left xs ys k (slice_get_within xs k 0
 none_back : (xs ys : List ℕ) → NoNul (xs ++ ys) → NoNul ys
 none_back xs ys none k here = none (length xs + k) (get_right xs ys (length xs + k) k refl ∙ here)
 
-join_some : (line : List ℕ) (lines : List (List ℕ)) → IsLine line (join lines) → line ++ join lines ≢ []
+pub join_some : (line : List ℕ) (lines : List (List ℕ)) → IsLine line (join lines) → line ++ join lines ≢ []
 join_some line lines x e = omega (arith, ap length e, length-append line (join lines), line_size line (join lines) x)
 
 -- each of the lines is within the limit
@@ -89,7 +89,7 @@ sound_clean lines each sound =
       | inr short ↦ short
     ]) (λ k here. sound (Nul k) k (refl, here)) (λ ends. sound OpenContinuation (length (join lines)) (refl, ends))
 
-cut_has : (text : List ℕ) (lines : List (List ℕ)) → cut_of text ≡ Ok lines → IsCut text lines
+pub cut_has : (text : List ℕ) (lines : List (List ℕ)) → cut_of text ≡ Ok lines → IsCut text lines
 cut_has text lines e = subst (λ (o : Result (List (List ℕ)) TextFault). IsOutcome text o) e (cut_is text)
 
 -- a line alone is cut to itself where nothing is wrong with it, and only there
@@ -101,10 +101,10 @@ clean_alone line x clean =
       sound = clean_sound (line ∷ []) (clean, tt);
     })
 
-alone_line : (line : List ℕ) → cut_of line ≡ Ok (line ∷ []) → IsLine line []
+pub alone_line : (line : List ℕ) → cut_of line ≡ Ok (line ∷ []) → IsLine line []
 alone_line line e = (cut_has line (line ∷ []) e).cuts.each.0
 
-alone_clean : (line : List ℕ) → cut_of line ≡ Ok (line ∷ []) → Clean line
+pub alone_clean : (line : List ℕ) → cut_of line ≡ Ok (line ∷ []) → Clean line
 alone_clean line e =
     let is = cut_has line (line ∷ []) e in
     (sound_clean (line ∷ []) is.cuts.each is.sound).0
@@ -121,7 +121,7 @@ not_false : (a : Bool) → not a ≡ false → a ≡ true
 not_false true h = refl
 not_false false h = absurd (cc)
 
-join_lines : (lines : List (List ℕ)) → StandAlone lines → has_unended_inside lines ≡ false → AreLines lines
+pub join_lines : (lines : List (List ℕ)) → StandAlone lines → has_unended_inside lines ≡ false → AreLines lines
 join_lines [] alone ended = tt
 join_lines (line ∷ []) alone ended = (alone_line line alone.0, tt)
 join_lines (line ∷ next ∷ lines) alone ended =

@@ -1,9 +1,9 @@
 //! Laws of logical lines, for the layers above. Each is the contract of a function that does nothing.
 
-ghost use Rattle.std.specs.Prelude.{◌≡◌, ◌≢◌, ◌≤◌, ℕ, List, [], ◌∷◌, length, Result, Ok, true, false};
+ghost use Rattle.std.specs.Prelude.{◌≡◌, ◌≢◌, ◌<◌, ◌≤◌, ℕ, List, [], ◌∷◌, ◌++◌, length, Result, Ok, true, false};
 ghost use Rattle.sudoers_text.specs.Line.{IsLine, IsOpen, Cuts, join};
 ghost use Rattle.sudoers_text.specs.Ended.{ends_in_lf, has_unended_inside};
-ghost use Rattle.sudoers_text.specs.Fault.{IsOutcome, text_limit};
+ghost use Rattle.sudoers_text.specs.Fault.{IsOutcome, text_limit, line_limit};
 ghost use Rattle.sudoers_text.specs.Cut.{cut_of, StandAlone};
 ghost use Rattle.sudoers_text.specs.Whole.{IsLogicalLine, is_logical_line};
 ghost use Rattle.sudoers_text.specs.declared.fault.TextFault.{TextFault as Fault};
@@ -63,6 +63,26 @@ pub fn lines_of_join()
 pub fn lines_stand_alone()
     ensures { (text : List ℕ) (lines : List (List ℕ)) → cut_of text ≡ Ok lines
         → StandAlone lines × (has_unended_inside lines ≡ false) × (join lines ≡ text) × (length text ≤ text_limit) }
+{}
+
+/// A line that is the one line of a text is not empty, and within the limit.
+pub fn line_alone_size()
+    ensures { (line : List ℕ) → cut_of line ≡ Ok (line ∷ []) → (0 < length line) × (length line ≤ line_limit) }
+{}
+
+/// With LF behind a last line that lacks it, the lines of a text are as many as before: the last has it, the others are the same.
+pub fn lf_behind_last_line()
+    ensures { (front : List (List ℕ)) (last : List ℕ) (lines : List (List ℕ)) → StandAlone (front ++ last ∷ [])
+        → has_unended_inside (front ++ last ∷ []) ≡ false → ends_in_lf last ≡ false
+        → cut_of (join (front ++ (last ++ 10 ∷ []) ∷ [])) ≡ Ok lines → lines ≡ front ++ (last ++ 10 ∷ []) ∷ [] }
+{}
+
+/// Without the LF of a last line that has more than it, the lines of a text are as many as before: the last lacks it, the others are
+/// the same.
+pub fn lf_from_last_line()
+    ensures { (front : List (List ℕ)) (last : List ℕ) (lines : List (List ℕ)) → StandAlone (front ++ (last ++ 10 ∷ []) ∷ [])
+        → has_unended_inside (front ++ (last ++ 10 ∷ []) ∷ []) ≡ false → last ≢ []
+        → cut_of (join (front ++ last ∷ [])) ≡ Ok lines → (lines ≡ front ++ last ∷ []) × (ends_in_lf last ≡ false) }
 {}
 
 /// What is computed tells whether a text is one logical line.

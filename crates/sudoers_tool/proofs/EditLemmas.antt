@@ -2,14 +2,16 @@
 use Rattle.std.proofs.Common.{◌≡◌, ℕ, zero, suc, ◌-◌, ◌<◌, ◌≤◌, Bool, true, false, not, ◌||◌, List, [], ◌∷◌, ◌++◌, length, insert, remove, slice_index_or, reverse, Option, Some, Result, Ok, refl, sym, ap, subst, ◌∙◌, arith, unwrap_or}
 use Rattle.std.proofs.lemmas.Bool.{le-ltb, lt-ltb, or_parts as or_false}
 use Rattle.std.proofs.lemmas.List.{reverse-append}
+use Rattle.std.specs.Prelude.{slice_get}
+use Rattle.sudoers_tool.proofs.PolicyLemmas.{at_get}
 use Rattle.sudoers_text.specs.Line.{join}
 use Rattle.sudoers_text.specs.Ended.{has_unended_inside, ends_in_lf}
 use Rattle.sudoers_text.specs.Cut.{StandAlone}
 use Rattle.sudoers_tool.specs.declared.edit.Edit.{Edit}
-use Rattle.sudoers_tool.specs.declared.edit.Edit.TheVariants.{Insert, Delete}
+use Rattle.sudoers_tool.specs.declared.edit.Edit.TheVariants.{Insert, Delete, Move}
 use Rattle.sudoers_tool.specs.declared.edit.EditFault.{EditFault}
-use Rattle.sudoers_tool.specs.declared.edit.EditFault.TheVariants.{NoLine, NotOneLine, OpenLine, TooLarge, NotPolicy, NoMemory}
-use Rattle.sudoers_tool.specs.Editing.{lines_or_refusal, policy_or_refusal, where_policy, Refuses, step, inv, run, IsUndoable, first_lines}
+use Rattle.sudoers_tool.specs.declared.edit.EditFault.TheVariants.{NoLine, NotOneLine, OpenLine, EndAsIs, TooLarge, NotPolicy, NoMemory}
+use Rattle.sudoers_tool.specs.Editing.{lines_or_refusal, policy_or_refusal, where_policy, moved, Refuses, step, inv, run, IsUndoable, first_lines}
 use Rattle.sudoers_tree.specs.declared.line.Line.{Line}
 use Rattle.sudoers_tool.specs.OneLine.{is_one_line, IsAlone, IsSound}
 use Rattle.sudoers_tree.specs.Policy.{texts}
@@ -95,6 +97,60 @@ length_remove [] at l = absurd (omega arith)
 length_remove (k ∷ ks) zero l = refl
 length_remove (k ∷ ks) (suc n) l = ap suc (length_remove ks n (omega arith))
 
+pub at_insert : (ls : List (List ℕ)) (at : ℕ) (t d : List ℕ) → at ≤ length ls → slice_index_or (insert ls at t) at d ≡ t
+at_insert ls zero t d l = refl
+at_insert [] (suc n) t d l = absurd (omega arith)
+at_insert (k ∷ ks) (suc n) t d l = at_insert ks n t d (omega arith)
+
+-- a line that was moved and is moved back
+pub moved_back : (ls : List (List ℕ)) (from to : ℕ) → from < length ls → to < length ls → moved to from (moved from to ls) ≡ ls
+moved_back ls from to l k =
+    let t : List ℕ = slice_index_or ls from [] in
+    let within : to ≤ length (remove ls from) = omega (arith, length_remove ls from l) in
+    ap (λ z. insert z from (slice_index_or (moved from to ls) to [])) (remove-insert (remove ls from) to t within)
+    ∙ ap (λ z. insert (remove ls from) from z) (at_insert (remove ls from) to t [] within)
+    ∙ insert-remove ls from [] l
+
+-- a line behind one that is taken out
+at_remove : (ls : List (List ℕ)) (at k : ℕ) (d : List ℕ) → at ≤ k → slice_index_or (remove ls at) k d ≡ slice_index_or ls (suc k) d
+at_remove [] zero k d l = refl
+at_remove [] (suc n) k d l = refl
+at_remove (j ∷ ks) zero k d l = refl
+at_remove (j ∷ ks) (suc n) zero d l = absurd (omega arith)
+at_remove (j ∷ ks) (suc n) (suc k) d l = at_remove ks n k d (omega arith)
+
+-- a line that is moved before another decides whether one without LF stands there
+pub open_move : (ls : List (List ℕ)) (from to : ℕ) (d : List ℕ) → from < length ls → to < length ls - 1 → has_unended_inside ls ≡ false
+    → not (ends_in_lf (slice_index_or ls from [])) ≡ has_unended_inside (moved from to ls)
+open_move ls from to d l k h = open_insert (remove ls from) to (slice_index_or ls from []) (omega (arith, length_remove ls from l)) (open_remove ls from h)
+
+-- where another becomes the last, the one that was last decides
+pub open_move_end : (ls : List (List ℕ)) (from to n : ℕ) (d : List ℕ) → from < suc n → length ls ≡ suc (suc n) → to ≡ suc n → has_unended_inside ls ≡ false
+    → not (ends_in_lf (slice_index_or ls (suc n) d)) ≡ has_unended_inside (moved from to ls)
+open_move_end ls from to n d l size last h =
+    ap (λ z. not (ends_in_lf z)) (sym (at_remove ls from n d (omega arith)))
+    ∙ open_insert_end (remove ls from) n (slice_index_or ls from []) d (omega (arith, length_remove ls from (omega (arith, size)))) (open_remove ls from h)
+    ∙ ap (λ k. has_unended_inside (insert (remove ls from) k (slice_index_or ls from []))) (sym last)
+
+-- a line that is moved to its own place
+pub stays_in_place : (ls : List (List ℕ)) (from to : ℕ) → from ≡ to → from < length ls → has_unended_inside ls ≡ false → false ≡ has_unended_inside (moved from to ls)
+stays_in_place ls from to same l h =
+    sym h ∙ ap has_unended_inside (sym (insert-remove ls from [] l)) ∙ ap (λ k. has_unended_inside (moved from k ls)) same
+
+-- the line that decides, as the code reads it
+pub move_before : (ls : List (List ℕ)) (from to before last : ℕ) (line : List ℕ) → from < length ls → last ≡ length ls - 1 → to < last → before ≡ from
+    → slice_get ls before ≡ Some line → has_unended_inside ls ≡ false → not (ends_in_lf line) ≡ has_unended_inside (moved from to ls)
+move_before ls from to before last line l last_is order same here h =
+    ap (λ z. not (ends_in_lf z)) (sym (at_get ls from line [] (ap (slice_get ls) (sym same) ∙ here)))
+    ∙ open_move ls from to [] l (omega (arith, last_is, order)) h
+
+pub move_behind : (ls : List (List ℕ)) (from to before last : ℕ) (line : List ℕ) → from < length ls → to < length ls → (from ≡ to → ⊥) → last ≡ length ls - 1 → last ≤ to
+    → before ≡ last → slice_get ls before ≡ Some line → has_unended_inside ls ≡ false → not (ends_in_lf line) ≡ has_unended_inside (moved from to ls)
+move_behind ls from to before last line l k other last_is order same here h =
+    let place : before ≡ suc (last - 1) = omega (arith, l, k, other, last_is, order, same) in
+    ap (λ z. not (ends_in_lf z)) (sym (at_get ls (suc (last - 1)) line [] (ap (slice_get ls) (sym place) ∙ here)))
+    ∙ open_move_end ls from to (last - 1) [] (omega (arith, l, k, other, last_is, order)) (omega (arith, l, k, other, last_is, order)) (omega (arith, l, k, other, last_is, order)) h
+
 -- ONE LINE
 
 pub is_one : (t : List ℕ) → IsAlone t → is_one_line t ≡ true
@@ -112,6 +168,9 @@ step_insert ls at t l one = rw (le-ltb (length ls) at l, one) refl
 pub step_delete : (ls : List (List ℕ)) (at : ℕ) → at < length ls → step (Delete at) ls ≡ lines_or_refusal (remove ls at)
 step_delete ls at l = rw (lt-ltb at (length ls) l) refl
 
+pub step_move : (ls : List (List ℕ)) (from to : ℕ) → from < length ls → to < length ls → step (Move from to) ls ≡ lines_or_refusal (moved from to ls)
+step_move ls from to l k = rw (lt-ltb from (length ls) l, lt-ltb to (length ls) k) refl
+
 -- lines of which only the last may lack LF go by what their text is read as
 pub by_text : (ls : List (List ℕ)) → has_unended_inside ls ≡ false → lines_or_refusal ls ≡ where_policy ls (policy_or_refusal (join ls))
 by_text ls ended = rw ended refl
@@ -120,12 +179,13 @@ pub refuses_lines : (f : EditFault) (ls : List (List ℕ)) (r : Result (List Lin
 refuses_lines NoLine ls r is = ap (where_policy ls) is
 refuses_lines NotOneLine ls r is = ap (where_policy ls) is
 refuses_lines OpenLine ls r is = ap (where_policy ls) is
+refuses_lines EndAsIs ls r is = ap (where_policy ls) is
 refuses_lines TooLarge ls r is = ap (where_policy ls) is
 refuses_lines (NotPolicy fault) ls r is = ap (where_policy ls) is
 refuses_lines NoMemory ls r is = tt
 
 -- one step as a run
-run_one : (e : Edit) (ls new : List (List ℕ)) → step e ls ≡ Ok new → run (e ∷ []) ls ≡ Some new
+pub run_one : (e : Edit) (ls new : List (List ℕ)) → step e ls ≡ Ok new → run (e ∷ []) ls ≡ Some new
 run_one e ls new h = rw h refl
 
 pub back_insert : (ls : List (List ℕ)) (at : ℕ) (t : List ℕ) → IsSound ls → at ≤ length ls → run (Delete at ∷ []) (insert ls at t) ≡ Some ls
@@ -139,6 +199,14 @@ back_delete ls at sound l =
     run_one (Insert at t) (remove ls at) ls
     (step_insert (remove ls at) at t (omega (arith, length_remove ls at l)) (is_one t (each_at ls at l sound.each))
     ∙ ap lines_or_refusal (insert-remove ls at [] l) ∙ settled ls sound)
+
+pub back_move : (ls : List (List ℕ)) (from to : ℕ) → IsSound ls → from < length ls → to < length ls → run (Move to from ∷ []) (moved from to ls) ≡ Some ls
+back_move ls from to sound l k =
+    let one : suc (length (remove ls from)) ≡ length ls = length_remove ls from l in
+    let size : length (moved from to ls) ≡ length ls = length_insert (remove ls from) to (slice_index_or ls from []) (omega (arith, one)) ∙ one in
+    run_one (Move to from) (moved from to ls) ls
+    (step_move (moved from to ls) to from (omega (arith, size)) (omega (arith, size))
+    ∙ ap lines_or_refusal (moved_back ls from to l k) ∙ settled ls sound)
 
 -- JOURNALS
 
@@ -181,11 +249,11 @@ pub insert_leads : (ls : List (List ℕ)) (at : ℕ) (t text : List ℕ) → IsS
 insert_leads ls at t text sound within one alone ended is = record {
   new = insert ls at t;
   joined = is;
-  each = each_insert ls at t sound.each alone;
+  each = λ policy read. each_insert ls at t sound.each alone;
   ended = ended;
   forth = step_insert ls at t within one;
   inverse = refl;
-  back = back_insert ls at t sound within;
+  back = λ policy read. back_insert ls at t sound within;
 }
 
 pub delete_leads : (ls : List (List ℕ)) (at : ℕ) (text : List ℕ) → IsSound ls → at < length ls → text ≡ join (remove ls at)
@@ -193,11 +261,24 @@ pub delete_leads : (ls : List (List ℕ)) (at : ℕ) (text : List ℕ) → IsSou
 delete_leads ls at text sound within is = record {
   new = remove ls at;
   joined = is;
-  each = each_remove ls at sound.each;
+  each = λ policy read. each_remove ls at sound.each;
   ended = open_remove ls at sound.ended;
   forth = step_delete ls at within;
   inverse = refl;
-  back = back_delete ls at sound within;
+  back = λ policy read. back_delete ls at sound within;
+}
+
+pub move_leads : (ls : List (List ℕ)) (from to : ℕ) (text : List ℕ) → IsSound ls → from < length ls → to < length ls
+    → has_unended_inside (moved from to ls) ≡ false → text ≡ join (moved from to ls)
+    → Leads (record { edit = Move from to; inverse = Move to from ∷ [] }) ls text
+move_leads ls from to text sound inside within ended is = record {
+  new = moved from to ls;
+  joined = is;
+  each = λ policy read. each_insert (remove ls from) to (slice_index_or ls from []) (each_remove ls from sound.each) (each_at ls from inside sound.each);
+  ended = ended;
+  forth = step_move ls from to inside within;
+  inverse = refl;
+  back = λ policy read. back_move ls from to sound inside within;
 }
 
 -- What an accepted edit leaves.
@@ -208,12 +289,12 @@ pub settles : (entry : Entry) (ls new : List (List ℕ)) (text : List ℕ) (poli
     → Leaves entry.edit entry.inverse ls new journal later
 settles entry ls new text policy journal later leads read same undoable later_is is =
     let whole : policy_or_refusal (join leads.new) ≡ Ok policy = ap policy_or_refusal (sym leads.joined) ∙ read in
-    let reached : leads.new ≡ new = sym (same leads.new leads.each leads.ended whole) ∙ sym is in
+    let reached : leads.new ≡ new = sym (same leads.new (leads.each policy whole) leads.ended whole) ∙ sym is in
     let forth : step entry.edit ls ≡ Ok leads.new = leads.forth ∙ by_text leads.new leads.ended ∙ ap (where_policy leads.new) whole in
     let entry_is : entry ≡ record { edit = entry.edit; inverse = inv entry.edit ls } = ap (λ i. record { edit = entry.edit; inverse = i }) leads.inverse in
     let left =
     left_by entry.edit ls new journal later (forth ∙ ap (λ z. Ok z) reached)
-    (ap (λ i. run i new) (sym leads.inverse) ∙ ap (run entry.inverse) (sym reached) ∙ leads.back) undoable
+    (ap (λ i. run i new) (sym leads.inverse) ∙ ap (run entry.inverse) (sym reached) ∙ leads.back policy whole) undoable
     (later_is ∙ ap (λ e. journal ++ e ∷ []) entry_is) in
     record { forth = left.forth; undoable = left.undoable; begun = left.begun }
 

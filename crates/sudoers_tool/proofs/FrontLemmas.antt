@@ -1,16 +1,16 @@
 -- Where a reading stops: the lines before are a front of a script, and with that line they are none.
 use Rattle.std.proofs.Common.{◌≡◌, ◌⊎◌, ℕ, zero, suc, ◌+◌, ◌-◌, ◌<◌, ◌≤◌, Bool, true, false, not, List, [], ◌∷◌, ◌++◌, length, take, refl, sym, ap, subst, ◌∙◌, arith, inl, inr, append_assoc, append-nil}
-use Rattle.std.specs.Prelude.{Result, Ok, Err, nat_le, codes}
+use Rattle.std.specs.Prelude.{Result, Ok, Err, nat_le}
 use Rattle.std.proofs.lemmas.List.{length-append, take_all}
 use Rattle.std.proofs.lemmas.Bool.{false≢true, cases_Bool, leb-true, leb-false, or_parts}
 use Rattle.sudoers_text.specs.Ended.{ends_in_lf, has_unended_inside}
 use Rattle.sudoers_text.specs.Line.{join as text_of}
 use Rattle.sudoers_tool.specs.Physical.{physical_lines}
-use Rattle.sudoers_tool.specs.Script.{number, spelling, AreNumbered, edit_limit, IsFront, IsDeadLine, WantsText, IsFullBefore}
+use Rattle.sudoers_tool.specs.Script.{spelling, AreNumbered, edit_limit, IsFront, IsDeadLine, WantsText, IsFullBefore}
 use Rattle.sudoers_tool.specs.ScriptReading.{Standing, Between, Begun, Going, Rest, before, with_room, command_line, first_line, later_line, edits_from, sense, text_in, reading, IsToldAt}
 use Rattle.sudoers_tool.specs.ScriptStanding.{behind}
 use Rattle.sudoers_tool.specs.declared.edit.Edit.{Edit}
-use Rattle.sudoers_tool.specs.declared.edit.Edit.TheVariants.{Insert, Delete}
+use Rattle.sudoers_tool.specs.declared.edit.Edit.TheVariants.{Insert, Delete, Move, EndLine, OpenEnd}
 use Rattle.sudoers_tool.specs.declared.script_line.Said.{Said}
 use Rattle.sudoers_tool.specs.declared.script_line.Said.TheVariants as says
 use Rattle.sudoers_tool.specs.declared.script.ScriptFault.{ScriptFault}
@@ -18,7 +18,7 @@ use Rattle.sudoers_tool.specs.declared.script.ScriptFault.TheVariants as faults
 use Rattle.sudoers_tool.proofs.PhysicalLemmas.{IsLine, AreLines, join, lines-each, lines-ended, ended-push}
 use Rattle.sudoers_tool.proofs.ScriptLemmas.{opened, lines_spelled, read_spelling}
 use Rattle.sudoers_tool.proofs.SpellingLemmas.{spelling_read}
-use Rattle.sudoers_tool.proofs.WordLemmas.{Says, says_sense}
+use Rattle.sudoers_tool.proofs.WordLemmas.{command_of, Commands, Says, says_sense}
 
 -- ONE LINE
 
@@ -121,6 +121,23 @@ too_many result line count fits t gives =
 bad_word : (result : Rest → Result (List Edit) ScriptFault) (standing : Standing) (line count : ℕ) → ((rest : Rest) → result rest ≡ Err (faults.BadWord line)) → Fails result standing line count
 bad_word result standing line count gives = record { fault = faults.BadWord line; gives = gives; at = refl; alone = tt }
 
+-- the line of a command that is all of its edit
+plain_step : (edit : Edit) (text : List ℕ) (line count : ℕ) → Commands edit text → count ≤ 65536 → Goes (λ rest. with_room count (before edit (rest Between (count + 1)))) text Between line count ⊎ Fails (λ rest. with_room count (before edit (rest Between (count + 1)))) Between line count
+plain_step edit text line count told fits =
+    elim (cases_Bool (nat_le 65536 count)) [
+      | inl t ↦ inr (too_many _ line count fits t (λ rest. no_room count (before edit (rest Between (count + 1))) t))
+      | inr f ↦ inl (record {
+        edits = edit ∷ [];
+        then = Between;
+        total = count + 1;
+        gives = λ rest. has_room count (before edit (rest Between (count + 1))) f ∙ before_one edit (rest Between (count + 1));
+        ended = ended_by text (command_of edit) told.0;
+        placed = tt;
+        fits = (let h : count < 65536 = leb-false 65536 count f in omega arith);
+        sum = omega arith;
+      })
+    ]
+
 -- a line where a command has to come
 command_step : (said : Said) (text : List ℕ) (line count : ℕ) → Says said text → 0 < line → count ≤ 65536 → Goes (λ rest. command_line rest line count said) text Between line count ⊎ Fails (λ rest. command_line rest line count said) Between line count
 command_step (says.Insert at) text line count told pos fits =
@@ -131,26 +148,16 @@ command_step (says.Insert at) text line count told pos fits =
         then = Begun at line;
         total = count + 1;
         gives = λ rest. has_room count (rest (Begun at line) (count + 1)) f ∙ behind_none (rest (Begun at line) (count + 1));
-        ended = ended_by text (codes "insert " ++ number at) told.0;
+        ended = ended_by text (command_of (Insert at [])) told.0;
         placed = (refl, pos);
         fits = (let h : count < 65536 = leb-false 65536 count f in omega arith);
         sum = omega arith;
       })
     ]
-command_step (says.Delete at) text line count told pos fits =
-    elim (cases_Bool (nat_le 65536 count)) [
-      | inl t ↦ inr (too_many _ line count fits t (λ rest. no_room count (before (Delete at) (rest Between (count + 1))) t))
-      | inr f ↦ inl (record {
-        edits = Delete at ∷ [];
-        then = Between;
-        total = count + 1;
-        gives = λ rest. has_room count (before (Delete at) (rest Between (count + 1))) f ∙ before_one (Delete at) (rest Between (count + 1));
-        ended = ended_by text (codes "delete " ++ number at) told.0;
-        placed = tt;
-        fits = (let h : count < 65536 = leb-false 65536 count f in omega arith);
-        sum = omega arith;
-      })
-    ]
+command_step (says.Delete at) text line count told pos fits = plain_step (Delete at) text line count told fits
+command_step (says.Move from to) text line count told pos fits = plain_step (Move from to) text line count told fits
+command_step says.EndLine text line count told pos fits = plain_step EndLine text line count told fits
+command_step says.OpenEnd text line count told pos fits = plain_step OpenEnd text line count told fits
 command_step says.BadNumber text line count told pos fits =
     elim (cases_Bool (nat_le 65536 count)) [
       | inl t ↦ inr (too_many _ line count fits t (λ rest. no_room count (Err (faults.BadNumber line)) t))
@@ -197,6 +204,9 @@ first_step says.Last text t line count at begun told placed fits =
 first_step says.Unended text t line count at begun told placed fits = inr (bad_word _ (Begun at begun) line count (λ rest. refl))
 first_step (says.Insert _) text t line count at begun told placed fits = inr (no_payload _ line count at begun placed (λ rest. refl))
 first_step (says.Delete _) text t line count at begun told placed fits = inr (no_payload _ line count at begun placed (λ rest. refl))
+first_step (says.Move _ _) text t line count at begun told placed fits = inr (no_payload _ line count at begun placed (λ rest. refl))
+first_step says.EndLine text t line count at begun told placed fits = inr (no_payload _ line count at begun placed (λ rest. refl))
+first_step says.OpenEnd text t line count at begun told placed fits = inr (no_payload _ line count at begun placed (λ rest. refl))
 first_step says.BadNumber text t line count at begun told placed fits = inr (no_payload _ line count at begun placed (λ rest. refl))
 first_step says.BadCommand text t line count at begun told placed fits = inr (no_payload _ line count at begun placed (λ rest. refl))
 first_step says.Other text t line count at begun told placed fits = inr (no_payload _ line count at begun placed (λ rest. refl))
@@ -261,6 +271,9 @@ later_step says.Last text (b ∷ t) line count at so_far told pos fits =
 later_step says.Unended text t line count at so_far told pos fits = inr (bad_word _ (Going at so_far) line count (λ rest. refl))
 later_step (says.Insert n) text t line count at so_far told pos fits = going_step (says.Insert n) text line count at so_far (command_step (says.Insert n) text line count told pos fits)
 later_step (says.Delete n) text t line count at so_far told pos fits = going_step (says.Delete n) text line count at so_far (command_step (says.Delete n) text line count told pos fits)
+later_step (says.Move from to) text t line count at so_far told pos fits = going_step (says.Move from to) text line count at so_far (command_step (says.Move from to) text line count told pos fits)
+later_step says.EndLine text t line count at so_far told pos fits = going_step says.EndLine text line count at so_far (command_step says.EndLine text line count told pos fits)
+later_step says.OpenEnd text t line count at so_far told pos fits = going_step says.OpenEnd text line count at so_far (command_step says.OpenEnd text line count told pos fits)
 later_step says.BadNumber text t line count at so_far told pos fits = going_step says.BadNumber text line count at so_far (command_step says.BadNumber text line count told pos fits)
 later_step says.BadCommand text t line count at so_far told pos fits = going_step says.BadCommand text line count at so_far (command_step says.BadCommand text line count told pos fits)
 later_step says.Other text t line count at so_far told pos fits = going_step says.Other text line count at so_far (command_step says.Other text line count told pos fits)

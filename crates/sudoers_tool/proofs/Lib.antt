@@ -1,6 +1,7 @@
 mod EditLemmas
 mod FrontLemmas
 mod HistoryLemmas
+mod LastLemmas
 mod NumberLemmas
 mod OneSpelling
 mod PhysicalLemmas

@@ -1,17 +1,18 @@
 -- Two lists of edits have two spellings, however many they are.
-use Rattle.std.proofs.Common.{◌≡◌, ℕ, true, false, List, [], ◌∷◌, ◌++◌, ◌==◌, refl, sym, ap, subst, ◌∙◌, arith, inl, inr, append_assoc}
+use Rattle.std.proofs.Common.{◌≡◌, ℕ, Bool, true, false, List, [], ◌∷◌, ◌++◌, ◌==◌, refl, sym, ap, subst, ◌∙◌, arith, inl, inr, append_assoc}
 use Rattle.std.specs.List.{flat_map, list_any}
 use Rattle.std.proofs.lemmas.Bool.{false≢true, cases_Bool}
 use Rattle.sudoers_text.specs.Ended.{ends_in_lf}
 use Rattle.sudoers_tool.specs.Physical.{physical_lines}
-use Rattle.sudoers_tool.specs.Script.{payload, payload_line, spelling, AreNumbered}
+use Rattle.sudoers_tool.specs.Script.{payload, payload_line, spelling, IsNumbered, AreNumbered}
 use Rattle.sudoers_tool.specs.ScriptReading.{sense, without_end}
 use Rattle.sudoers_tool.specs.declared.edit.Edit.{Edit}
-use Rattle.sudoers_tool.specs.declared.edit.Edit.TheVariants.{Insert, Delete}
+use Rattle.sudoers_tool.specs.declared.edit.Edit.TheVariants.{Insert, Delete, Move, EndLine, OpenEnd}
+use Rattle.sudoers_tool.specs.declared.script_line.Said.{Said}
 use Rattle.sudoers_tool.specs.declared.script_line.Said.TheVariants as says
 use Rattle.sudoers_tool.proofs.PhysicalLemmas.{IsLine, AreLines, join, lines-each, lines-ended, line-push, ended-push, unended_lacks, without_end-push}
-use Rattle.sudoers_tool.proofs.WordLemmas.{insert_line, delete_line, sense-insert, sense-delete}
-use Rattle.sudoers_tool.proofs.SpellingLemmas.{lines_spelled_insert, lines_spelled_delete}
+use Rattle.sudoers_tool.proofs.WordLemmas.{line_of, said_of, sense-command}
+use Rattle.sudoers_tool.proofs.SpellingLemmas.{lines_spelled_edit, rest_of}
 
 -- the lines of a text determine it
 same_text : (a b : List ℕ) → physical_lines a ≡ physical_lines b → a ≡ b
@@ -100,6 +101,9 @@ behind_spelled : (edits : List Edit) → IsBehind (spelling edits)
 behind_spelled [] = tt
 behind_spelled (Insert at text ∷ edits) = (λ e. omega (arith, e), λ e. omega (arith, e))
 behind_spelled (Delete at ∷ edits) = (λ e. omega (arith, e), λ e. omega (arith, e))
+behind_spelled (Move from to ∷ edits) = (λ e. omega (arith, e), λ e. omega (arith, e))
+behind_spelled (EndLine ∷ edits) = (λ e. omega (arith, e), λ e. omega (arith, e))
+behind_spelled (OpenEnd ∷ edits) = (λ e. omega (arith, e), λ e. omega (arith, e))
 
 -- PAYLOADS
 
@@ -135,30 +139,89 @@ same_payload text word rest other r s e =
     (sym (ap (λ (z : List ℕ). z ++ rest) p.1) ∙ e ∙ ap (λ (z : List ℕ). z ++ other) q.1) in
     (sym p.2 ∙ ap join same.0 ∙ q.2, same.1)
 
--- texts that begin with two bytes are two
-first_byte : (a b : ℕ) (xs ys : List ℕ) → (a ≡ b → ⊥) → a ∷ xs ≡ b ∷ ys → ⊥
-first_byte a b xs ys other e = let f : a ≡ b = cc in other f
+-- EDITS
+
+-- the text that an edit brings
+abbrev text_of : Edit → List ℕ
+text_of (Insert at text) = text
+text_of (Delete at) = []
+text_of (Move from to) = []
+text_of EndLine = []
+text_of OpenEnd = []
+
+-- the edit whose command says this and that brings this text
+abbrev edit_of : Said → List ℕ → Edit
+edit_of (says.Insert at) text = Insert at text
+edit_of (says.Delete at) text = Delete at
+edit_of (says.Move from to) text = Move from to
+edit_of says.EndLine text = EndLine
+edit_of _ text = OpenEnd
+
+-- it is that edit
+edit-said : (edit : Edit) → edit_of (said_of edit) (text_of edit) ≡ edit
+edit-said (Insert at text) = refl
+edit-said (Delete at) = refl
+edit-said (Move from to) = refl
+edit-said EndLine = refl
+edit-said OpenEnd = refl
+
+-- a command that says this wants a text
+abbrev wants_text : Said → Bool
+wants_text (says.Insert at) = true
+wants_text _ = false
+
+-- what stands behind a command that wants a text, or none
+abbrev payload_if : Bool → List ℕ → List ℕ
+payload_if true text = payload text
+payload_if false text = []
+
+-- so it does behind an edit's
+rest-said : (edit : Edit) → rest_of edit ≡ payload_if (wants_text (said_of edit)) (text_of edit)
+rest-said (Insert at text) = refl
+rest-said (Delete at) = refl
+rest-said (Move from to) = refl
+rest-said EndLine = refl
+rest-said OpenEnd = refl
+
+-- an edit that wants no text brings none
+no_text : (edit : Edit) → wants_text (said_of edit) ≡ false → text_of edit ≡ []
+no_text (Insert at text) h = cc
+no_text (Delete at) h = refl
+no_text (Move from to) h = refl
+no_text EndLine h = refl
+no_text OpenEnd h = refl
+
+-- two commands that want a text or none, before spellings that are one text, have the same text, and the same behind it
+same_rest : (wants : Bool) (text word rest other : List ℕ) → (wants ≡ false → text ≡ []) → (wants ≡ false → word ≡ []) → IsBehind rest → IsBehind other
+    → payload_if wants text ++ rest ≡ payload_if wants word ++ other → (text ≡ word) × (rest ≡ other)
+same_rest true text word rest other none lacks r s e = same_payload text word rest other r s e
+same_rest false text word rest other none lacks r s e = (none refl ∙ sym (lacks refl), e)
+
+-- two edits whose commands are one line, before the same bytes, are one, and the same is behind them
+same_edit : (edit other : Edit) (rest more : List ℕ) → said_of edit ≡ said_of other → IsBehind rest → IsBehind more → rest_of edit ++ rest ≡ rest_of other ++ more → (edit ≡ other) × (rest ≡ more)
+same_edit edit other rest more said r s e =
+    let wants : wants_text (said_of other) ≡ wants_text (said_of edit) = ap wants_text (sym said) in
+    let whole : payload_if (wants_text (said_of edit)) (text_of edit) ++ rest ≡ payload_if (wants_text (said_of edit)) (text_of other) ++ more =
+    ap (λ (z : List ℕ). z ++ rest) (sym (rest-said edit)) ∙ e
+    ∙ ap (λ (z : List ℕ). z ++ more) (rest-said other ∙ ap (λ (b : Bool). payload_if b (text_of other)) wants) in
+    let same = same_rest (wants_text (said_of edit)) (text_of edit) (text_of other) rest more (no_text edit) (λ h. no_text other (wants ∙ h)) r s whole in
+    (sym (edit-said edit) ∙ ap (λ (x : Said). edit_of x (text_of edit)) said ∙ ap (edit_of (said_of other)) same.0 ∙ edit-said other, same.1)
+
+-- a spelling of an edit has bytes
+spelled_some : (edit : Edit) (edits : List Edit) → IsNumbered edit → spelling (edit ∷ edits) ≡ [] → ⊥
+spelled_some edit edits n e =
+    let no : line_of edit ∷ physical_lines (rest_of edit ++ spelling edits) ≡ [] = sym (lines_spelled_edit edit edits n) ∙ ap physical_lines e in
+    cc
 
 -- THE LAW: two lists of edits have two spellings
 pub spelling_injective : (edits others : List Edit) → AreNumbered edits → AreNumbered others → spelling edits ≡ spelling others → edits ≡ others
 spelling_injective [] [] n m e = refl
-spelling_injective [] (Insert at text ∷ others) n m e = cc
-spelling_injective [] (Delete at ∷ others) n m e = cc
-spelling_injective (Insert at text ∷ edits) [] n m e = cc
-spelling_injective (Delete at ∷ edits) [] n m e = cc
-spelling_injective (Insert at text ∷ edits) (Insert b word ∷ others) n m e =
-    let lines = same_lines (insert_line at) (insert_line b) (spelling (Insert at text ∷ edits)) (spelling (Insert b word ∷ others)) (physical_lines (payload text ++ spelling edits)) (physical_lines (payload word ++ spelling others)) (lines_spelled_insert at text edits n.0) (lines_spelled_insert b word others m.0) e in
-    let said : says.Insert at ≡ says.Insert b = sym (sense-insert at n.0) ∙ ap sense lines.0 ∙ sense-insert b m.0 in
-    let place : at ≡ b = cc in
-    let parts = same_payload text word (spelling edits) (spelling others) (behind_spelled edits) (behind_spelled others) (same_text (payload text ++ spelling edits) (payload word ++ spelling others) lines.1) in
-    let texts : text ≡ word = parts.0 in
-    let rest : edits ≡ others = spelling_injective edits others n.1 m.1 parts.1 in
-    cc
-spelling_injective (Delete at ∷ edits) (Delete b ∷ others) n m e =
-    let lines = same_lines (delete_line at) (delete_line b) (spelling (Delete at ∷ edits)) (spelling (Delete b ∷ others)) (physical_lines (spelling edits)) (physical_lines (spelling others)) (lines_spelled_delete at edits n.0) (lines_spelled_delete b others m.0) e in
-    let said : says.Delete at ≡ says.Delete b = sym (sense-delete at n.0) ∙ ap sense lines.0 ∙ sense-delete b m.0 in
-    let place : at ≡ b = cc in
-    let rest : edits ≡ others = spelling_injective edits others n.1 m.1 (same_text (spelling edits) (spelling others) lines.1) in
-    cc
-spelling_injective (Insert at text ∷ edits) (Delete b ∷ others) n m e = absurd (first_byte 105 100 _ _ (λ f. omega (arith, f)) e)
-spelling_injective (Delete at ∷ edits) (Insert b word ∷ others) n m e = absurd (first_byte 100 105 _ _ (λ f. omega (arith, f)) e)
+spelling_injective [] (other ∷ others) n m e = absurd (spelled_some other others m.0 (sym e))
+spelling_injective (edit ∷ edits) [] n m e = absurd (spelled_some edit edits n.0 e)
+spelling_injective (edit ∷ edits) (other ∷ others) n m e =
+    let rest : List ℕ = rest_of edit ++ spelling edits in
+    let more : List ℕ = rest_of other ++ spelling others in
+    let lines = same_lines (line_of edit) (line_of other) (spelling (edit ∷ edits)) (spelling (other ∷ others)) (physical_lines rest) (physical_lines more) (lines_spelled_edit edit edits n.0) (lines_spelled_edit other others m.0) e in
+    let said : said_of edit ≡ said_of other = sym (sense-command edit n.0) ∙ ap sense lines.0 ∙ sense-command other m.0 in
+    let same = same_edit edit other (spelling edits) (spelling others) said (behind_spelled edits) (behind_spelled others) (same_text rest more lines.1) in
+    ap (λ (x : Edit). x ∷ edits) same.0 ∙ ap (λ (xs : List Edit). other ∷ xs) (spelling_injective edits others n.1 m.1 same.1)

@@ -9,18 +9,18 @@ use Rattle.sudoers_tool.specs.Physical.{physical_lines}
 use Rattle.sudoers_tool.specs.Script.{payload, payload_line, spell, spelling, AreNumbered, edit_limit}
 use Rattle.sudoers_tool.specs.ScriptReading.{Standing, Between, Begun, Going, Rest, before, with_room, command_line, first_line, later_line, edits_from, sense, text_in, without_end, reading, Reads}
 use Rattle.sudoers_tool.specs.declared.edit.Edit.{Edit}
-use Rattle.sudoers_tool.specs.declared.edit.Edit.TheVariants.{Insert, Delete}
+use Rattle.sudoers_tool.specs.declared.edit.Edit.TheVariants.{Insert, Delete, Move, EndLine, OpenEnd}
 use Rattle.sudoers_tool.specs.declared.script_line.Said.{Said}
 use Rattle.sudoers_tool.specs.declared.script_line.Said.TheVariants as says
 use Rattle.sudoers_tool.specs.declared.script.ScriptFault.{ScriptFault}
 use Rattle.sudoers_tool.specs.declared.script.ScriptFault.TheVariants as faults
 use Rattle.sudoers_tool.proofs.PhysicalLemmas.{IsLine, AreLines, join, lines-each, lines-one, lines-append, lacks_line, lacks_unended, push_lacks}
-use Rattle.sudoers_tool.proofs.WordLemmas.{insert_line, delete_line, Says, says_sense, text-last}
+use Rattle.sudoers_tool.proofs.WordLemmas.{line_of, IsPlain, spell_plain, Commands, Says, says_sense, text-last}
 
 -- what has been read of an edit that is open
 abbrev pub front : Standing → List ℕ
 front Between = []
-front (Begun at line) = insert_line at
+front (Begun at line) = line_of (Insert at [])
 front (Going at so_far) = spell (Insert at so_far)
 
 -- an open insertion counts, and is no edit yet
@@ -109,12 +109,24 @@ grown : (so_far l t : List ℕ) (at : ℕ) (lines : List (List ℕ)) → ends_in
 grown so_far l t at lines ended some e =
     sym (append_assoc (spell (Insert at so_far)) l (join lines))
     ∙ ap (λ (z : List ℕ). z ++ join lines) (
-    ap (λ (z : List ℕ). (insert_line at ++ payload so_far) ++ z) e
-    ∙ append_assoc (insert_line at) (payload so_far) (payload t)
-    ∙ ap (λ (z : List ℕ). insert_line at ++ z) (sym (payload-append so_far t ended some))
+    ap (λ (z : List ℕ). (line_of (Insert at []) ++ payload so_far) ++ z) e
+    ∙ append_assoc (line_of (Insert at [])) (payload so_far) (payload t)
+    ∙ ap (λ (z : List ℕ). line_of (Insert at []) ++ z) (sym (payload-append so_far t ended some))
     )
 
 -- COMMANDS
+
+-- the line of a command that is all of its edit, and the lines behind it, spell what they give
+plain_spelled : (edit : Edit) → IsPlain edit → (rest : Rest) (lines : List (List ℕ)) (l : List ℕ) (count : ℕ) (edits : List Edit) → Commands edit l → AreSpelled rest lines → with_room count (before edit (rest Between (count + 1))) ≡ Ok edits → Spells Between (l ∷ lines) edits count
+plain_spelled edit plain rest lines l count edits told behind e =
+    let r = room_ok count (before edit (rest Between (count + 1))) edits e in
+    let b = before_ok edit (rest Between (count + 1)) edits r.1 in
+    let s = behind Between (count + 1) b.0 tt (omega (arith, r.0)) b.1 in
+    subst (λ (es : List Edit). Spells Between (l ∷ lines) es count) (sym b.2) (record {
+      text = ap (λ (z : List ℕ). z ++ join lines) (told.0 ∙ spell_plain edit plain) ∙ ap (λ (z : List ℕ). spell edit ++ z) s.text;
+      few = omega (arith, s.few);
+      numbered = (told.1, s.numbered);
+    })
 
 -- a line where a command has to come, and the lines behind it, spell what they give
 command_spelled : (rest : Rest) (lines : List (List ℕ)) (l : List ℕ) (line count : ℕ) (edits : List Edit) (said : Said) → Says said l → AreSpelled rest lines → count ≤ 65536 → command_line rest line count said ≡ Ok edits → Spells Between (l ∷ lines) edits count
@@ -126,15 +138,10 @@ command_spelled rest lines l line count edits (says.Insert at) told behind fits 
       few = omega (arith, s.few);
       numbered = s.numbered;
     }
-command_spelled rest lines l line count edits (says.Delete at) told behind fits e =
-    let r = room_ok count (before (Delete at) (rest Between (count + 1))) edits e in
-    let b = before_ok (Delete at) (rest Between (count + 1)) edits r.1 in
-    let s = behind Between (count + 1) b.0 tt (omega (arith, r.0)) b.1 in
-    subst (λ (es : List Edit). Spells Between (l ∷ lines) es count) (sym b.2) (record {
-      text = ap (λ (z : List ℕ). z ++ join lines) told.0 ∙ ap (λ (z : List ℕ). delete_line at ++ z) s.text;
-      few = omega (arith, s.few);
-      numbered = (told.1, s.numbered);
-    })
+command_spelled rest lines l line count edits (says.Delete at) told behind fits e = plain_spelled (Delete at) tt rest lines l count edits told behind e
+command_spelled rest lines l line count edits (says.Move from to) told behind fits e = plain_spelled (Move from to) tt rest lines l count edits told behind e
+command_spelled rest lines l line count edits says.EndLine told behind fits e = plain_spelled EndLine tt rest lines l count edits told behind e
+command_spelled rest lines l line count edits says.OpenEnd told behind fits e = plain_spelled OpenEnd tt rest lines l count edits told behind e
 command_spelled rest lines l line count edits says.BadNumber told behind fits e = let r = (room_ok count (Err (faults.BadNumber line)) edits e).1 in cc
 command_spelled rest lines l line count edits says.BadCommand told behind fits e = let r = (room_ok count (Err (faults.BadWord line)) edits e).1 in cc
 command_spelled rest lines l line count edits says.More told behind fits e = cc
@@ -150,8 +157,8 @@ more_first lines l t at begun count edits e h is s =
     let line : IsLine t = more_line t h (subst (λ (z : List ℕ). IsLine z) e is) in
     record {
       text =
-          sym (append_assoc (insert_line at) l (join lines))
-          ∙ ap (λ (z : List ℕ). (insert_line at ++ z) ++ join lines) (e ∙ sym (payload_ended t line h))
+          sym (append_assoc (line_of (Insert at [])) l (join lines))
+          ∙ ap (λ (z : List ℕ). (line_of (Insert at []) ++ z) ++ join lines) (e ∙ sym (payload_ended t line h))
           ∙ s.text;
       few = s.few;
       numbered = s.numbered;
@@ -163,8 +170,8 @@ last_first lines l t at begun count more e is n s =
     let text : l ≡ payload t = e ∙ sym (payload_unended t (subst (λ (z : List ℕ). IsLine z) e is)) in
     record {
       text =
-          sym (append_assoc (insert_line at) l (join lines))
-          ∙ ap (λ (z : List ℕ). (insert_line at ++ z) ++ join lines) text
+          sym (append_assoc (line_of (Insert at [])) l (join lines))
+          ∙ ap (λ (z : List ℕ). (line_of (Insert at []) ++ z) ++ join lines) text
           ∙ ap (λ (z : List ℕ). spell (Insert at t) ++ z) s.text;
       few = omega (arith, s.few);
       numbered = (n, s.numbered);
@@ -184,6 +191,9 @@ first_spelled rest lines l line count at begun edits says.Last told is behind n 
     (last_first lines l told.0 at begun count b.0 told.1 is n (behind Between count b.0 tt fits b.1))
 first_spelled rest lines l line count at begun edits (says.Insert _) told is behind n fits e = cc
 first_spelled rest lines l line count at begun edits (says.Delete _) told is behind n fits e = cc
+first_spelled rest lines l line count at begun edits (says.Move _ _) told is behind n fits e = cc
+first_spelled rest lines l line count at begun edits says.EndLine told is behind n fits e = cc
+first_spelled rest lines l line count at begun edits says.OpenEnd told is behind n fits e = cc
 first_spelled rest lines l line count at begun edits says.BadNumber told is behind n fits e = cc
 first_spelled rest lines l line count at begun edits says.BadCommand told is behind n fits e = cc
 first_spelled rest lines l line count at begun edits says.Unended told is behind n fits e = cc
@@ -246,6 +256,12 @@ later_spelled rest lines l line count at so_far edits (says.Insert m) told is be
     ends_later rest lines l line count at so_far edits (says.Insert m) told behind n fits e
 later_spelled rest lines l line count at so_far edits (says.Delete m) told is behind n ended fits e =
     ends_later rest lines l line count at so_far edits (says.Delete m) told behind n fits e
+later_spelled rest lines l line count at so_far edits (says.Move from to) told is behind n ended fits e =
+    ends_later rest lines l line count at so_far edits (says.Move from to) told behind n fits e
+later_spelled rest lines l line count at so_far edits says.EndLine told is behind n ended fits e =
+    ends_later rest lines l line count at so_far edits says.EndLine told behind n fits e
+later_spelled rest lines l line count at so_far edits says.OpenEnd told is behind n ended fits e =
+    ends_later rest lines l line count at so_far edits says.OpenEnd told behind n fits e
 later_spelled rest lines l line count at so_far edits says.BadNumber told is behind n ended fits e =
     ends_later rest lines l line count at so_far edits says.BadNumber told behind n fits e
 later_spelled rest lines l line count at so_far edits says.BadCommand told is behind n ended fits e =

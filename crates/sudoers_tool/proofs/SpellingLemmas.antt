@@ -1,20 +1,20 @@
 -- A spelling is read as the edits that it spells.
-use Rattle.std.proofs.Common.{◌≡◌, ℕ, ◌+◌, ◌^◌, ◌<◌, ◌≤◌, true, false, not, List, [], ◌∷◌, ◌++◌, length, refl, sym, ap, ◌∙◌, arith, inl, inr, append_assoc, append-nil}
+use Rattle.std.proofs.Common.{◌≡◌, ℕ, ◌+◌, ◌<◌, ◌≤◌, true, false, not, List, [], ◌∷◌, ◌++◌, length, refl, sym, ap, ◌∙◌, arith, inl, inr, append_assoc, append-nil}
 use Rattle.std.specs.Prelude.{Result, Ok, nat_le}
 use Rattle.std.specs.List.{flat_map}
 use Rattle.std.proofs.lemmas.Bool.{true≢false, cases_Bool, lt-leb, or_parts}
 use Rattle.sudoers_text.specs.Ended.{ends_in_lf, has_unended_inside}
 use Rattle.sudoers_tool.specs.Physical.{physical_lines}
-use Rattle.sudoers_tool.specs.Script.{payload, payload_line, spelling, AreNumbered, edit_limit}
+use Rattle.sudoers_tool.specs.Script.{payload, payload_line, spelling, IsNumbered, AreNumbered, edit_limit}
 use Rattle.sudoers_tool.specs.ScriptReading.{Between, Begun, Going, Rest, before, with_room, command_line, first_line, later_line, edits_from, sense, text_in, reading}
 use Rattle.sudoers_tool.specs.declared.edit.Edit.{Edit}
-use Rattle.sudoers_tool.specs.declared.edit.Edit.TheVariants.{Insert, Delete}
+use Rattle.sudoers_tool.specs.declared.edit.Edit.TheVariants.{Insert, Delete, Move, EndLine, OpenEnd}
 use Rattle.sudoers_tool.specs.declared.script_line.Said.{Said}
 use Rattle.sudoers_tool.specs.declared.script_line.Said.TheVariants as says
 use Rattle.sudoers_tool.specs.declared.script.ScriptFault.{ScriptFault}
 use Rattle.sudoers_tool.proofs.PhysicalLemmas.{IsLine, AreLines, join, lines-each, unended_lacks}
 use Rattle.sudoers_tool.proofs.ReadingLemmas.{later_line-command}
-use Rattle.sudoers_tool.proofs.WordLemmas.{insert_line, delete_line, lines-insert, lines-delete, sense-insert, sense-delete, lines-more, sense-more, lines-last, sense-last, text-last}
+use Rattle.sudoers_tool.proofs.WordLemmas.{line_of, said_of, IsPlain, spell_plain, lines-command, sense-command, lines-more, sense-more, lines-last, sense-last, text-last}
 
 -- with room for one command more
 room : (count : ℕ) (r : Result (List Edit) ScriptFault) → count < 65536 → with_room count r ≡ r
@@ -33,39 +33,45 @@ going_command : (text : List ℕ) (lines : List (List ℕ)) (line count at : ℕ
 going_command text lines line count at so_far edits m l u e =
     later_line-command (edits_from lines (line + 1)) line count at so_far (text_in (sense text) text) (sense text) m l u ∙ ap (before (Insert at so_far)) e
 
--- the command of an insertion is no line of a text
-no_insert : (said : Said) (n : ℕ) → said ≡ says.Insert n → (said ≡ says.More → ⊥) × (said ≡ says.Last → ⊥) × (said ≡ says.Unended → ⊥)
-no_insert said n e = (λ f. cc, λ f. cc, λ f. cc)
+-- a command is no line of a text
+no_text : (said : Said) (edit : Edit) → said ≡ said_of edit → (said ≡ says.More → ⊥) × (said ≡ says.Last → ⊥) × (said ≡ says.Unended → ⊥)
+no_text said (Insert at text) e = (λ f. cc, λ f. cc, λ f. cc)
+no_text said (Delete at) e = (λ f. cc, λ f. cc, λ f. cc)
+no_text said (Move from to) e = (λ f. cc, λ f. cc, λ f. cc)
+no_text said EndLine e = (λ f. cc, λ f. cc, λ f. cc)
+no_text said OpenEnd e = (λ f. cc, λ f. cc, λ f. cc)
 
--- the command of a deletion is no line of a text
-no_delete : (said : Said) (n : ℕ) → said ≡ says.Delete n → (said ≡ says.More → ⊥) × (said ≡ says.Last → ⊥) × (said ≡ says.Unended → ⊥)
-no_delete said n e = (λ f. cc, λ f. cc, λ f. cc)
+-- what stands behind the line of an edit's command
+abbrev pub rest_of : Edit → List ℕ
+rest_of (Insert at text) = payload text
+rest_of (Delete at) = []
+rest_of (Move from to) = []
+rest_of EndLine = []
+rest_of OpenEnd = []
 
--- the first line of an insertion's spelling
-pub lines_spelled_insert : (at : ℕ) (text : List ℕ) (edits : List Edit) → at + 1 ≤ 2 ^ 32 → physical_lines (spelling (Insert at text ∷ edits)) ≡ insert_line at ∷ physical_lines (payload text ++ spelling edits)
-lines_spelled_insert at text edits h =
-    ap physical_lines (append_assoc (insert_line at) (payload text) (spelling edits)) ∙ lines-insert at (payload text ++ spelling edits) h
+-- the first line of the spelling of an edit that is its command
+lines_plain : (edit : Edit) → IsPlain edit → (edits : List Edit) → IsNumbered edit → physical_lines (spelling (edit ∷ edits)) ≡ line_of edit ∷ physical_lines (spelling edits)
+lines_plain edit plain edits h =
+    ap (λ (z : List ℕ). physical_lines (z ++ spelling edits)) (sym (spell_plain edit plain)) ∙ lines-command edit (spelling edits) h
 
--- the first line of a deletion's spelling
-pub lines_spelled_delete : (at : ℕ) (edits : List Edit) → at + 1 ≤ 2 ^ 32 → physical_lines (spelling (Delete at ∷ edits)) ≡ delete_line at ∷ physical_lines (spelling edits)
-lines_spelled_delete at edits h = lines-delete at (spelling edits) h
+-- the first line of a spelling
+pub lines_spelled_edit : (edit : Edit) (edits : List Edit) → IsNumbered edit → physical_lines (spelling (edit ∷ edits)) ≡ line_of edit ∷ physical_lines (rest_of edit ++ spelling edits)
+lines_spelled_edit (Insert at text) edits h =
+    ap physical_lines (append_assoc (line_of (Insert at text)) (payload text) (spelling edits)) ∙ lines-command (Insert at text) (payload text ++ spelling edits) h
+lines_spelled_edit (Delete at) edits h = lines_plain (Delete at) tt edits h
+lines_spelled_edit (Move from to) edits h = lines_plain (Move from to) tt edits h
+lines_spelled_edit EndLine edits h = lines_plain EndLine tt edits h
+lines_spelled_edit OpenEnd edits h = lines_plain OpenEnd tt edits h
 
 -- a spelling that gives its edits where a command has to come gives them behind a text too
 gives_going : (edits : List Edit) (count : ℕ) → AreNumbered edits → GivesBetween (spelling edits) count edits → GivesGoing (spelling edits) count edits
 gives_going [] count n h = λ line at so_far. refl
-gives_going (Insert b text ∷ edits) count n h =
+gives_going (edit ∷ edits) count n h =
     λ line at so_far.
-    let e : physical_lines (spelling (Insert b text ∷ edits)) ≡ insert_line b ∷ physical_lines (payload text ++ spelling edits) = lines_spelled_insert b text edits n.0 in
-    let no = no_insert (sense (insert_line b)) b (sense-insert b n.0) in
+    let e : physical_lines (spelling (edit ∷ edits)) ≡ line_of edit ∷ physical_lines (rest_of edit ++ spelling edits) = lines_spelled_edit edit edits n.0 in
+    let no = no_text (sense (line_of edit)) edit (sense-command edit n.0) in
     ap (λ (ls : List (List ℕ)). edits_from ls line (Going at so_far) count) e
-    ∙ going_command (insert_line b) (physical_lines (payload text ++ spelling edits)) line count at so_far (Insert b text ∷ edits) no.0 no.1 no.2
-    (sym (ap (λ (ls : List (List ℕ)). edits_from ls line Between count) e) ∙ h line)
-gives_going (Delete b ∷ edits) count n h =
-    λ line at so_far.
-    let e : physical_lines (spelling (Delete b ∷ edits)) ≡ delete_line b ∷ physical_lines (spelling edits) = lines_spelled_delete b edits n.0 in
-    let no = no_delete (sense (delete_line b)) b (sense-delete b n.0) in
-    ap (λ (ls : List (List ℕ)). edits_from ls line (Going at so_far) count) e
-    ∙ going_command (delete_line b) (physical_lines (spelling edits)) line count at so_far (Delete b ∷ edits) no.0 no.1 no.2
+    ∙ going_command (line_of edit) (physical_lines (rest_of edit ++ spelling edits)) line count at so_far (edit ∷ edits) no.0 no.1 no.2
     (sym (ap (λ (ls : List (List ℕ)). edits_from ls line Between count) e) ∙ h line)
 
 -- PAYLOADS
@@ -185,20 +191,41 @@ read_payload (b ∷ bs) rest count edits between going line at begun =
     read_first (physical_lines (b ∷ bs)) rest count edits p.0 some p.1 between going line at begun
     ∙ ap (λ (t : List ℕ). Ok (Insert at t ∷ edits)) p.2
 
+-- what the command of an edit that has no text does
+command_plain : (edit : Edit) → IsPlain edit → (rest : Rest) (line count : ℕ) → command_line rest line count (said_of edit) ≡ with_room count (before edit (rest Between (count + 1)))
+command_plain (Insert at text) plain rest line count = absurd plain
+command_plain (Delete at) plain rest line count = refl
+command_plain (Move from to) plain rest line count = refl
+command_plain EndLine plain rest line count = refl
+command_plain OpenEnd plain rest line count = refl
+
+-- such an edit is read, with room for it
+read_plain : (edit : Edit) → IsPlain edit → (edits : List Edit) → IsNumbered edit → (count line : ℕ) → count < 65536
+    → edits_from (physical_lines (spelling edits)) (line + 1) Between (count + 1) ≡ Ok edits → edits_from (physical_lines (spelling (edit ∷ edits))) line Between count ≡ Ok (edit ∷ edits)
+read_plain edit plain edits n count line fits more =
+    ap (λ (ls : List (List ℕ)). edits_from ls line Between count) (lines_plain edit plain edits n)
+    ∙ ap (command_line (edits_from (physical_lines (spelling edits)) (line + 1)) line count) (sense-command edit n)
+    ∙ command_plain edit plain (edits_from (physical_lines (spelling edits)) (line + 1)) line count
+    ∙ room count (before edit (edits_from (physical_lines (spelling edits)) (line + 1) Between (count + 1))) fits
+    ∙ ap (before edit) more
+
 -- a spelling is read, with room for it
 read_spelled : (edits : List Edit) → AreNumbered edits → (count line : ℕ) → length edits + count ≤ 65536 → edits_from (physical_lines (spelling edits)) line Between count ≡ Ok edits
 read_spelled [] n count line fits = refl
 read_spelled (Insert at text ∷ edits) n count line fits =
     let between : GivesBetween (spelling edits) (count + 1) edits = λ l. read_spelled edits n.1 (count + 1) l (omega (arith, fits)) in
-    ap (λ (ls : List (List ℕ)). edits_from ls line Between count) (lines_spelled_insert at text edits n.0)
-    ∙ ap (command_line (edits_from (physical_lines (payload text ++ spelling edits)) (line + 1)) line count) (sense-insert at n.0)
+    ap (λ (ls : List (List ℕ)). edits_from ls line Between count) (lines_spelled_edit (Insert at text) edits n.0)
+    ∙ ap (command_line (edits_from (physical_lines (payload text ++ spelling edits)) (line + 1)) line count) (sense-command (Insert at text) n.0)
     ∙ room count (edits_from (physical_lines (payload text ++ spelling edits)) (line + 1) (Begun at line) (count + 1)) (omega (arith, fits))
     ∙ read_payload text (spelling edits) (count + 1) edits between (gives_going edits (count + 1) n.1 between) (line + 1) at line
 read_spelled (Delete at ∷ edits) n count line fits =
-    ap (λ (ls : List (List ℕ)). edits_from ls line Between count) (lines_spelled_delete at edits n.0)
-    ∙ ap (command_line (edits_from (physical_lines (spelling edits)) (line + 1)) line count) (sense-delete at n.0)
-    ∙ room count (before (Delete at) (edits_from (physical_lines (spelling edits)) (line + 1) Between (count + 1))) (omega (arith, fits))
-    ∙ ap (before (Delete at)) (read_spelled edits n.1 (count + 1) (line + 1) (omega (arith, fits)))
+    read_plain (Delete at) tt edits n.0 count line (omega (arith, fits)) (read_spelled edits n.1 (count + 1) (line + 1) (omega (arith, fits)))
+read_spelled (Move from to ∷ edits) n count line fits =
+    read_plain (Move from to) tt edits n.0 count line (omega (arith, fits)) (read_spelled edits n.1 (count + 1) (line + 1) (omega (arith, fits)))
+read_spelled (EndLine ∷ edits) n count line fits =
+    read_plain EndLine tt edits n.0 count line (omega (arith, fits)) (read_spelled edits n.1 (count + 1) (line + 1) (omega (arith, fits)))
+read_spelled (OpenEnd ∷ edits) n count line fits =
+    read_plain OpenEnd tt edits n.0 count line (omega (arith, fits)) (read_spelled edits n.1 (count + 1) (line + 1) (omega (arith, fits)))
 
 -- THE LAW: the spelling of a list of edits is read as that list
 pub spelling_read : (edits : List Edit) → AreNumbered edits → length edits ≤ edit_limit → reading (spelling edits) ≡ Ok edits

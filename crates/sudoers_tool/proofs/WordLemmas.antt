@@ -1,14 +1,16 @@
 -- The words of a line, and what a line says.
 use Rattle.std.proofs.Common.{◌≡◌, ℕ, zero, suc, ◌+◌, ◌<◌, ◌≤◌, Bool, true, false, ◌==◌, List, [], ◌∷◌, ◌++◌, length, take, drop, slice_index, ◌-◌, refl, sym, ap, ◌∙◌, arith, inl, inr, ◌^◌, subst}
 use Rattle.std.proofs.lemmas.List.{take_all, drop_all, length-append}
-use Rattle.std.proofs.lemmas.Bool.{false≢true, cases_Bool, eqb-true}
+use Rattle.std.proofs.lemmas.Bool.{false≢true, cases_Bool, eqb-true, or_parts}
 use Rattle.memchr.specs.Find.{NoneBefore, Nowhere, Passes, is_byte}
 use Rattle.sudoers_tool.specs.Physical.{onto, physical_lines}
 use Rattle.std.specs.List.{list_any}
 use Rattle.sudoers_tool.specs.declared.script_line.Said.{Said}
 use Rattle.sudoers_tool.specs.declared.script_line.Said.TheVariants as says
-use Rattle.sudoers_tool.specs.Script.{number}
-use Rattle.sudoers_tool.specs.ScriptReading.{words, command, place_or_bad, place_of_word, said_by_words, without_end, sense}
+use Rattle.sudoers_tool.specs.Script.{number, spell, IsNumbered}
+use Rattle.sudoers_tool.specs.declared.edit.Edit.{Edit}
+use Rattle.sudoers_tool.specs.declared.edit.Edit.TheVariants.{Insert, Delete, Move, EndLine, OpenEnd}
+use Rattle.sudoers_tool.specs.ScriptReading.{words, command, place_or_bad, places_or_bad, move_command, bare_command, place_of_word, said_by_words, without_end, sense}
 use Rattle.sudoers_tool.proofs.NumberLemmas.{place_spelled, number_read, number_lacks}
 use Rattle.sudoers_tool.proofs.PhysicalLemmas.{IsLine, ended_parts, without_end-ended, without_end-push, ended-push, line-push, lines-ended, take_front}
 use Rattle.sudoers_text.specs.Ended.{ends_in_lf}
@@ -61,12 +63,6 @@ HasTwo [] = ⊥
 HasTwo (word ∷ []) = ⊥
 HasTwo (word ∷ next ∷ more) = Unit {0}
 
--- a byte before two words leaves two
-onto_two : (b : ℕ) (ws : List (List ℕ)) → HasTwo ws → HasTwo (onto b ws)
-onto_two b [] h = absurd h
-onto_two b (w ∷ []) h = absurd h
-onto_two b (w ∷ v ∷ more) h = tt
-
 -- a byte before words leaves one
 onto_some : (b : ℕ) (ws : List (List ℕ)) → HasTwo ([] ∷ onto b ws)
 onto_some b [] = tt
@@ -81,15 +77,6 @@ words_some (b ∷ bs) =
       | inr f ↦ rw (words-other b bs f) (onto_some b (words bs))
     ]
 
--- a text with a space has two words or more
-pub words_two : (text : List ℕ) → list_any (λ y. y == 32) text ≡ true → HasTwo (words text)
-words_two [] h = absurd (false≢true h)
-words_two (b ∷ bs) h =
-    elim (cases_Bool (b == 32)) [
-      | inl t ↦ rw (words-space b bs t) (words_some bs)
-      | inr f ↦ rw (words-other b bs f) (onto_two b (words bs) (words_two bs (rw f at h)))
-    ]
-
 -- a text without a space is one word
 pub words_one : (text : List ℕ) → list_any (λ y. y == 32) text ≡ false → words text ≡ text ∷ []
 words_one [] h = refl
@@ -99,22 +86,14 @@ words_one (b ∷ bs) h =
       | inr f ↦ words-other b bs f ∙ ap (onto b) (words_one bs (rw f at h))
     ]
 
--- a command whose line does not end in LF is wrong
-pub command_unended : (make : ℕ → Said) (ws : List (List ℕ)) → command make false ws ≡ says.BadCommand
-command_unended make [] = refl
-command_unended make (w ∷ []) = refl
-command_unended make (w ∷ v ∷ ws) = refl
-
--- a command with two words more is wrong
-pub command_two : (make : ℕ → Said) (ended : Bool) (ws : List (List ℕ)) → HasTwo ws → command make ended ws ≡ says.BadCommand
-command_two make ended [] h = absurd h
-command_two make ended (w ∷ []) h = absurd h
-command_two make true (w ∷ v ∷ ws) h = refl
-command_two make false (w ∷ v ∷ ws) h = refl
-
--- what a command says that has one word more
-pub command_one : (make : ℕ → Said) (ended : Bool) (ws : List (List ℕ)) (word : List ℕ) → ended ≡ true → ws ≡ word ∷ [] → command make ended ws ≡ place_or_bad make (place_of_word word)
-command_one make ended ws word e h = rw (e, h) refl
+-- a space behind a text without one ends its word
+words_space : (v w : List ℕ) → list_any (λ y. y == 32) v ≡ false → words (v ++ 32 ∷ w) ≡ v ∷ words w
+words_space [] w h = refl
+words_space (b ∷ v) w h =
+    elim (cases_Bool (b == 32)) [
+      | inl t ↦ absurd (false≢true (sym (rw t at h)))
+      | inr f ↦ words-other b (v ++ 32 ∷ w) f ∙ ap (onto b) (words_space v w (rw f at h))
+    ]
 
 -- WHAT A LINE SAYS
 
@@ -149,18 +128,53 @@ glue-words (b ∷ bs) =
       | inr f ↦ ap glue (words-other b bs f) ∙ glue_some b (words bs) (words_some bs) ∙ ap (λ (z : List ℕ). b ∷ z) (glue-words bs)
     ]
 
--- the line of an insertion's command
-abbrev pub insert_line : ℕ → List ℕ
-insert_line at = (codes "insert " ++ number at) ++ 10 ∷ []
+-- the line of an edit's command, before its LF
+abbrev pub command_of : Edit → List ℕ
+command_of (Insert at text) = codes "insert " ++ number at
+command_of (Delete at) = codes "delete " ++ number at
+command_of (Move from to) = codes "move " ++ number from ++ 32 ∷ number to
+command_of EndLine = codes "endline"
+command_of OpenEnd = codes "openend"
 
--- the line of a deletion's command
-abbrev pub delete_line : ℕ → List ℕ
-delete_line at = (codes "delete " ++ number at) ++ 10 ∷ []
+-- the line of an edit's command
+abbrev pub line_of : Edit → List ℕ
+line_of edit = command_of edit ++ 10 ∷ []
+
+-- what that line says
+abbrev pub said_of : Edit → Said
+said_of (Insert at text) = says.Insert at
+said_of (Delete at) = says.Delete at
+said_of (Move from to) = says.Move from to
+said_of EndLine = says.EndLine
+said_of OpenEnd = says.OpenEnd
+
+-- Its command is all of it.
+abbrev pub IsPlain : Edit → Type 0
+IsPlain (Insert at text) = ⊥
+IsPlain (Delete at) = Unit {0}
+IsPlain (Move from to) = Unit {0}
+IsPlain EndLine = Unit {0}
+IsPlain OpenEnd = Unit {0}
+
+-- and then that line is its spelling
+pub spell_plain : (edit : Edit) → IsPlain edit → line_of edit ≡ spell edit
+spell_plain (Insert at text) plain = absurd plain
+spell_plain (Delete at) plain = refl
+spell_plain (Move from to) plain = refl
+spell_plain EndLine plain = refl
+spell_plain OpenEnd plain = refl
+
+-- The line is that of the edit's command.
+abbrev pub Commands : Edit → List ℕ → Type 0
+Commands edit l = (l ≡ line_of edit) × IsNumbered edit
 
 -- a line that says this
 abbrev pub Says : Said → List ℕ → Type 0
-Says (says.Insert at) l = (l ≡ insert_line at) × (at + 1 ≤ 2 ^ 32)
-Says (says.Delete at) l = (l ≡ delete_line at) × (at + 1 ≤ 2 ^ 32)
+Says (says.Insert at) l = Commands (Insert at []) l
+Says (says.Delete at) l = Commands (Delete at) l
+Says (says.Move from to) l = Commands (Move from to) l
+Says says.EndLine l = Commands EndLine l
+Says says.OpenEnd l = Commands OpenEnd l
 Says says.More l = (t : List ℕ) × (l ≡ 124 ∷ t) × (ends_in_lf t ≡ true)
 Says says.Last l = (t : List ℕ) × (l ≡ 62 ∷ t ++ 10 ∷ [])
 Says says.BadNumber l = Unit {0}
@@ -205,38 +219,92 @@ says_command make l [] h = tt
 says_command make l (w ∷ []) h = says_place make l w (place_of_word w) refl (λ at e. h w at refl e)
 says_command make l (w ∷ v ∷ ws) h = tt
 
+-- a move says what its numbers make it say
+says_places : (l v w : List ℕ) (o p : Option ℕ) → place_of_word v ≡ o → place_of_word w ≡ p
+    → ((from to : ℕ) → place_of_word v ≡ Some from → place_of_word w ≡ Some to → Says (says.Move from to) l) → Says (places_or_bad o p) l
+says_places l v w (Some from) (Some to) e f h = h from to e f
+says_places l v w (Some from) None e f h = tt
+says_places l v w None p e f h = tt
+
+-- a move of an ended line says so, if it does with two words more
+says_move : (l : List ℕ) (ws : List (List ℕ)) → ((v w : List ℕ) (from to : ℕ) → ws ≡ v ∷ w ∷ [] → place_of_word v ≡ Some from → place_of_word w ≡ Some to → Says (says.Move from to) l)
+    → Says (move_command true ws) l
+says_move l [] h = tt
+says_move l (v ∷ []) h = tt
+says_move l (v ∷ w ∷ []) h = says_places l v w (place_of_word v) (place_of_word w) refl refl (λ from to e f. h v w from to refl e f)
+says_move l (v ∷ w ∷ u ∷ ws) h = tt
+
+-- a command of one word says so, if it does with no word more
+says_bare : (said : Said) (l : List ℕ) (ws : List (List ℕ)) → (ws ≡ [] → Says said l) → Says (bare_command said true ws) l
+says_bare said l [] h = h refl
+says_bare said l (w ∷ ws) h = tt
+
 -- a line of words without LF is no command
 says_unended : (l : List ℕ) (ws : List (List ℕ)) → Says (said_by_words false ws) l
 says_unended l [] = tt
 says_unended l (w ∷ ws) =
     elim (cases_Bool (bytes_eq w (codes "insert"))) [
-      | inl t ↦ rw t (subst (λ (s : Said). Says s l) (sym (command_unended says.Insert ws)) tt)
-      | inr f ↦ rw f (elim (cases_Bool (bytes_eq w (codes "delete"))) [
-        | inl t ↦ rw t (subst (λ (s : Said). Says s l) (sym (command_unended says.Delete ws)) tt)
-        | inr g ↦ rw g tt
-      ])
+      | inl t ↦ rw t tt
+      | inr a ↦ elim (cases_Bool (bytes_eq w (codes "delete"))) [
+        | inl t ↦ rw (a, t) tt
+        | inr b ↦ elim (cases_Bool (bytes_eq w (codes "move"))) [
+          | inl t ↦ rw (a, b, t) tt
+          | inr c ↦ elim (cases_Bool (bytes_eq w (codes "endline"))) [
+            | inl t ↦ rw (a, b, c, t) tt
+            | inr d ↦ elim (cases_Bool (bytes_eq w (codes "openend"))) [
+              | inl t ↦ rw (a, b, c, d, t) tt
+              | inr e ↦ rw (a, b, c, d, e) tt
+            ]
+          ]
+        ]
+      ]
     ]
+
+-- a text by its first word and the words behind it
+by_words : (body w : List ℕ) (ws vs : List (List ℕ)) (word : List ℕ) → words body ≡ w ∷ ws → bytes_eq w word ≡ true → ws ≡ vs → body ≡ glue (word ∷ vs)
+by_words body w ws vs word e t f =
+    sym (glue-words body) ∙ ap glue (e ∙ ap (λ (z : List ℕ). z ∷ ws) ((bytes_eq-Decides w word).0 t)) ∙ ap (λ (z : List (List ℕ)). glue (word ∷ z)) f
+
+-- an insertion or a deletion in an ended line
+says_placed : (make : ℕ → Said) (body w : List ℕ) (ws : List (List ℕ)) (word : List ℕ) → words body ≡ w ∷ ws → bytes_eq w word ≡ true
+    → ((at : ℕ) → at + 1 ≤ 2 ^ 32 → body ≡ word ++ 32 ∷ number at → Says (make at) (body ++ 10 ∷ [])) → Says (command make true ws) (body ++ 10 ∷ [])
+says_placed make body w ws word e t h =
+    says_command make (body ++ 10 ∷ []) ws (λ v at f place.
+    let p = place_spelled v at place in
+    h at p.1 (by_words body w ws (v ∷ []) word e t f ∙ ap (λ (z : List ℕ). word ++ 32 ∷ z) p.0))
+
+-- a move in an ended line
+says_moved : (body w : List ℕ) (ws : List (List ℕ)) → words body ≡ w ∷ ws → bytes_eq w (codes "move") ≡ true → Says (move_command true ws) (body ++ 10 ∷ [])
+says_moved body w ws e t =
+    says_move (body ++ 10 ∷ []) ws (λ u v from to f first second.
+    let p = place_spelled u from first in
+    let q = place_spelled v to second in
+    let whole : body ≡ command_of (Move from to) =
+    by_words body w ws (u ∷ v ∷ []) (codes "move") e t f
+    ∙ ap (λ (z : List ℕ). codes "move " ++ z ++ 32 ∷ v) p.0 ∙ ap (λ (z : List ℕ). codes "move " ++ number from ++ 32 ∷ z) q.0 in
+    (ap (λ (z : List ℕ). z ++ 10 ∷ []) whole, (p.1, q.1)))
 
 -- a line of words with LF is the command that it says
 says_ended : (body : List ℕ) (ws : List (List ℕ)) → words body ≡ ws → Says (said_by_words true ws) (body ++ 10 ∷ [])
 says_ended body [] e = tt
 says_ended body (w ∷ ws) e =
     elim (cases_Bool (bytes_eq w (codes "insert"))) [
-      | inl t ↦ rw t (says_command says.Insert (body ++ 10 ∷ []) ws (λ v at f h.
-          let word : w ≡ codes "insert" = (bytes_eq-Decides w (codes "insert")).0 t in
-          let p = place_spelled v at h in
-          let whole : body ≡ codes "insert " ++ number at =
-          sym (glue-words body) ∙ ap glue (e ∙ ap (λ (z : List (List ℕ)). w ∷ z) f) ∙ ap (λ (z : List ℕ). z ++ 32 ∷ v) word ∙ ap (λ (z : List ℕ). codes "insert " ++ z) p.0 in
-          (ap (λ (z : List ℕ). z ++ 10 ∷ []) whole, p.1)))
-      | inr n ↦ rw n (elim (cases_Bool (bytes_eq w (codes "delete"))) [
-        | inl t ↦ rw t (says_command says.Delete (body ++ 10 ∷ []) ws (λ v at f h.
-            let word : w ≡ codes "delete" = (bytes_eq-Decides w (codes "delete")).0 t in
-            let p = place_spelled v at h in
-            let whole : body ≡ codes "delete " ++ number at =
-            sym (glue-words body) ∙ ap glue (e ∙ ap (λ (z : List (List ℕ)). w ∷ z) f) ∙ ap (λ (z : List ℕ). z ++ 32 ∷ v) word ∙ ap (λ (z : List ℕ). codes "delete " ++ z) p.0 in
-            (ap (λ (z : List ℕ). z ++ 10 ∷ []) whole, p.1)))
-        | inr m ↦ rw m tt
-      ])
+      | inl t ↦ rw t (says_placed says.Insert body w ws (codes "insert") e t (λ at n whole. (ap (λ (z : List ℕ). z ++ 10 ∷ []) whole, n)))
+      | inr a ↦ elim (cases_Bool (bytes_eq w (codes "delete"))) [
+        | inl t ↦ rw (a, t) (says_placed says.Delete body w ws (codes "delete") e t (λ at n whole. (ap (λ (z : List ℕ). z ++ 10 ∷ []) whole, n)))
+        | inr b ↦ elim (cases_Bool (bytes_eq w (codes "move"))) [
+          | inl t ↦ rw (a, b, t) (says_moved body w ws e t)
+          | inr c ↦ elim (cases_Bool (bytes_eq w (codes "endline"))) [
+            | inl t ↦ rw (a, b, c, t) (says_bare says.EndLine (body ++ 10 ∷ []) ws (λ f.
+                (ap (λ (z : List ℕ). z ++ 10 ∷ []) (by_words body w ws [] (codes "endline") e t f), tt)))
+            | inr d ↦ elim (cases_Bool (bytes_eq w (codes "openend"))) [
+              | inl t ↦ rw (a, b, c, d, t) (says_bare says.OpenEnd (body ++ 10 ∷ []) ws (λ f.
+                  (ap (λ (z : List ℕ). z ++ 10 ∷ []) (by_words body w ws [] (codes "openend") e t f), tt)))
+              | inr f ↦ rw (a, b, c, d, f) tt
+            ]
+          ]
+        ]
+      ]
     ]
 
 -- a line that begins with another byte says so
@@ -278,33 +346,49 @@ last_text l said e h =
 
 -- THE LINES OF A SPELLING
 
+-- two texts without a byte
+lacks_append : (b : ℕ) (xs ys : List ℕ) → list_any (λ y. y == b) xs ≡ false → list_any (λ y. y == b) ys ≡ false → list_any (λ y. y == b) (xs ++ ys) ≡ false
+lacks_append b [] ys h k = k
+lacks_append b (x ∷ xs) ys h k =
+    let p = or_parts (x == b) (list_any (λ y. y == b) xs) h in
+    rw p.0 (lacks_append b xs ys p.1 k)
+
 -- the line of a command has LF at its end alone
-command_line-lacks : (at : ℕ) → at + 1 ≤ 2 ^ 32 → (list_any (λ y. y == 10) (codes "insert " ++ number at) ≡ false) × (list_any (λ y. y == 10) (codes "delete " ++ number at) ≡ false)
-command_line-lacks at h = (number_lacks 10 at (omega arith) h, number_lacks 10 at (omega arith) h)
+command_lacks : (edit : Edit) → IsNumbered edit → list_any (λ y. y == 10) (command_of edit) ≡ false
+command_lacks (Insert at text) h = number_lacks 10 at (omega arith) h
+command_lacks (Delete at) h = number_lacks 10 at (omega arith) h
+command_lacks (Move from to) h = lacks_append 10 (number from) (32 ∷ number to) (number_lacks 10 from (omega arith) h.0) (number_lacks 10 to (omega arith) h.1)
+command_lacks EndLine h = refl
+command_lacks OpenEnd h = refl
 
--- the line of an insertion's command is the first
-pub lines-insert : (at : ℕ) (rest : List ℕ) → at + 1 ≤ 2 ^ 32 → physical_lines (insert_line at ++ rest) ≡ insert_line at ∷ physical_lines rest
-lines-insert at rest h = lines-ended (insert_line at) rest (line-push (codes "insert " ++ number at) (command_line-lacks at h).0) (ended-push (codes "insert " ++ number at))
+-- the line of a command is the first
+pub lines-command : (edit : Edit) (rest : List ℕ) → IsNumbered edit → physical_lines (line_of edit ++ rest) ≡ line_of edit ∷ physical_lines rest
+lines-command edit rest h = lines-ended (line_of edit) rest (line-push (command_of edit) (command_lacks edit h)) (ended-push (command_of edit))
 
--- the line of a deletion's command is the first
-pub lines-delete : (at : ℕ) (rest : List ℕ) → at + 1 ≤ 2 ^ 32 → physical_lines (delete_line at ++ rest) ≡ delete_line at ∷ physical_lines rest
-lines-delete at rest h = lines-ended (delete_line at) rest (line-push (codes "delete " ++ number at) (command_line-lacks at h).1) (ended-push (codes "delete " ++ number at))
+-- by its words a command with LF says this
+sense_words : (edit : Edit) (said : Said) → said_by_words true (words (command_of edit)) ≡ said → said_by_words (ends_in_lf (line_of edit)) (words (without_end (line_of edit))) ≡ said
+sense_words edit said e =
+    ap (λ (b : Bool). said_by_words b (words (without_end (line_of edit)))) (ended-push (command_of edit))
+    ∙ ap (λ (t : List ℕ). said_by_words true (words t)) (without_end-push (command_of edit)) ∙ e
 
--- it says that insertion
-pub sense-insert : (at : ℕ) → at + 1 ≤ 2 ^ 32 → sense (insert_line at) ≡ says.Insert at
-sense-insert at h =
-    ap (λ (e : Bool). said_by_words e (words (without_end (insert_line at)))) (ended-push (codes "insert " ++ number at))
-    ∙ ap (λ (t : List ℕ). said_by_words true (words t)) (without_end-push (codes "insert " ++ number at))
-    ∙ ap (λ (ws : List (List ℕ)). said_by_words true (codes "insert" ∷ ws)) (words_one (number at) (number_lacks 32 at (omega arith) h))
-    ∙ ap (place_or_bad says.Insert) (number_read at h)
-
--- it says that deletion
-pub sense-delete : (at : ℕ) → at + 1 ≤ 2 ^ 32 → sense (delete_line at) ≡ says.Delete at
-sense-delete at h =
-    ap (λ (e : Bool). said_by_words e (words (without_end (delete_line at)))) (ended-push (codes "delete " ++ number at))
-    ∙ ap (λ (t : List ℕ). said_by_words true (words t)) (without_end-push (codes "delete " ++ number at))
-    ∙ ap (λ (ws : List (List ℕ)). said_by_words true (codes "delete" ∷ ws)) (words_one (number at) (number_lacks 32 at (omega arith) h))
-    ∙ ap (place_or_bad says.Delete) (number_read at h)
+-- it says that command
+pub sense-command : (edit : Edit) → IsNumbered edit → sense (line_of edit) ≡ said_of edit
+sense-command (Insert at text) h =
+    sense_words (Insert at text) (says.Insert at)
+    (ap (λ (ws : List (List ℕ)). said_by_words true (codes "insert" ∷ ws)) (words_one (number at) (number_lacks 32 at (omega arith) h))
+    ∙ ap (place_or_bad says.Insert) (number_read at h))
+sense-command (Delete at) h =
+    sense_words (Delete at) (says.Delete at)
+    (ap (λ (ws : List (List ℕ)). said_by_words true (codes "delete" ∷ ws)) (words_one (number at) (number_lacks 32 at (omega arith) h))
+    ∙ ap (place_or_bad says.Delete) (number_read at h))
+sense-command (Move from to) h =
+    sense_words (Move from to) (says.Move from to)
+    (ap (λ (ws : List (List ℕ)). said_by_words true (codes "move" ∷ ws)) (words_space (number from) (number to) (number_lacks 32 from (omega arith) h.0))
+    ∙ ap (λ (ws : List (List ℕ)). said_by_words true (codes "move" ∷ number from ∷ ws)) (words_one (number to) (number_lacks 32 to (omega arith) h.1))
+    ∙ ap (λ (o : Option ℕ). places_or_bad o (place_of_word (number to))) (number_read from h.0)
+    ∙ ap (places_or_bad (Some from)) (number_read to h.1))
+sense-command EndLine h = refl
+sense-command OpenEnd h = refl
 
 -- a line of a text with its LF, behind `|`
 pub lines-more : (k rest : List ℕ) → IsLine k → ends_in_lf k ≡ true → physical_lines (124 ∷ k ++ rest) ≡ (124 ∷ k) ∷ physical_lines rest

@@ -1,17 +1,18 @@
 -- What an edit does to the lines of a policy, and what takes it back.
-use Rattle.std.specs.Prelude.{◌≡◌, ℕ, ◌+◌, nat_lt, if◌then◌else◌, List, [], ◌∷◌, ◌++◌, length, insert, remove, slice_index_or, map, reverse, Option, Some, Result, Ok, Err, unwrap_or, option_and_then, IsSomeAnd}
+use Rattle.std.specs.Prelude.{◌≡◌, ℕ, ◌+◌, Bool, false, ◌&&◌, ◌==◌, nat_lt, if◌then◌else◌, List, [], ◌∷◌, ◌++◌, length, insert, remove, slice_index_or, map, reverse, Option, Some, None, Result, Ok, Err, unwrap_or, option_and_then, IsSomeAnd}
+use Rattle.std.specs.Option.{option_map}
 use Rattle.std.specs.Result.{result_ok, result_unwrap_or}
 use Rattle.sudoers_text.specs.Line.{join}
-use Rattle.sudoers_text.specs.Ended.{has_unended_inside}
-use Rattle.sudoers_text.specs.Fault.{text_limit}
+use Rattle.sudoers_text.specs.Ended.{ends_in_lf, has_unended_inside}
+use Rattle.sudoers_text.specs.Fault.{text_limit, line_limit}
 use Rattle.sudoers_tree.specs.declared.line.Line.{Line}
 use Rattle.sudoers_tree.specs.declared.fault.ReadFault.{ReadFault}
 use Rattle.sudoers_tree.specs.Reading.{read_of}
 use Rattle.sudoers_tool.specs.OneLine.{is_one_line}
 use Rattle.sudoers_tool.specs.declared.edit.Edit.{Edit}
-use Rattle.sudoers_tool.specs.declared.edit.Edit.TheVariants.{Insert, Delete}
+use Rattle.sudoers_tool.specs.declared.edit.Edit.TheVariants.{Insert, Delete, Move, EndLine, OpenEnd}
 use Rattle.sudoers_tool.specs.declared.edit.EditFault.{EditFault}
-use Rattle.sudoers_tool.specs.declared.edit.EditFault.TheVariants.{NoLine, NotOneLine, OpenLine, TooLarge, NotPolicy, NoMemory}
+use Rattle.sudoers_tool.specs.declared.edit.EditFault.TheVariants.{NoLine, NotOneLine, OpenLine, EndAsIs, TooLarge, NotPolicy, NoMemory}
 use Rattle.sudoers_tool.specs.declared.editor.Entry.{Entry}
 
 abbrev pub by_read : Result (List Line) ReadFault → Result (List Line) EditFault
@@ -32,12 +33,48 @@ abbrev pub lines_or_refusal : List (List ℕ) → Result (List (List ℕ)) EditF
 lines_or_refusal lines =
     if has_unended_inside lines then Err OpenLine else where_policy lines (policy_or_refusal (join lines))
 
+-- the lines with the line `from` taken out and put where it stands at `to`
+abbrev pub moved : ℕ → ℕ → List (List ℕ) → List (List ℕ)
+moved from to lines = insert (remove lines from) to (slice_index_or lines from [])
+
+-- the lines with another last line, where there is one and it can be changed
+abbrev pub with_last : (List ℕ → Option (List ℕ)) → List (List ℕ) → Option (List (List ℕ))
+with_last change [] = None
+with_last change (line ∷ []) = option_map (λ new. new ∷ []) (change line)
+with_last change (line ∷ next ∷ lines) = option_map (λ new. line ∷ new) (with_last change (next ∷ lines))
+
+-- the line with LF behind it, where it does not end in LF
+abbrev pub with_end : List ℕ → Option (List ℕ)
+with_end line = if ends_in_lf line then None else Some (line ++ 10 ∷ [])
+
+-- the line without the LF that it ends in, where something stands before that
+abbrev pub without_lf : List ℕ → Option (List ℕ)
+without_lf [] = None
+without_lf (b ∷ []) = None
+without_lf (b ∷ c ∷ []) = if c == 10 then Some (b ∷ []) else None
+without_lf (b ∷ c ∷ d ∷ line) = option_map (λ new. b ∷ new) (without_lf (c ∷ d ∷ line))
+
+-- the last line is past the limit
+abbrev pub is_last_too_long : List (List ℕ) → Bool
+is_last_too_long [] = false
+is_last_too_long (line ∷ []) = nat_lt line_limit (length line)
+is_last_too_long (line ∷ next ∷ lines) = is_last_too_long (next ∷ lines)
+
+-- these lines, of which the last was changed, if they can be a policy's; else its end is as it should be
+abbrev pub ended_or_refusal : Option (List (List ℕ)) → Result (List (List ℕ)) EditFault
+ended_or_refusal None = Err EndAsIs
+ended_or_refusal (Some lines) = if is_last_too_long lines then Err TooLarge else lines_or_refusal lines
+
 -- the lines after an edit, or the first cause of its refusal
 abbrev pub step : Edit → List (List ℕ) → Result (List (List ℕ)) EditFault
 step (Insert at text) lines =
     if nat_lt (length lines) at then Err NoLine
     else (if is_one_line text then lines_or_refusal (insert lines at text) else Err NotOneLine)
 step (Delete at) lines = if nat_lt at (length lines) then lines_or_refusal (remove lines at) else Err NoLine
+step (Move from to) lines =
+    if nat_lt from (length lines) && nat_lt to (length lines) then lines_or_refusal (moved from to lines) else Err NoLine
+step EndLine lines = ended_or_refusal (with_last with_end lines)
+step OpenEnd lines = ended_or_refusal (with_last without_lf lines)
 
 -- the lines after an edit, or those before it where it is refused
 abbrev pub after : Edit → List (List ℕ) → List (List ℕ)
@@ -47,6 +84,9 @@ after edit lines = result_unwrap_or (step edit lines) lines
 abbrev pub inv : Edit → List (List ℕ) → List Edit
 inv (Insert at text) lines = Delete at ∷ []
 inv (Delete at) lines = Insert at (slice_index_or lines at []) ∷ []
+inv (Move from to) lines = Move to from ∷ []
+inv EndLine lines = OpenEnd ∷ []
+inv OpenEnd lines = EndLine ∷ []
 
 -- the lines after all edits, where none is refused
 abbrev pub run : List Edit → List (List ℕ) → Option (List (List ℕ))
@@ -99,6 +139,7 @@ Refuses NoMemory wanted = Unit {0}
 Refuses NoLine wanted = wanted ≡ Err NoLine
 Refuses NotOneLine wanted = wanted ≡ Err NotOneLine
 Refuses OpenLine wanted = wanted ≡ Err OpenLine
+Refuses EndAsIs wanted = wanted ≡ Err EndAsIs
 Refuses TooLarge wanted = wanted ≡ Err TooLarge
 Refuses (NotPolicy fault) wanted = wanted ≡ Err (NotPolicy fault)
 
@@ -108,5 +149,6 @@ StopsAt place NoMemory edits lines = Unit {0}
 StopsAt place NoLine edits lines = run_all 0 edits lines ≡ Err (place, NoLine)
 StopsAt place NotOneLine edits lines = run_all 0 edits lines ≡ Err (place, NotOneLine)
 StopsAt place OpenLine edits lines = run_all 0 edits lines ≡ Err (place, OpenLine)
+StopsAt place EndAsIs edits lines = run_all 0 edits lines ≡ Err (place, EndAsIs)
 StopsAt place TooLarge edits lines = run_all 0 edits lines ≡ Err (place, TooLarge)
 StopsAt place (NotPolicy fault) edits lines = run_all 0 edits lines ≡ Err (place, NotPolicy fault)

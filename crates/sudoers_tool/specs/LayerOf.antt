@@ -28,6 +28,7 @@ abbrev pub layer_of_edit : ℕ → EditFault → LayerFault
 layer_of_edit place edit.NoLine = layer.Edit place edit.NoLine
 layer_of_edit place edit.NotOneLine = layer.Edit place edit.NotOneLine
 layer_of_edit place edit.OpenLine = layer.Edit place edit.OpenLine
+layer_of_edit place edit.EndAsIs = layer.Edit place edit.EndAsIs
 layer_of_edit place edit.TooLarge = layer.Edit place edit.TooLarge
 layer_of_edit place (edit.NotPolicy fault) = layer.Edit place (edit.NotPolicy fault)
 layer_of_edit place edit.NoMemory = layer.NoMemory

@@ -2,6 +2,7 @@ pub mod Device
 pub mod Physical
 pub mod OneLine
 pub mod Editing
+pub mod LastLine
 pub mod Leading
 pub mod Script
 pub mod ScriptReading

@@ -5,7 +5,7 @@ use Rattle.std.specs.Fmt.{decimal}
 use Rattle.sudoers_text.specs.Ended.{ends_in_lf}
 use Rattle.sudoers_tool.specs.Physical.{physical_lines}
 use Rattle.sudoers_tool.specs.declared.edit.Edit.{Edit}
-use Rattle.sudoers_tool.specs.declared.edit.Edit.TheVariants.{Insert, Delete}
+use Rattle.sudoers_tool.specs.declared.edit.Edit.TheVariants.{Insert, Delete, Move, EndLine, OpenEnd}
 
 -- the most edits that a script has
 abbrev pub edit_limit : ℕ
@@ -27,15 +27,21 @@ number at = decimal (at + 1)
 abbrev pub spell : Edit → List ℕ
 spell (Insert at text) = codes "insert " ++ number at ++ 10 ∷ [] ++ payload text
 spell (Delete at) = codes "delete " ++ number at ++ 10 ∷ []
+spell (Move from to) = codes "move " ++ number from ++ 32 ∷ number to ++ 10 ∷ []
+spell EndLine = codes "endline" ++ 10 ∷ []
+spell OpenEnd = codes "openend" ++ 10 ∷ []
 
 -- the edits, one after another
 abbrev pub spelling : List Edit → List ℕ
 spelling edits = flat_map spell edits
 
--- Its number fits the word for it.
+-- Its numbers fit the words for them.
 abbrev pub IsNumbered : Edit → Type 0
 IsNumbered (Insert at text) = at + 1 ≤ 2 ^ 32
 IsNumbered (Delete at) = at + 1 ≤ 2 ^ 32
+IsNumbered (Move from to) = (from + 1 ≤ 2 ^ 32) × (to + 1 ≤ 2 ^ 32)
+IsNumbered EndLine = Unit {0}
+IsNumbered OpenEnd = Unit {0}
 
 abbrev pub AreNumbered : List Edit → Type 0
 AreNumbered [] = Unit {0}

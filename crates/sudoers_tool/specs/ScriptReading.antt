@@ -5,7 +5,7 @@ use Rattle.sudoers_text.specs.Ended.{ends_in_lf}
 use Rattle.sudoers_tool.specs.Physical.{onto, physical_lines}
 use Rattle.sudoers_tool.specs.Script.{edit_limit}
 use Rattle.sudoers_tool.specs.declared.edit.Edit.{Edit}
-use Rattle.sudoers_tool.specs.declared.edit.Edit.TheVariants.{Insert, Delete}
+use Rattle.sudoers_tool.specs.declared.edit.Edit.TheVariants.{Insert, Delete, Move, EndLine, OpenEnd}
 use Rattle.sudoers_tool.specs.declared.script_line.Said.{Said}
 use Rattle.sudoers_tool.specs.declared.script_line.Said.TheVariants as says
 use Rattle.sudoers_tool.specs.declared.script.ScriptFault.{ScriptFault}
@@ -40,19 +40,41 @@ abbrev pub place_or_bad : (ℕ → Said) → Option ℕ → Said
 place_or_bad make (Some at) = make at
 place_or_bad make None = says.BadNumber
 
--- a command by the words behind its first; ended: the line ends in LF
+-- a command with one number, by the words behind its first; ended: the line ends in LF
 abbrev pub command : (ℕ → Said) → Bool → List (List ℕ) → Said
 command make true (word ∷ []) = place_or_bad make (place_of_word word)
 command make true [] = says.BadCommand
 command make true (word ∷ next ∷ more) = says.BadCommand
 command make false more = says.BadCommand
 
+abbrev pub places_or_bad : Option ℕ → Option ℕ → Said
+places_or_bad (Some from) (Some to) = says.Move from to
+places_or_bad (Some from) None = says.BadNumber
+places_or_bad None other = says.BadNumber
+
+-- a move, with two numbers
+abbrev pub move_command : Bool → List (List ℕ) → Said
+move_command true (word ∷ next ∷ []) = places_or_bad (place_of_word word) (place_of_word next)
+move_command true [] = says.BadCommand
+move_command true (word ∷ []) = says.BadCommand
+move_command true (word ∷ next ∷ other ∷ more) = says.BadCommand
+move_command false more = says.BadCommand
+
+-- a command of one word
+abbrev pub bare_command : Said → Bool → List (List ℕ) → Said
+bare_command said true [] = said
+bare_command said true (word ∷ more) = says.BadCommand
+bare_command said false more = says.BadCommand
+
 abbrev pub said_by_words : Bool → List (List ℕ) → Said
 said_by_words ended [] = says.Other
 said_by_words ended (word ∷ more) =
     if bytes_eq word (codes "insert") then command says.Insert ended more
     else (if bytes_eq word (codes "delete") then command says.Delete ended more
-    else says.Other)
+    else (if bytes_eq word (codes "move") then move_command ended more
+    else (if bytes_eq word (codes "endline") then bare_command says.EndLine ended more
+    else (if bytes_eq word (codes "openend") then bare_command says.OpenEnd ended more
+    else says.Other))))
 
 -- the line without the LF that it ends in
 abbrev pub without_end : List ℕ → List ℕ
@@ -98,6 +120,9 @@ with_room count result = if nat_le edit_limit count then Err faults.TooMany else
 abbrev pub command_line : Rest → ℕ → ℕ → Said → Result (List Edit) ScriptFault
 command_line rest line count (says.Insert at) = with_room count (rest (Begun at line) (count + 1))
 command_line rest line count (says.Delete at) = with_room count (before (Delete at) (rest Between (count + 1)))
+command_line rest line count (says.Move from to) = with_room count (before (Move from to) (rest Between (count + 1)))
+command_line rest line count says.EndLine = with_room count (before EndLine (rest Between (count + 1)))
+command_line rest line count says.OpenEnd = with_room count (before OpenEnd (rest Between (count + 1)))
 command_line rest line count says.BadNumber = with_room count (Err (faults.BadNumber line))
 command_line rest line count says.BadCommand = with_room count (Err (faults.BadWord line))
 command_line rest line count says.More = Err (faults.BadWord line)
@@ -112,6 +137,9 @@ first_line rest line count at begun text says.Last = before (Insert at text) (re
 first_line rest line count at begun text says.Unended = Err (faults.BadWord line)
 first_line rest line count at begun text (says.Insert _) = Err (faults.NoPayload begun)
 first_line rest line count at begun text (says.Delete _) = Err (faults.NoPayload begun)
+first_line rest line count at begun text (says.Move _ _) = Err (faults.NoPayload begun)
+first_line rest line count at begun text says.EndLine = Err (faults.NoPayload begun)
+first_line rest line count at begun text says.OpenEnd = Err (faults.NoPayload begun)
 first_line rest line count at begun text says.BadNumber = Err (faults.NoPayload begun)
 first_line rest line count at begun text says.BadCommand = Err (faults.NoPayload begun)
 first_line rest line count at begun text says.Other = Err (faults.NoPayload begun)
@@ -124,6 +152,9 @@ later_line rest line count at so_far (b ∷ text) says.Last = before (Insert at 
 later_line rest line count at so_far text says.Unended = Err (faults.BadWord line)
 later_line rest line count at so_far text (says.Insert next) = before (Insert at so_far) (command_line rest line count (says.Insert next))
 later_line rest line count at so_far text (says.Delete next) = before (Insert at so_far) (command_line rest line count (says.Delete next))
+later_line rest line count at so_far text (says.Move from to) = before (Insert at so_far) (command_line rest line count (says.Move from to))
+later_line rest line count at so_far text says.EndLine = before (Insert at so_far) (command_line rest line count says.EndLine)
+later_line rest line count at so_far text says.OpenEnd = before (Insert at so_far) (command_line rest line count says.OpenEnd)
 later_line rest line count at so_far text says.BadNumber = before (Insert at so_far) (command_line rest line count says.BadNumber)
 later_line rest line count at so_far text says.BadCommand = before (Insert at so_far) (command_line rest line count says.BadCommand)
 later_line rest line count at so_far text says.Other = before (Insert at so_far) (command_line rest line count says.Other)

@@ -14,6 +14,12 @@ pub enum Edit {
     Insert { at: u32, text: Text },
     /// Takes the line `at` out.
     Delete { at: u32 },
+    /// Takes the line `from` out and puts it where it stands at `to`.
+    Move { from: u32, to: u32 },
+    /// Puts LF behind the last line, which does not end in it.
+    EndLine,
+    /// Takes the LF at the end of the last line away.
+    OpenEnd,
 }
 
 /// Why an edit is refused, the first cause in this order.
@@ -28,7 +34,11 @@ pub enum EditFault {
     /// A line without LF would stand before another.
     #[error("OpenLine")]
     OpenLine,
-    /// The result would pass the limit of a policy.
+    /// The end of the last line is as it should be already, or there is no line: LF is put behind a last line without it, and
+    /// taken from one that has more than it.
+    #[error("EndAsIs")]
+    EndAsIs,
+    /// The result would pass the limit of a policy, or its last line that of a line.
     #[error("TooLarge")]
     TooLarge,
     /// The result would be no policy.
@@ -101,6 +111,12 @@ impl Edit {
                 text: Text::from_slice(alloc, text.as_slice())?,
             }),
             Edit::Delete { at } => Ok(Edit::Delete { at: *at }),
+            Edit::Move { from, to } => Ok(Edit::Move {
+                from: *from,
+                to: *to,
+            }),
+            Edit::EndLine => Ok(Edit::EndLine),
+            Edit::OpenEnd => Ok(Edit::OpenEnd),
         }
     }
 }

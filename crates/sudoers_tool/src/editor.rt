@@ -1,20 +1,25 @@
 //! The editor: a policy, and a journal of its edits.
-ghost use Rattle.std.specs.Prelude.{◌≡◌, ◌≢◌, ◌+◌, ◌-◌, ◌<◌, ◌≤◌, ◌∷◌, [], ◌++◌, length, insert, remove, reverse, Some, Ok, Err, IfOk, IfErr, OnOk, OnErr, MatchResult, slice_index_or, IsTrue, vec_len, true, false, List, ℕ, take};
+ghost use Rattle.std.specs.Prelude.{◌≡◌, ◌≢◌, ◌+◌, ◌-◌, ◌<◌, ◌≤◌, ◌∷◌, [], ◌++◌, length, insert, remove, reverse, Some, Ok, Err, IfOk, IfErr, OnOk, OnErr, MatchResult, slice_index_or, slice_get, IsTrue, vec_len, true, false, List, ℕ, take};
 ghost use Rattle.std.specs.List.{flat_map};
+ghost use Rattle.std.specs.Option.{option_copied};
 ghost use Rattle.sudoers_text.specs.Line.{join};
 ghost use Rattle.sudoers_text.specs.Ended.{has_unended_inside};
 ghost use Rattle.sudoers_text.specs.Cut.{StandAlone};
 ghost use Rattle.sudoers_tree.specs.declared.line.Line.{Line as LineOf};
 ghost use Rattle.sudoers_tree.specs.Policy.{texts};
 ghost use Rattle.sudoers_tool.specs.OneLine.{is_one_line, IsAlone, IsSound};
-ghost use Rattle.sudoers_tool.specs.Editing.{policy_or_refusal};
+ghost use Rattle.sudoers_tool.specs.Editing.{policy_or_refusal, moved};
+ghost use Rattle.sudoers_tool.specs.LastLine.{StaysCut};
 
 use crate::edit::{Edit, EditFault, Edits};
-use crate::reread::{reread, text_with, text_without};
+use crate::reread::{reread, text_moved, text_with, text_without};
 use crate::text::Text;
 use std::alloc::{AllocError, Global};
 use std::marker::Model;
-use sudoers_text::{TextFault, cut, ends_in_lf, lines_of_join, lines_stand_alone};
+use sudoers_text::{
+    LINE_LIMIT, TextFault, cut, ends_in_lf, lf_behind_last_line, lf_from_last_line,
+    line_alone_size, lines_of_join, lines_stand_alone,
+};
 use sudoers_tree::{Policy, policy_is_cut};
 
 /// An accepted edit, with the edits that take it back.
@@ -96,6 +101,9 @@ impl Editor {
         match edit {
             Edit::Insert { at, text } => self.insert(*at, text.as_slice()),
             Edit::Delete { at } => self.delete(*at),
+            Edit::Move { from, to } => self.move_line(*from, *to),
+            Edit::EndLine => self.end_line(),
+            Edit::OpenEnd => self.open_end(),
         }
     }
 
@@ -144,6 +152,82 @@ impl Editor {
         let inverse = Edits::one(alloc, Edit::Insert { at, text })?;
         is_sound(&self.policy);
         let edit = Edit::Delete { at };
+        self.settle(alloc, whole.as_slice(), Entry { edit, inverse })
+    }
+
+    fn move_line(&mut self, from: u32, to: u32) -> Result<(), EditFault>
+        ensures step { OnOk result (step (Edit.Move from to) self.old.lines ≡ Ok self.new.lines) }
+        ensures journal { OnOk result (self.new.journal
+            ≡ self.old.journal ++ record { edit = Edit.Move from to; inverse = inv (Edit.Move from to) self.old.lines } ∷ []) }
+        ensures begun { first_of self.new ≡ first_of self.old }
+        ensures refused { IfErr result (λ fault. Refuses fault (step (Edit.Move from to) self.old.lines)) }
+        ensures unchanged { OnErr result (self.new ≡ self.old) }
+    {
+        let alloc = self.policy.allocator();
+        let (place, target) = (from as usize, to as usize);
+        let count = self.policy.len();
+        if place >= count || target >= count {
+            return Err(EditFault::NoLine);
+        }
+        if move_leaves_unended(&self.policy, place, target) {
+            return Err(EditFault::OpenLine);
+        }
+        let whole = text_moved(alloc, self.policy.lines(), place, target)?;
+        let back = Edit::Move { from: to, to: from };
+        let inverse = Edits::one(alloc, back)?;
+        is_sound(&self.policy);
+        let edit = Edit::Move { from, to };
+        self.settle(alloc, whole.as_slice(), Entry { edit, inverse })
+    }
+
+    fn end_line(&mut self) -> Result<(), EditFault>
+        ensures step { OnOk result (step Edit.EndLine self.old.lines ≡ Ok self.new.lines) }
+        ensures journal { OnOk result (self.new.journal
+            ≡ self.old.journal ++ record { edit = Edit.EndLine; inverse = inv Edit.EndLine self.old.lines } ∷ []) }
+        ensures begun { first_of self.new ≡ first_of self.old }
+        ensures refused { IfErr result (λ fault. Refuses fault (step Edit.EndLine self.old.lines)) }
+        ensures unchanged { OnErr result (self.new ≡ self.old) }
+    {
+        let alloc = self.policy.allocator();
+        let Some(last) = last_line(&self.policy) else {
+            return Err(EditFault::EndAsIs);
+        };
+        if ends_in_lf(last) {
+            return Err(EditFault::EndAsIs);
+        }
+        if last.len() >= LINE_LIMIT {
+            return Err(EditFault::TooLarge);
+        }
+        let mut whole = self.policy.text()?;
+        whole.push(b'\n')?;
+        let inverse = Edits::one(alloc, Edit::OpenEnd)?;
+        is_sound(&self.policy);
+        stays_cut();
+        let edit = Edit::EndLine;
+        self.settle(alloc, whole.as_slice(), Entry { edit, inverse })
+    }
+
+    fn open_end(&mut self) -> Result<(), EditFault>
+        ensures step { OnOk result (step Edit.OpenEnd self.old.lines ≡ Ok self.new.lines) }
+        ensures journal { OnOk result (self.new.journal
+            ≡ self.old.journal ++ record { edit = Edit.OpenEnd; inverse = inv Edit.OpenEnd self.old.lines } ∷ []) }
+        ensures begun { first_of self.new ≡ first_of self.old }
+        ensures refused { IfErr result (λ fault. Refuses fault (step Edit.OpenEnd self.old.lines)) }
+        ensures unchanged { OnErr result (self.new ≡ self.old) }
+    {
+        let alloc = self.policy.allocator();
+        let Some(last) = last_line(&self.policy) else {
+            return Err(EditFault::EndAsIs);
+        };
+        if last.len() < 2 || !ends_in_lf(last) {
+            return Err(EditFault::EndAsIs);
+        }
+        let mut whole = self.policy.text()?;
+        let _ = whole.pop();
+        let inverse = Edits::one(alloc, Edit::EndLine)?;
+        is_sound(&self.policy);
+        stays_cut();
+        let edit = Edit::OpenEnd;
         self.settle(alloc, whole.as_slice(), Entry { edit, inverse })
     }
 
@@ -224,6 +308,31 @@ fn leaves_unended(policy: &Policy, at: usize, text: &[u8]) -> bool
     }
 }
 
+/// Whether a line without LF would stand before another once the line `from` stands at `to`.
+fn move_leaves_unended(policy: &Policy, from: usize, to: usize) -> bool
+    requires from { from < length policy.now }
+    requires to { to < length policy.now }
+    ensures { result ≡ has_unended_inside (moved from to (texts policy.now)) }
+{
+    is_sound(policy);
+    if from == to {
+        return false;
+    }
+    let last = policy.len() - 1;
+    let before = if to < last { from } else { last };
+    match policy.line(before) {
+        Some(line) => !ends_in_lf(line),
+        None => false,
+    }
+}
+
+/// The last line, where there is one.
+fn last_line(policy: &Policy) -> Option<&[u8]>
+    ensures { option_copied result ≡ slice_get (texts policy.now) (length (texts policy.now) - 1) }
+{
+    Some(policy.lines().last()?.text.as_slice())
+}
+
 /// A law: what the lines of a policy are.
 fn is_sound(policy: &Policy)
     ensures { IsSound (texts policy.now) }
@@ -240,6 +349,17 @@ fn reads_lines()
 {
     policy_is_cut();
     lines_of_join();
+}
+
+/// A law: the lines of a policy stay its lines where LF is put behind the last or taken from it, if that is a policy.
+fn stays_cut()
+    ensures { StaysCut }
+{
+    policy_is_cut();
+    lines_stand_alone();
+    line_alone_size();
+    lf_behind_last_line();
+    lf_from_last_line();
 }
 
 /// Whether a text is exactly one logical line.

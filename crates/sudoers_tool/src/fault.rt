@@ -277,6 +277,7 @@ fn edit_fault_text(
         EditFault::NoLine => at_edit(alloc, place, b"NoLine"),
         EditFault::NotOneLine => at_edit(alloc, place, b"NotOneLine"),
         EditFault::OpenLine => at_edit(alloc, place, b"OpenLine"),
+        EditFault::EndAsIs => at_edit(alloc, place, b"EndAsIs"),
         EditFault::TooLarge => at_edit(alloc, place, b"TooLarge"),
         EditFault::NotPolicy(fault) => {
             let mut text = at_edit(alloc, place, b"NotPolicy: ")?;

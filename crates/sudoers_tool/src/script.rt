@@ -1,7 +1,7 @@
 //! Reading a script, the text of a list of edits.
 ghost use Rattle.std.specs.Prelude.{◌≡◌, ◌+◌, ◌^◌, ◌<◌, ◌≤◌, ◌∷◌, ℕ, List, [], length, IfOk, IfErr, OnOk};
 ghost use Rattle.sudoers_tool.specs.Script.{spelling, edit_limit};
-ghost use Rattle.sudoers_tool.specs.ScriptReading.{reading, Reads, Tells, Rest, command_line, first_line, later_line};
+ghost use Rattle.sudoers_tool.specs.ScriptReading.{reading, Reads, Tells, Rest, Between, before, with_room, command_line, first_line, later_line};
 ghost use Rattle.sudoers_tool.specs.ScriptStanding.{behind, next, outcome};
 
 use crate::edit::{Edit, Edits};
@@ -89,6 +89,21 @@ impl Reading {
         Ok(())
     }
 
+    /// Takes an edit whose command is all of it.
+    fn take_edit(&mut self, edit: Edit) -> Result<(), ScriptFault>
+        requires { self.old.pending ≡ Open.Nothing }
+        ensures ok { OnOk result ((rest : Rest)
+            → behind self.old.edits (with_room (length self.old.edits) (before edit (rest Between (length self.old.edits + 1))))
+            ≡ next rest self.new) }
+        ensures err { IfErr result (λ fault. (rest : Rest)
+            → Tells fault (behind self.old.edits (with_room (length self.old.edits) (before edit (rest Between (length self.old.edits + 1)))))) }
+        ensures line { self.new.line ≡ self.old.line }
+    {
+        self.check_room()?;
+        self.edits.push(edit)?;
+        Ok(())
+    }
+
     /// Takes a line where a command has to come.
     fn take_command(&mut self, said: Said) -> Result<(), ScriptFault>
         requires { self.old.pending ≡ Open.Nothing }
@@ -104,24 +119,24 @@ impl Reading {
             Said::Insert(at) => {
                 self.check_room()?;
                 self.pending = Open::Begun { at, line };
+                Ok(())
             }
-            Said::Delete(at) => {
-                self.check_room()?;
-                self.edits.push(Edit::Delete { at })?;
-            }
+            Said::Delete(at) => self.take_edit(Edit::Delete { at }),
+            Said::Move(from, to) => self.take_edit(Edit::Move { from, to }),
+            Said::EndLine => self.take_edit(Edit::EndLine),
+            Said::OpenEnd => self.take_edit(Edit::OpenEnd),
             Said::BadNumber => {
                 self.check_room()?;
-                return Err(ScriptFault::BadNumber { line });
+                Err(ScriptFault::BadNumber { line })
             }
             Said::BadCommand => {
                 self.check_room()?;
-                return Err(ScriptFault::BadWord { line });
+                Err(ScriptFault::BadWord { line })
             }
             Said::More | Said::Last | Said::Unended | Said::Other => {
-                return Err(ScriptFault::BadWord { line });
+                Err(ScriptFault::BadWord { line })
             }
         }
-        Ok(())
     }
 
     /// Takes the line right behind the command of an insertion.

@@ -1,6 +1,6 @@
 //! What a line of a script says.
-ghost use Rattle.std.specs.Prelude.{◌≡◌, ◌≤◌, ◌∷◌, ℕ, length, take, drop};
-ghost use Rattle.sudoers_tool.specs.ScriptReading.{sense, text_in, said_by_words, words, command, place_of_word};
+ghost use Rattle.std.specs.Prelude.{◌≡◌, ◌≤◌, ◌∷◌, [], ℕ, length, take, drop, MatchOption, if◌then◌else◌};
+ghost use Rattle.sudoers_tool.specs.ScriptReading.{sense, text_in, said_by_words, words, command, move_command, bare_command, place_of_word};
 ghost use Rattle.sudoers_tool.specs.ScriptStanding.{words_behind, said_for};
 ghost use Rattle.sudoers_tool.specs.declared.script_line.Said.{Said as WhatIsSaid};
 
@@ -14,12 +14,21 @@ const INSERT: &[u8] = b"insert";
 
 const DELETE: &[u8] = b"delete";
 
+const MOVE: &[u8] = b"move";
+
+const ENDLINE: &[u8] = b"endline";
+
+const OPENEND: &[u8] = b"openend";
+
 /// What a line of a script says.
 #[derive(Clone, Copy, Debug, PartialEq, Eq)]
 pub enum Said {
     Insert(u32),
     Delete(u32),
-    /// A command, right but for its number.
+    Move(u32, u32),
+    EndLine,
+    OpenEnd,
+    /// A command, right but for a number.
     BadNumber,
     /// It begins with the word of a command, and is otherwise wrong.
     BadCommand,
@@ -74,14 +83,23 @@ fn first_word_len(text: &[u8]) -> usize
     }
 }
 
-/// What the rest of a line behind the word of a command says; it is empty or begins with a space.
+/// The word behind a space, and the rest behind that word; the whole is empty or begins with the space.
+fn next_word(rest: &[u8]) -> Option<(&[u8], &[u8])>
+    ensures { MatchOption result (words_behind rest.now ≡ [])
+        (λ next. words_behind rest.now ≡ next.0.now ∷ words_behind next.1.now) }
+{
+    let (_, text) = rest.split_first()?;
+    Some(text.split_at(first_word_len(text)))
+}
+
+/// What the rest of a line behind the word of a command with one number says.
 fn argument_of(rest: &[u8], is_ended: bool) -> Argument
     ensures { (make : ℕ → WhatIsSaid) → command make is_ended (words_behind rest.now) ≡ said_for make result }
 {
-    let Some((_, word)) = rest.split_first() else {
+    let Some((word, rest)) = next_word(rest) else {
         return Argument::NotOne;
     };
-    if !is_ended || word.contains(&b' ') {
+    if !is_ended || next_word(rest).is_some() {
         return Argument::NotOne;
     }
     match place_of(word) {
@@ -90,25 +108,64 @@ fn argument_of(rest: &[u8], is_ended: bool) -> Argument
     }
 }
 
+/// What a command with one number says, an insertion or a deletion.
+fn place_said(argument: Argument, is_insert: bool) -> Said
+    ensures { result ≡ said_for (if is_insert then WhatIsSaid.Insert else WhatIsSaid.Delete) argument }
+{
+    match argument {
+        Argument::Place(at) if is_insert => Said::Insert(at),
+        Argument::Place(at) => Said::Delete(at),
+        Argument::NoNumber => Said::BadNumber,
+        Argument::NotOne => Said::BadCommand,
+    }
+}
+
+/// What a move says, by the rest of its line.
+fn move_said(rest: &[u8], is_ended: bool) -> Said
+    ensures { result ≡ move_command is_ended (words_behind rest.now) }
+{
+    let Some((from, rest)) = next_word(rest) else {
+        return Said::BadCommand;
+    };
+    let Some((to, rest)) = next_word(rest) else {
+        return Said::BadCommand;
+    };
+    if !is_ended || next_word(rest).is_some() {
+        return Said::BadCommand;
+    }
+    match (place_of(from), place_of(to)) {
+        (Some(from), Some(to)) => Said::Move(from, to),
+        _ => Said::BadNumber,
+    }
+}
+
+/// What a command of one word says, by the rest of its line.
+fn bare_said(said: Said, rest: &[u8], is_ended: bool) -> Said
+    ensures { result ≡ bare_command said is_ended (words_behind rest.now) }
+{
+    if !is_ended || next_word(rest).is_some() {
+        return Said::BadCommand;
+    }
+    said
+}
+
 /// What a line says by its words.
 fn said_by(text: &[u8], is_ended: bool) -> Said
     ensures { result ≡ said_by_words is_ended (words text.now) }
 {
     let (word, rest) = text.split_at(first_word_len(text));
-    let is_insert = word == INSERT;
-    if !is_insert && word != DELETE {
-        return Said::Other;
-    }
-    match argument_of(rest, is_ended) {
-        Argument::Place(at) => {
-            if is_insert {
-                Said::Insert(at)
-            } else {
-                Said::Delete(at)
-            }
-        }
-        Argument::NoNumber => Said::BadNumber,
-        Argument::NotOne => Said::BadCommand,
+    if word == INSERT {
+        place_said(argument_of(rest, is_ended), true)
+    } else if word == DELETE {
+        place_said(argument_of(rest, is_ended), false)
+    } else if word == MOVE {
+        move_said(rest, is_ended)
+    } else if word == ENDLINE {
+        bare_said(Said::EndLine, rest, is_ended)
+    } else if word == OPENEND {
+        bare_said(Said::OpenEnd, rest, is_ended)
+    } else {
+        Said::Other
     }
 }
 

@@ -67,6 +67,15 @@ fn append_edit(alloc: Global, out: &mut Vec<u8>, edit: &Edit) -> Result<(), Allo
             append_number(alloc, out, *at)?;
             out.extend_from_slice(b"\n")
         }
+        Edit::Move { from, to } => {
+            out.extend_from_slice(b"move ")?;
+            append_number(alloc, out, *from)?;
+            out.extend_from_slice(b" ")?;
+            append_number(alloc, out, *to)?;
+            out.extend_from_slice(b"\n")
+        }
+        Edit::EndLine => out.extend_from_slice(b"endline\n"),
+        Edit::OpenEnd => out.extend_from_slice(b"openend\n"),
     }
 }
 

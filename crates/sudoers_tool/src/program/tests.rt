@@ -18,7 +18,7 @@ fn answer_to(alloc: Global, input: &[u8]) -> Result<Vec<u8>, Fail> {
 #[test]
 fn edits_and_their_inverse_lead_there_and_back(rt: HostRuntime) -> Result<(), Fail> {
     let alloc = rt.alloc();
-    let pairs: [(&[u8], &[u8]); 5] = [
+    let pairs: [(&[u8], &[u8]); 9] = [
         (
             b"delete 1\n%%\n# a\n\nroot ALL=(ALL:ALL) ALL\n",
             b"insert 1\n|# a\n%%\n\nroot ALL=(ALL:ALL) ALL\n",
@@ -35,6 +35,19 @@ fn edits_and_their_inverse_lead_there_and_back(rt: HostRuntime) -> Result<(), Fa
             b"insert 2\n>bob ALL=ALL\n%%\n# a\n",
             b"delete 2\n%%\n# a\nbob ALL=ALL",
         ),
+        (
+            b"move 1 3\n%%\n# a\n# b\n# c\n",
+            b"move 3 1\n%%\n# b\n# c\n# a\n",
+        ),
+        (
+            b"move 3 2\n%%\n# a\n# b\n# c\n",
+            b"move 2 3\n%%\n# a\n# c\n# b\n",
+        ),
+        (
+            b"endline\ninsert 2\n|bob ALL=ALL\n%%\nroot ALL=ALL",
+            b"delete 2\nopenend\n%%\nroot ALL=ALL\nbob ALL=ALL\n",
+        ),
+        (b"openend\n%%\n# a\n", b"endline\n%%\n# a"),
         (b"%%\n", b"%%\n"),
     ];
     for (there, back) in pairs {
@@ -47,7 +60,7 @@ fn edits_and_their_inverse_lead_there_and_back(rt: HostRuntime) -> Result<(), Fa
 #[test]
 fn faults_are_told_by_name_and_place(rt: HostRuntime) -> Result<(), Fail> {
     let alloc = rt.alloc();
-    let faults: [(&[u8], &[u8]); 13] = [
+    let faults: [(&[u8], &[u8]); 21] = [
         (
             b"insert 2\n|User_Alias A = y\n%%\nUser_Alias A = x\n",
             b"edit 1: NotPolicy: policy: User_Alias A defined twice",
@@ -61,6 +74,17 @@ fn faults_are_told_by_name_and_place(rt: HostRuntime) -> Result<(), Fail> {
             b"edit 1: OpenLine",
         ),
         (b"delete 2\n%%\n# a\n", b"edit 1: NoLine"),
+        (b"move 1 2\n%%\n# a\n", b"edit 1: NoLine"),
+        (b"move 2 1\n%%\n# a\n# b", b"edit 1: OpenLine"),
+        (b"endline\n%%\n# a\n", b"edit 1: EndAsIs"),
+        (b"endline\n%%\n", b"edit 1: EndAsIs"),
+        (b"openend\n%%\n\n", b"edit 1: EndAsIs"),
+        (
+            b"openend\n%%\nbob ALL=ALL\\\n\n",
+            b"edit 1: NotPolicy: policy: OpenContinuation",
+        ),
+        (b"move 1\n%%\n# a\n", b"script:1: BadWord"),
+        (b"move 1 0\n%%\n# a\n", b"script:1: BadNumber"),
         (
             b"delete 1\ninsert 1\n|a\n|b\n%%\n# a\n",
             b"edit 2: NotOneLine",
