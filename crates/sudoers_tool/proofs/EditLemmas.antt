@@ -120,9 +120,9 @@ at_remove (j ∷ ks) (suc n) zero d l = absurd (omega arith)
 at_remove (j ∷ ks) (suc n) (suc k) d l = at_remove ks n k d (omega arith)
 
 -- a line that is moved before another decides whether one without LF stands there
-pub open_move : (ls : List (List ℕ)) (from to : ℕ) (d : List ℕ) → from < length ls → to < length ls - 1 → has_unended_inside ls ≡ false
+pub open_move : (ls : List (List ℕ)) (from to : ℕ) → from < length ls → to < length ls - 1 → has_unended_inside ls ≡ false
     → not (ends_in_lf (slice_index_or ls from [])) ≡ has_unended_inside (moved from to ls)
-open_move ls from to d l k h = open_insert (remove ls from) to (slice_index_or ls from []) (omega (arith, length_remove ls from l)) (open_remove ls from h)
+open_move ls from to l k h = open_insert (remove ls from) to (slice_index_or ls from []) (omega (arith, length_remove ls from l)) (open_remove ls from h)
 
 -- where another becomes the last, the one that was last decides
 pub open_move_end : (ls : List (List ℕ)) (from to n : ℕ) (d : List ℕ) → from < suc n → length ls ≡ suc (suc n) → to ≡ suc n → has_unended_inside ls ≡ false
@@ -142,7 +142,7 @@ pub move_before : (ls : List (List ℕ)) (from to before last : ℕ) (line : Lis
     → slice_get ls before ≡ Some line → has_unended_inside ls ≡ false → not (ends_in_lf line) ≡ has_unended_inside (moved from to ls)
 move_before ls from to before last line l last_is order same here h =
     ap (λ z. not (ends_in_lf z)) (sym (at_get ls from line [] (ap (slice_get ls) (sym same) ∙ here)))
-    ∙ open_move ls from to [] l (omega (arith, last_is, order)) h
+    ∙ open_move ls from to l (omega (arith, last_is, order)) h
 
 pub move_behind : (ls : List (List ℕ)) (from to before last : ℕ) (line : List ℕ) → from < length ls → to < length ls → (from ≡ to → ⊥) → last ≡ length ls - 1 → last ≤ to
     → before ≡ last → slice_get ls before ≡ Some line → has_unended_inside ls ≡ false → not (ends_in_lf line) ≡ has_unended_inside (moved from to ls)
