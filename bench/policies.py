@@ -70,6 +70,18 @@ def many_aliases(count):
     return "".join(f"{KINDS[n // MOST_OF_A_KIND]} A{n:05} = a{n:05}, b{n:05}\n" for n in numbers).encode()
 
 
+def chain(count):
+    """A policy of `count` command aliases, each of which mentions the next, and a specification that mentions the first."""
+    links = "".join(f"Cmnd_Alias A{n} = A{n + 1}\n" for n in range(count - 1))
+    return f"{links}Cmnd_Alias A{count - 1} = /bin/a\nbob ALL=A0\n".encode()
+
+
+def cycle(count):
+    """The same, but that the last alias mentions the first."""
+    links = "".join(f"Cmnd_Alias A{n} = A{(n + 1) % count}\n" for n in range(count))
+    return f"{links}bob ALL=A0\n".encode()
+
+
 def many_members(count):
     """A policy of one alias with `count` members, in one line; a line may have 65,536 bytes."""
     return b"User_Alias A = " + b",".join([b"x"] * count) + b"\n"
