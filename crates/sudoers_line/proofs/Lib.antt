@@ -26,3 +26,5 @@ pub mod Places
 pub mod Contract
 pub mod Lines
 pub mod Words
+pub mod Recognized
+pub mod Outlines

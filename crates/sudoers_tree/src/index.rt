@@ -1,6 +1,8 @@
 //! The index of the names of aliases.
 
 ghost use Rattle.std.specs.Prelude.{◌≡◌, [], ◌++◌, List, length, IfOk, IfErr, drop};
+ghost use Rattle.sudoers_line.specs.declared.node.Node.{Node as NodeOf};
+ghost use Rattle.sudoers_line.specs.Outline.{IsOutline};
 ghost use Rattle.sudoers_tree.specs.Definition.{Definition, definitions_in};
 ghost use Rattle.sudoers_tree.specs.Index.{names_of, Indexes, entry_fault, entered, Comes, Enters};
 
@@ -8,7 +10,7 @@ use crate::fault::ReadFault;
 use crate::names::Names;
 use crate::place::Place;
 use std::alloc::Global;
-use sudoers_line::{Def, Items, Kind, Node};
+use sudoers_line::{Def, Items, Kind, Node, Outline};
 use sudoers_text::is_reserved;
 
 /// How many definitions of one kind a policy may have.
@@ -65,6 +67,26 @@ impl Index {
             Kind::Runas => enter_all(alloc, &mut self.runas, Kind::Runas, line, defs),
             Kind::Host => enter_all(alloc, &mut self.host, Kind::Host, line, defs),
             Kind::Cmnd => enter_all(alloc, &mut self.cmnd, Kind::Cmnd, line, defs),
+        }
+    }
+
+    /// Enters the names that the line with this number, from 0, defines, by its outline.
+    ///
+    /// # Errors
+    ///
+    /// Why the first that cannot be entered cannot.
+    pub fn enter_outline(
+        &mut self,
+        alloc: Global,
+        line: usize,
+        outline: &Outline,
+    ) -> Result<(), ReadFault>
+        ensures { (before : List Definition) (says : NodeOf) → Indexes self.old before → IsOutline outline.now says
+            → Enters result self.new before (definitions_in line says) }
+    {
+        match outline {
+            Outline::Spec => Ok(()),
+            Outline::Whole(node) => self.enter(alloc, line, node),
         }
     }
 }
