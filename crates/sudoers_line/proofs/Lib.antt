@@ -28,3 +28,4 @@ pub mod Lines
 pub mod Words
 pub mod Recognized
 pub mod Outlines
+pub mod Counts

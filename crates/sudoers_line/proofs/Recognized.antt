@@ -87,7 +87,7 @@ user_named text h =
     either (bytes_eq text (codes "ALL")) _ _ refl
     (either (is_name text) _ _ refl (prefixed text h))
 
-of_word : (k : TokenKind) → is_word k ≡ true → k ≡ kind.Word
+pub of_word : (k : TokenKind) → is_word k ≡ true → k ≡ kind.Word
 of_word kind.Word e = refl
 of_word k e = absurd cc
 
@@ -125,11 +125,11 @@ host_member t e h = rw (of_word t.kind e) (either (has_byte 92 t.text) _ _ refl 
 
 -- ---- members
 
-no_mark : (b : ℕ) (t : Piece) → is_word t.kind ≡ true → is_mark b t ≡ false
+pub no_mark : (b : ℕ) (t : Piece) → is_word t.kind ≡ true → is_mark b t ≡ false
 unfolding is_mark
 no_mark b t e = rw (of_word t.kind e) refl
 
-some_of : (o : Option Atom) → is_some o ≡ true → (a : Atom) × (o ≡ Some a)
+pub some_of : (o : Option Atom) → is_some o ≡ true → (a : Atom) × (o ≡ Some a)
 some_of None e = absurd cc
 some_of (Some a) e = (a, refl)
 
@@ -209,7 +209,7 @@ pub tag_ends : (s : State) (t : Piece) → Stands glance.BehindTag s → is_mark
 unfolding step_on
 tag_ends s t (r, h, g, on, is) it = rw (is, it) (AtCmdSpec r (with_tag h g on) stage.Tags, refl, (r, with_tag h g on, refl))
 
-commanded : (c : Commands) (t : Piece) (a : Atom) → digest_kind t ≡ None → is_mark 33 t ≡ false → bare_command t.kind t.text ≡ Some a → at_command c t ≡ Some (behind_word c (no_draft t false) t a)
+pub commanded : (c : Commands) (t : Piece) (a : Atom) → digest_kind t ≡ None → is_mark 33 t ≡ false → bare_command t.kind t.text ≡ Some a → at_command c t ≡ Some (behind_word c (no_draft t false) t a)
 commanded c t a none isnt some = rw (none, isnt, some) refl
 
 -- the command that comes where neither an option nor a tag does
@@ -255,7 +255,7 @@ named_command text name free all =
     ∙ alias_is text name free
 
 -- what can have no arguments
-alone : (b : Bool) (a : Atom) → program_of a ≡ None → (if b then None else program_of a) ≡ None
+pub alone : (b : Bool) (a : Atom) → program_of a ≡ None → (if b then None else program_of a) ≡ None
 alone true a e = refl
 alone false a e = e
 
@@ -270,7 +270,7 @@ word_leads r h at t a word option tag digest some bare =
 no_digest : (text : List ℕ) → bytes_eq text (codes "sha224") ≡ false → bytes_eq text (codes "sha256") ≡ false → bytes_eq text (codes "sha384") ≡ false → bytes_eq text (codes "sha512") ≡ false → looked_up digest_kinds text ≡ None
 no_digest text a b c d = rw (a, b, c, d) refl
 
-name_digest : (t : Piece) → is_word t.kind ≡ true → is_name t.text ≡ true → digest_kind t ≡ None
+pub name_digest : (t : Piece) → is_word t.kind ≡ true → is_name t.text ≡ true → digest_kind t ≡ None
 unfolding digest_kind
 name_digest t word name =
     let l : 91 ≤ 115 = omega arith in
@@ -278,18 +278,18 @@ name_digest t word name =
     (no_digest t.text (not_named t.text 115 (codes "ha224") l name) (not_named t.text 115 (codes "ha256") l name)
     (not_named t.text 115 (codes "ha384") l name) (not_named t.text 115 (codes "ha512") l name))
 
-all_name : (text : List ℕ) → bytes_eq text (codes "ALL") ≡ true → is_name text ≡ true
+pub all_name : (text : List ℕ) → bytes_eq text (codes "ALL") ≡ true → is_name text ≡ true
 all_name text e = rw ((bytes_eq-Decides text (codes "ALL")).0 e) refl
 
-all_command : (t : Piece) → is_word t.kind ≡ true → bytes_eq t.text (codes "ALL") ≡ true → bare_command t.kind t.text ≡ Some atom.All
+pub all_command : (t : Piece) → is_word t.kind ≡ true → bytes_eq t.text (codes "ALL") ≡ true → bare_command t.kind t.text ≡ Some atom.All
 unfolding bare_command
 all_command t word e = rw (of_word t.kind word, e) refl
 
-alias_command : (t : Piece) → is_word t.kind ≡ true → is_name t.text ≡ true → is_reserved t.text ≡ false → bytes_eq t.text (codes "ALL") ≡ false → bare_command t.kind t.text ≡ Some (atom.Alias t.text)
+pub alias_command : (t : Piece) → is_word t.kind ≡ true → is_name t.text ≡ true → is_reserved t.text ≡ false → bytes_eq t.text (codes "ALL") ≡ false → bare_command t.kind t.text ≡ Some (atom.Alias t.text)
 unfolding bare_command
 alias_command t word name free all = rw (of_word t.kind word) (named_command t.text name free all)
 
-either_name : (b : Bool) {G : Type 0} → (b ≡ true → G) → (b ≡ false → G) → G
+pub either_name : (b : Bool) {G : Type 0} → (b ≡ true → G) → (b ≡ false → G) → G
 either_name true f g = f refl
 either_name false f g = g refl
 
@@ -321,7 +321,7 @@ pub behind_args : (argued : Bool) (next : Glance) (s : State) (t : Piece) → St
 unfolding step_on
 behind_args argued next s t (r, h, d, p, args, stop, _, is) isnt f = rw (is, isnt) (f (with_command r h (command d stop (program_atom p args))))
 
-regex : (argued : Bool) (args : Args) (text : List ℕ) → IsArgued argued args → (argued ≡ true) ⊎ (begins_with 94 text ≡ false) → is_first_regex args text ≡ false
+pub regex : (argued : Bool) (args : Args) (text : List ℕ) → IsArgued argued args → (argued ≡ true) ⊎ (begins_with 94 text ≡ false) → is_first_regex args text ≡ false
 regex argued Nothing text a o = refl
 regex argued (Pattern p) text a o = refl
 regex true Any text a o = absurd (a refl)
@@ -332,7 +332,7 @@ argued_any : (b : Bool) (p : List ℕ) → (if b then Nothing else Pattern p) �
 argued_any true p e = cc
 argued_any false p e = cc
 
-argued_more : (args : Args) (text : List ℕ) → with_argument args text ≡ Any → ⊥
+pub argued_more : (args : Args) (text : List ℕ) → with_argument args text ≡ Any → ⊥
 argued_more Any text e = argued_any (is_no_arguments text) (pattern_of Command text) e
 argued_more Nothing text e = cc
 argued_more (Pattern p) text e = cc

@@ -12,3 +12,4 @@ pub mod Steps
 pub mod Outcome
 pub mod Outline
 pub mod Glance
+pub mod Counted

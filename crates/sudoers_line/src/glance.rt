@@ -71,7 +71,7 @@ fn is_user_text(text: &[u8]) -> bool
 }
 
 /// Whether the token is a user, or in a runas part a user or a group, that begins so.
-fn is_user(part: &Part<'_>) -> bool
+pub fn is_user(part: &Part<'_>) -> bool
     ensures { IsTrue result → IsMemberWord User (seen part.now) }
 {
     part.is_word() && is_user_text(part.text)
@@ -95,14 +95,14 @@ fn is_host_text(text: &[u8]) -> bool
 }
 
 /// Whether the token is a host that begins so.
-fn is_host(part: &Part<'_>) -> bool
+pub fn is_host(part: &Part<'_>) -> bool
     ensures { IsTrue result → IsMemberWord Host (seen part.now) }
 {
     part.is_word() && is_host_text(part.text)
 }
 
 /// Whether the word is `ALL` or the name of an alias of commands.
-fn is_command_name(text: &[u8]) -> bool
+pub fn is_command_name(text: &[u8]) -> bool
     ensures { IsTrue result → IsCommandName text.now }
 {
     text == b"ALL".as_slice() || (is_name(text) && !is_reserved(text))

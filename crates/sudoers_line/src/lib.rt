@@ -5,6 +5,7 @@ mod atom;
 mod awaited;
 mod cause;
 mod commands;
+mod counted;
 mod fault;
 mod glance;
 mod held;

@@ -1,5 +1,5 @@
 -- What is shown of a policy by its outline, and of a file that is too large.
-use Rattle.std.proofs.Common.{◌≡◌, ◌<◌, ℕ, List, length, Option, Some, None, Err, IfSome, inl, inr, subst, sym, refl, ap, ◌∙◌, ◌⊎◌, ◌+◌, ◌++◌, [], ◌∷◌, Result, Ok}
+use Rattle.std.proofs.Common.{◌≡◌, ◌<◌, ℕ, List, length, Option, Some, None, Err, IfSome, inl, inr, subst, sym, refl, ap, append-nil, ◌∙◌, ◌⊎◌, ◌+◌, ◌++◌, [], ◌∷◌, Result, Ok}
 use Rattle.std.proofs.lemmas.Bool.{lt-ltb}
 use Rattle.sudoers_text.specs.Fault.{text_limit, lf_count}
 use Rattle.sudoers_line.specs.declared.node.Node.{Node}
@@ -21,8 +21,8 @@ use Rattle.sudoers_tool.specs.declared.fault.ToolFault.{ToolFault}
 use Rattle.sudoers_tool.specs.declared.fault.ToolFault.TheVariants as tool
 use Rattle.sudoers_tool.specs.LayerOf.{layer_of_read}
 use Rattle.sudoers_tool.specs.Program.{TellsLayer}
-use Rattle.sudoers_tool.specs.Shown.{kind_word, shown_node, shown_line, shown_from}
-use Rattle.sudoers_tool.specs.ShownOutline.{outline_word, shown_outlined, shown_outline, shown_outlines}
+use Rattle.sudoers_tool.specs.Shown.{kind_word, shown_def, shown_node, shown_line, shown_from}
+use Rattle.sudoers_tool.specs.ShownOutline.{shown_alias, outline_word, shown_outlined, shown_outline, shown_outlines}
 use Rattle.sudoers_tool.specs.Show.{show_read, show_output, TellsShow}
 
 too_large : (input : List ℕ) → text_limit < length input → show_output input ≡ Err (layer.Policy (read.Text text.TooLarge))
@@ -38,6 +38,7 @@ tells_large (Some input) fault is large = subst (λ f. TellsShow f input) (sym i
 
 same_word : (o : Outline) (says : Node) → IsOutline o says → outline_word o ≡ kind_word (line_kind says)
 same_word (outline.Whole n) says is = ap (λ (m : Node). kind_word (line_kind m)) is
+same_word (outline.Alias k name count) says (d, is, named, counted) = rw is refl
 same_word outline.Spec (node.Spec users groups) is = refl
 same_word outline.Spec node.Blank is = absurd is
 same_word outline.Spec node.Comment is = absurd is
@@ -47,6 +48,8 @@ same_word outline.Spec (node.Alias k defs) is = absurd is
 
 same_rest : (line : ℕ) (o : Outline) (says : Node) → IsOutline o says → shown_outlined line o ≡ shown_node line says
 same_rest line (outline.Whole n) says is = ap (shown_node line) is
+same_rest line (outline.Alias k name count) says (d, is, named, counted) =
+    rw is (ap (λ (n : List ℕ). shown_alias k line 1 n count) (sym named) ∙ ap (λ (m : ℕ). shown_alias k line 1 d.name m) (sym counted) ∙ sym (append-nil (shown_def k line 1 d)))
 same_rest line outline.Spec (node.Spec users groups) is = refl
 same_rest line outline.Spec node.Blank is = absurd is
 same_rest line outline.Spec node.Comment is = absurd is

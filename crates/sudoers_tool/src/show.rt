@@ -5,7 +5,7 @@ ghost use Rattle.sudoers_text.specs.Fault.{text_limit};
 ghost use Rattle.sudoers_tool.specs.Device.{Rose, AppendsFront};
 ghost use Rattle.sudoers_tool.specs.Program.{pull_limit, TellsLayer};
 ghost use Rattle.sudoers_tool.specs.Shown.{kind_word as word_of_kind, shown_def, shown_defs};
-ghost use Rattle.sudoers_tool.specs.ShownOutline.{outline_word as word_of_outline, shown_outline, shown_outlines};
+ghost use Rattle.sudoers_tool.specs.ShownOutline.{shown_alias, outline_word as word_of_outline, shown_outline, shown_outlines};
 ghost use Rattle.sudoers_tool.specs.Show.{show_output, TellsShow, IsFileFault, IsShowFault, StopsShow, NeedsShowEnd};
 
 use crate::device::{Sink, Source};
@@ -109,6 +109,9 @@ fn append_line(
     append_number(alloc, out, line.row)?;
     out.extend_from_slice(b"\n")?;
     match &line.outline {
+        Outline::Alias { kind, name, members } => {
+            append_alias(alloc, out, *kind, (number, 1), name.as_slice(), *members)
+        }
         Outline::Whole(Node::Alias { kind, defs }) => {
             append_defs(alloc, out, *kind, number, defs.as_slice())
         }
@@ -142,13 +145,28 @@ fn append_def(
 ) -> Result<(), AllocError>
     ensures { OnOk result (out.new.items ≡ out.old.items ++ shown_def kind line number def.now) }
 {
-    append_number(alloc, out, line)?;
+    let name = def.name.as_slice();
+    append_alias(alloc, out, kind, (line, number), name, def.members.len())
+}
+
+/// An alias of this name, that has so many members, by the numbers of its line and in it.
+fn append_alias(
+    alloc: Global,
+    out: &mut Vec<u8>,
+    kind: Kind,
+    numbers: (usize, usize),
+    name: &[u8],
+    members: usize,
+) -> Result<(), AllocError>
+    ensures { OnOk result (out.new.items ≡ out.old.items ++ shown_alias kind numbers.0 numbers.1 name.now members) }
+{
+    append_number(alloc, out, numbers.0)?;
     out.extend_from_slice(b".")?;
-    append_number(alloc, out, number)?;
+    append_number(alloc, out, numbers.1)?;
     append_between_blanks(out, kind_word(kind))?;
-    out.extend_from_slice(def.name.as_slice())?;
+    out.extend_from_slice(name)?;
     out.extend_from_slice(b" ")?;
-    append_number(alloc, out, def.members.len())?;
+    append_number(alloc, out, members)?;
     out.extend_from_slice(b"\n")
 }
 
@@ -166,6 +184,7 @@ fn outline_word(outline: &Outline) -> &'static [u8]
 {
     match outline {
         Outline::Spec => line_word(LineKind::Spec),
+        Outline::Alias { .. } => line_word(LineKind::Alias),
         Outline::Whole(node) => line_word(LineKind::of(node)),
     }
 }

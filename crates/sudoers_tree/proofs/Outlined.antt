@@ -24,7 +24,10 @@ use Rattle.sudoers_tree.specs.Definition.{Definition, definitions, definitions_i
 use Rattle.sudoers_tree.specs.Policy.{texts}
 use Rattle.sudoers_tree.specs.Wrapped.{fault_of_text}
 use Rattle.sudoers_tree.specs.Reading.{line_behind, read_behind, read_of, read_cut}
-use Rattle.sudoers_tree.specs.Index.{Indexes, Enters, Takes, ReadsAll}
+use Rattle.sudoers_line.specs.declared.node.Kind.{Kind}
+use Rattle.sudoers_line.specs.declared.node.Def.{Def}
+use Rattle.sudoers_tree.specs.declared.place.Place.{Place}
+use Rattle.sudoers_tree.specs.Index.{Indexes, Enters, Takes, ReadsAll, Comes, unless, entry_fault, entered}
 use Rattle.sudoers_tree.specs.Outline.{AreOutlines}
 use Rattle.sudoers_tree.specs.Outlining.{fault_of_line, IsOutlining}
 use Rattle.sudoers_tree.proofs.Joined.{lf_append, definitions_push}
@@ -87,3 +90,9 @@ not_cut bytes (text_fault.LineTooLong line) is = inr (ap read_cut is)
 not_cut bytes (text_fault.Nul at) is = inr (ap read_cut is)
 not_cut bytes text_fault.OpenContinuation is = inr (ap read_cut is)
 not_cut bytes text_fault.NoMemory is = inl refl
+
+-- ---- the name of the only definition of a line
+
+pub one_comes : (k : Kind) (line : ℕ) (es : List (List ℕ × Place)) (name : List ℕ) (d : Def) (r : Result (Unit {0}) ReadFault) (new : List (List ℕ × Place)) → d.name ≡ name
+    → Comes r new (unless (entry_fault k es name) (Ok (es ++ (name, record { line = line; def = 0 }) ∷ []))) → Comes r new (entered k line 0 es (d ∷ []))
+one_comes k line es name d r new same h = subst (λ (w : List ℕ). Comes r new (unless (entry_fault k es w) (Ok (es ++ (w, record { line = line; def = 0 }) ∷ [])))) (sym same) h
