@@ -26,3 +26,6 @@ pub mod Places
 pub mod Contract
 pub mod Lines
 pub mod Words
+pub mod Recognized
+pub mod Outlines
+pub mod Counts

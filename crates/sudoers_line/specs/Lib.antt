@@ -10,3 +10,6 @@ pub mod Machine
 pub mod Places
 pub mod Steps
 pub mod Outcome
+pub mod Outline
+pub mod Glance
+pub mod Counted

@@ -5,13 +5,16 @@ mod atom;
 mod awaited;
 mod cause;
 mod commands;
+mod counted;
 mod fault;
+mod glance;
 mod held;
 mod items;
 mod laws;
 mod members;
 mod node;
 mod number;
+mod outline;
 mod params;
 mod part;
 mod pattern;
@@ -26,4 +29,5 @@ pub use node::{
     Address, Args, Atom, CmdSpec, Def, Digest, DigestKind, HostGroup, Kind, Mask, Member, Node,
     Operator, OptionName, Param, RunasSpec, Scope, Setting, Tag,
 };
+pub use outline::{Outline, parse_outline};
 pub use reading::parse;

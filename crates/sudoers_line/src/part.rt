@@ -1,14 +1,15 @@
 //! A token with its text, and what it alone says.
 
-ghost use Rattle.std.specs.Prelude.{◌≡◌, ◌==◌, if◌then◌else◌, nat_eq, ℕ, List, codes, Option, Some, None};
+ghost use Rattle.std.specs.Prelude.{◌≡◌, ◌==◌, if◌then◌else◌, nat_eq, ℕ, length, List, codes, Option, Some, None};
 ghost use Rattle.std.specs.List.{starts_with};
 ghost use Rattle.sudoers_text.specs.Word.{is_name};
-ghost use Rattle.sudoers_line.specs.Piece.{Piece, is_punct, is_word, is_quoted, is_arg, is_digest, is_parameter, is_value, is_comment, is_bad, is_mark, is_the_word, is_alias_name, kind_words, kind_word, include_words, include_word, option_names, option_name, tag_words, tag_of_word, tag_of, digest_kinds, digest_kind, operators, operator_of, scope_signs, scope_sign, looked_up, of_word, begins_with, ends_with, has_byte};
+ghost use Rattle.sudoers_text.specs.Token.{IsWithin};
+ghost use Rattle.sudoers_line.specs.Piece.{Piece, piece, ends_line, is_punct, is_word, is_quoted, is_arg, is_digest, is_parameter, is_value, is_comment, is_bad, is_mark, is_the_word, is_alias_name, kind_words, kind_word, include_words, include_word, option_names, option_name, tag_words, tag_of_word, tag_of, digest_kinds, digest_kind, operators, operator_of, scope_signs, scope_sign, looked_up, of_word, begins_with, ends_with, has_byte};
 ghost use Rattle.sudoers_line.specs.Grammar.{is_defaults};
 ghost use Rattle.sudoers_line.specs.Seen.{seen};
 
 use crate::node::{DigestKind, Kind, Operator, OptionName, Tag};
-use sudoers_text::{TokenKind, is_name};
+use sudoers_text::{Token, TokenKind, begins_line_end, is_name};
 
 /// A token and the text that it covers.
 #[derive(Clone, Copy, Debug)]
@@ -19,6 +20,27 @@ pub struct Part<'a> {
     pub stop: usize,
     /// Behind it the line ends.
     pub last: bool,
+}
+
+/// Whether nothing is left, or a line end comes.
+fn ends_line(rest: &[u8]) -> bool
+    ensures { result ≡ ends_line rest.now }
+{
+    rest.is_empty() || begins_line_end(rest)
+}
+
+/// A token with its text.
+pub fn part_of<'a>(line: &'a [u8], token: &Token) -> Part<'a>
+    requires { IsWithin (length line.now) token.now }
+    ensures { seen result ≡ piece line.now token.now }
+{
+    Part {
+        kind: token.kind,
+        text: &line[token.start..token.stop],
+        start: token.start,
+        stop: token.stop,
+        last: ends_line(&line[token.stop..]),
+    }
 }
 
 /// Whether the byte begins the text.

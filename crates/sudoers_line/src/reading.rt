@@ -8,7 +8,7 @@ ghost use Rattle.sudoers_text.specs.Found.{tokens_of};
 ghost use Rattle.sudoers_line.specs.declared.fault.Why.{Why as WhyOf};
 ghost use Rattle.sudoers_line.specs.declared.node.Node.{Node as NodeOf};
 ghost use Rattle.sudoers_line.specs.declared.state.State.TheVariants as State;
-ghost use Rattle.sudoers_line.specs.Piece.{pieces, ends_line};
+ghost use Rattle.sudoers_line.specs.Piece.{pieces};
 ghost use Rattle.sudoers_line.specs.Seen.{seen};
 ghost use Rattle.sudoers_line.specs.Line.{ReadsLine, IsFault, IsFaultOf, Gives, Refuses, last_line_end, line_stop};
 ghost use Rattle.sudoers_line.specs.Outcome.{outcome_of, LineGives};
@@ -18,11 +18,11 @@ ghost use Rattle.sudoers_line.specs.Steps.{Answers};
 use crate::cause::cause;
 use crate::fault::{LineFault, Why};
 use crate::node::Node;
-use crate::part::{Part, ends_with};
+use crate::part::{Part, ends_with, part_of};
 use crate::state::State;
 use crate::step::{finish, step};
 use std::alloc::{AllocError, Global};
-use sudoers_text::{Token, begins_line_end, line_mode, one_token_list, tokens};
+use sudoers_text::{Token, line_mode, one_token_list, tokens};
 
 /// How many bytes the line end has with which the line ends.
 fn last_line_end(line: &[u8]) -> usize
@@ -38,13 +38,6 @@ fn last_line_end(line: &[u8]) -> usize
     }
 }
 
-/// Whether nothing is left, or a line end comes.
-fn ends_line(rest: &[u8]) -> bool
-    ensures { result ≡ ends_line rest.now }
-{
-    rest.is_empty() || begins_line_end(rest)
-}
-
 /// The tokens with their texts.
 fn parts<'a>(alloc: Global, line: &'a [u8], tokens: &[Token]) -> Result<Vec<Part<'a>>, AllocError>
     requires { All (IsWithin (length line.now)) tokens.now }
@@ -52,13 +45,7 @@ fn parts<'a>(alloc: Global, line: &'a [u8], tokens: &[Token]) -> Result<Vec<Part
 {
     let mut parts = Vec::with_capacity(alloc, tokens.len())?;
     for token in tokens {
-        parts.push(Part {
-            kind: token.kind,
-            text: &line[token.start..token.stop],
-            start: token.start,
-            stop: token.stop,
-            last: ends_line(&line[token.stop..]),
-        })?;
+        parts.push(part_of(line, token))?;
     }
     Ok(parts)
 }
@@ -89,6 +76,15 @@ fn read(alloc: Global, parts: &[Part<'_>], stop: usize) -> Result<Node, LineFaul
     }
 }
 
+/// What a line of these tokens says.
+pub fn read_tokens(alloc: Global, line: &[u8], tokens: &[Token]) -> Result<Node, LineFault>
+    requires { All (IsWithin (length line.now)) tokens.now }
+    ensures { Answers (line_stop line.now) result (run State.Begin (pieces line.now tokens.now)) }
+{
+    let parts = parts(alloc, line, tokens)?;
+    read(alloc, parts.as_slice(), line.len() - last_line_end(line))
+}
+
 /// What one logical line says (sudoers(5), SUDOERS FILE FORMAT). Limits, reserved words and names that are defined twice are
 /// no matter of one line.
 ///
@@ -112,6 +108,5 @@ pub fn parse(alloc: Global, line: &[u8]) -> Result<Node, LineFault>
     let Ok(tokens) = tokens(alloc, line, line_mode(line)) else {
         return Err(LineFault::NoMemory);
     };
-    let parts = parts(alloc, line, tokens.as_slice())?;
-    read(alloc, parts.as_slice(), line.len() - last_line_end(line))
+    read_tokens(alloc, line, tokens.as_slice())
 }

@@ -9,6 +9,7 @@ pub mod ScriptReading
 pub mod ScriptStanding
 pub mod FaultText
 pub mod Shown
+pub mod ShownOutline
 pub mod LayerOf
 pub mod Program
 pub mod Show

@@ -1,22 +1,20 @@
 //! The lines of a policy, shown with their numbers and kinds.
-ghost use Rattle.std.specs.Prelude.{◌≡◌, ◌≢◌, ◌+◌, ◌<◌, ◌≤◌, ◌++◌, codes, length, take, drop, Ok, Err, IfOk, IfErr, OnOk, OnErr, IfSome, IsOkAnd, MatchResult, min, ◌-◌, ◌^◌};
-ghost use Rattle.std.specs.Fmt.{decimal};
+ghost use Rattle.std.specs.Prelude.{◌≡◌, ◌≢◌, ◌+◌, ◌<◌, ◌≤◌, ◌++◌, codes, length, Ok, Err, IfOk, IfErr, OnOk, OnErr, IfSome, IsOkAnd, MatchResult, min, ◌-◌, ◌^◌};
 ghost use Rattle.std.specs.Io.KnownBytes.{Keeps, Appends};
-ghost use Rattle.sudoers_text.specs.Line.{join};
 ghost use Rattle.sudoers_text.specs.Fault.{text_limit};
-ghost use Rattle.sudoers_tree.specs.Policy.{texts};
 ghost use Rattle.sudoers_tool.specs.Device.{Rose, AppendsFront};
 ghost use Rattle.sudoers_tool.specs.Program.{pull_limit, TellsLayer};
-ghost use Rattle.sudoers_tool.specs.Shown.{kind_word as word_of_kind, shown_def, shown_defs, shown_node, shown_line, shown_from, shown as shown_lines};
+ghost use Rattle.sudoers_tool.specs.Shown.{kind_word as word_of_kind, shown_def, shown_defs};
+ghost use Rattle.sudoers_tool.specs.ShownOutline.{shown_alias, outline_word as word_of_outline, shown_outline, shown_outlines};
 ghost use Rattle.sudoers_tool.specs.Show.{show_output, TellsShow, IsFileFault, IsShowFault, StopsShow, NeedsShowEnd};
 
 use crate::device::{Sink, Source};
 use crate::fault::{LayerFault, ToolFault, append_number};
 use crate::program::{read_all, write_all};
 use std::alloc::{AllocError, Global};
-use sudoers_line::{Def, Kind, Node};
+use sudoers_line::{Def, Kind, Node, Outline};
 use sudoers_text::{TEXT_LIMIT, TextFault};
-use sudoers_tree::{LineKind, Policy, ReadFault, kind_word, lf_count};
+use sudoers_tree::{LineKind, OutlinedLine, ReadFault, kind_word, outline_policy};
 
 /// Reads a policy file, and writes for each of its lines its number, its kind and the number of its first physical line, and
 /// for each definition of an alias its numbers, its kind, its name and how many members it has. All numbers count from 1.
@@ -82,29 +80,19 @@ fn show_text(alloc: Global, input: &[u8]) -> Result<Vec<u8>, LayerFault>
         (λ fault. TellsLayer fault (show_output input.now) × IsFileFault fault) }
     ensures size { IfErr result (λ fault. fault ≡ LayerFault.Policy (ReadFault.Text TextFault.TooLarge) → text_limit < length input.now) }
 {
-    let policy = Policy::read(alloc, input)?;
-    Ok(shown(alloc, &policy)?)
+    let lines = outline_policy(alloc, input)?;
+    Ok(shown(alloc, lines.as_slice())?)
 }
 
-/// What is shown of a policy.
-fn shown(alloc: Global, policy: &Policy) -> Result<Vec<u8>, AllocError>
-    ensures { IfOk result (λ out. out.items ≡ shown_lines policy.now) }
+/// What is shown of a policy, by its outline.
+fn shown(alloc: Global, lines: &[OutlinedLine]) -> Result<Vec<u8>, AllocError>
+    ensures { IfOk result (λ out. out.items ≡ shown_outlines 1 lines.now) }
 {
-    within_limit(policy);
     let mut out = Vec::new(alloc);
-    let mut row = 1;
-    for (place, line) in policy.lines().iter().enumerate() {
-        append_line(alloc, &mut out, place + 1, row, &line.node)?;
-        row += lf_count(line.text.as_slice());
+    for (place, line) in lines.iter().enumerate() {
+        append_line(alloc, &mut out, place + 1, line)?;
     }
     Ok(out)
-}
-
-/// A law: a policy's text is within the limit.
-fn within_limit(policy: &Policy)
-    ensures { length (join (texts policy.now)) ≤ text_limit }
-{
-    policy.is_policy();
 }
 
 /// A line with its number and that of its first physical line, and its definitions.
@@ -112,17 +100,21 @@ fn append_line(
     alloc: Global,
     out: &mut Vec<u8>,
     number: usize,
-    row: usize,
-    node: &Node,
+    line: &OutlinedLine,
 ) -> Result<(), AllocError>
-    ensures { OnOk result (out.new.items ≡ out.old.items ++ shown_line number row node.now) }
+    ensures { OnOk result (out.new.items ≡ out.old.items ++ shown_outline number line.now) }
 {
     append_number(alloc, out, number)?;
-    append_between_blanks(out, line_word(LineKind::of(node)))?;
-    append_number(alloc, out, row)?;
+    append_between_blanks(out, outline_word(&line.outline))?;
+    append_number(alloc, out, line.row)?;
     out.extend_from_slice(b"\n")?;
-    match node {
-        Node::Alias { kind, defs } => append_defs(alloc, out, *kind, number, defs.as_slice()),
+    match &line.outline {
+        Outline::Alias { kind, name, members } => {
+            append_alias(alloc, out, *kind, (number, 1), name.as_slice(), *members)
+        }
+        Outline::Whole(Node::Alias { kind, defs }) => {
+            append_defs(alloc, out, *kind, number, defs.as_slice())
+        }
         _ => Ok(()),
     }
 }
@@ -153,13 +145,28 @@ fn append_def(
 ) -> Result<(), AllocError>
     ensures { OnOk result (out.new.items ≡ out.old.items ++ shown_def kind line number def.now) }
 {
-    append_number(alloc, out, line)?;
+    let name = def.name.as_slice();
+    append_alias(alloc, out, kind, (line, number), name, def.members.len())
+}
+
+/// An alias of this name, that has so many members, by the numbers of its line and in it.
+fn append_alias(
+    alloc: Global,
+    out: &mut Vec<u8>,
+    kind: Kind,
+    numbers: (usize, usize),
+    name: &[u8],
+    members: usize,
+) -> Result<(), AllocError>
+    ensures { OnOk result (out.new.items ≡ out.old.items ++ shown_alias kind numbers.0 numbers.1 name.now members) }
+{
+    append_number(alloc, out, numbers.0)?;
     out.extend_from_slice(b".")?;
-    append_number(alloc, out, number)?;
+    append_number(alloc, out, numbers.1)?;
     append_between_blanks(out, kind_word(kind))?;
-    out.extend_from_slice(def.name.as_slice())?;
+    out.extend_from_slice(name)?;
     out.extend_from_slice(b" ")?;
-    append_number(alloc, out, def.members.len())?;
+    append_number(alloc, out, members)?;
     out.extend_from_slice(b"\n")
 }
 
@@ -169,6 +176,17 @@ fn append_between_blanks(out: &mut Vec<u8>, word: &[u8]) -> Result<(), AllocErro
     out.extend_from_slice(b" ")?;
     out.extend_from_slice(word)?;
     out.extend_from_slice(b" ")
+}
+
+/// The word for the kind of a line.
+fn outline_word(outline: &Outline) -> &'static [u8]
+    ensures { result.now ≡ word_of_outline outline.now }
+{
+    match outline {
+        Outline::Spec => line_word(LineKind::Spec),
+        Outline::Alias { .. } => line_word(LineKind::Alias),
+        Outline::Whole(node) => line_word(LineKind::of(node)),
+    }
 }
 
 /// The word for a kind of lines.

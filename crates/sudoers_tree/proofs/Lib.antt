@@ -7,3 +7,4 @@ pub mod Outcomes
 pub mod OneOutcome
 pub mod AtPlaces
 pub mod ReadText
+pub mod Outlined

@@ -8,3 +8,5 @@ pub mod Fault
 pub mod Reading
 pub mod Single
 pub mod Index
+pub mod Outline
+pub mod Outlining

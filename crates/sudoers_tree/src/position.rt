@@ -11,7 +11,11 @@ pub fn lf_count(bytes: &[u8]) -> usize
     ensures count { result ≡ lf_count bytes.now }
     ensures within { result ≤ length bytes.now }
 {
-    bytes.iter().filter(|byte| **byte == b'\n').count()
+    let mut count = 0;
+    for byte in bytes {
+        count += usize::from(*byte == b'\n');
+    }
+    count
 }
 
 /// The column of the byte behind these, from 1.

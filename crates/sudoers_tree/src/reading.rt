@@ -6,6 +6,7 @@ ghost use Rattle.sudoers_text.specs.Fault.{text_limit};
 ghost use Rattle.sudoers_tree.specs.Policy.{texts};
 ghost use Rattle.sudoers_tree.specs.Reading.{line_behind, read_behind};
 ghost use Rattle.sudoers_tree.specs.Index.{IsReading, Takes, ReadsAll};
+ghost use Rattle.sudoers_tree.specs.Outlining.{fault_of_line as fault_in_line};
 
 use crate::fault::ReadFault;
 use crate::index::Index;
@@ -23,6 +24,25 @@ pub struct Reading {
     row: usize,
 }
 
+/// The fault of a policy that a line of this text has that begins on this physical line.
+pub fn fault_of_line(row: usize, text: &[u8], fault: LineFault) -> ReadFault
+    requires { row + length text.now ≤ 1048577 }
+    ensures { result ≡ fault_in_line row text.now fault }
+{
+    match fault {
+        LineFault::NoMemory => ReadFault::NoMemory,
+        LineFault::Syntax { at, why } => {
+            // It stands in the line or at its end.
+            let before = &text[..at.min(text.len())];
+            ReadFault::Syntax {
+                line: row + lf_count(before),
+                col: column_behind(before),
+                why,
+            }
+        }
+    }
+}
+
 impl Reading {
     /// One line more.
     fn take_line(&mut self, alloc: Global, text: &[u8]) -> Result<(), ReadFault>
@@ -33,16 +53,7 @@ impl Reading {
     {
         let node = match parse(alloc, text) {
             Ok(node) => node,
-            Err(LineFault::NoMemory) => return Err(ReadFault::NoMemory),
-            Err(LineFault::Syntax { at, why }) => {
-                // It stands in the line or at its end.
-                let before = &text[..at.min(text.len())];
-                return Err(ReadFault::Syntax {
-                    line: self.row + lf_count(before),
-                    col: column_behind(before),
-                    why,
-                });
-            }
+            Err(fault) => return Err(fault_of_line(self.row, text, fault)),
         };
         self.index.enter(alloc, self.lines.len(), &node)?;
         let text = Items::from_slice(alloc, text)?;

@@ -15,33 +15,28 @@ use Rattle.sudoers_line.proofs.Contract.{found, only, fault, refused, gives}
 use Rattle.sudoers_line.proofs.reading.parse.Goals as goal
 
 -- the tokens, and what the reader tells of them
-has : (c : goal.After-drop-tokens-2) → HasTokens (line_mode c.args.line.now) c.args.line.now c.in-Ok.tokens.items
+has : (c : goal.After-drop-tokens) → HasTokens (line_mode c.args.line.now) c.args.line.now c.in-Ok.tokens.items
 has c = subst (λ m. HasTokens m c.args.line.now c.in-Ok.tokens.items) c.line_mode.ensures c.in-Ok.ensures.exact
 
-tells : (c : goal.After-drop-tokens-2) → Answers (line_stop c.args.line.now) c.read.result (run Begin (pieces c.args.line.now c.in-Ok.tokens.items))
+tells : (c : goal.After-drop-tokens) → Answers (line_stop c.args.line.now) c.read_tokens.result (run Begin (pieces c.args.line.now c.in-Ok.tokens.items))
 tells c =
-    let line : List ℕ = c.args.line.now in
-    let parts : map seen c.as_slice-2.result.now ≡ pieces line c.in-Ok.tokens.items =
-    ap (map seen) c.as_slice-2.ensures.value ∙ c.in_ok-parts.ensures ∙ ap (pieces line) c.as_slice.ensures.value in
-    let stop : length line - c.last_line_end.result ≡ line_stop line = ap (λ n. length line - n) c.last_line_end.ensures.value in
-    subst (λ (at : ℕ). Answers at c.read.result (run Begin (pieces line c.in-Ok.tokens.items))) stop
-    (subst (λ (ts : List Piece). Answers (length line - c.last_line_end.result) c.read.result (run Begin ts)) parts c.read.ensures)
+    subst (λ (ts : List Token). Answers (line_stop c.args.line.now) c.read_tokens.result (run Begin (pieces c.args.line.now ts))) c.as_slice.ensures.value c.read_tokens.ensures
 
 pub returns-clause-found : goal.returns-clause-found
-returns-clause-found c = found c.args.line.now c.in-Ok.tokens.items (line_stop c.args.line.now) c.read.result (has c) (tells c)
+returns-clause-found c = found c.args.line.now c.in-Ok.tokens.items (line_stop c.args.line.now) c.read_tokens.result (has c) (tells c)
 
 pub returns-clause-only : goal.returns-clause-only
 returns-clause-only c = λ node reads.
-    only c.args.line.now c.in-Ok.tokens.items (line_stop c.args.line.now) c.read.result node
+    only c.args.line.now c.in-Ok.tokens.items (line_stop c.args.line.now) c.read_tokens.result node
     (subst (λ (ts : List Token). Reads (pieces c.args.line.now ts) node) (c.one_token_list.ensures (line_mode c.args.line.now) c.args.line.now reads.tokens c.in-Ok.tokens.items reads.has (has c)) reads.reads)
     (tells c)
 
 pub returns-clause-fault : goal.returns-clause-fault
-returns-clause-fault c = fault c.args.line.now c.in-Ok.tokens.items c.read.result (has c) (tells c)
+returns-clause-fault c = fault c.args.line.now c.in-Ok.tokens.items c.read_tokens.result (has c) (tells c)
 
 pub returns-clause-refused : goal.returns-clause-refused
 returns-clause-refused c = λ at why first.
-    refused c.args.line.now c.in-Ok.tokens.items c.read.result first.rest at why
+    refused c.args.line.now c.in-Ok.tokens.items c.read_tokens.result first.rest at why
     (subst (λ (ts : List Token). IsFirstFault (pieces c.args.line.now ts) first.rest why) (c.one_token_list.ensures (line_mode c.args.line.now) c.args.line.now first.tokens c.in-Ok.tokens.items first.has (has c)) first.first)
     first.place (tells c)
 
@@ -49,4 +44,4 @@ pub returns-clause-outcome : goal.returns-clause-outcome
 returns-clause-outcome c =
     let same : c.in-Ok.tokens.items ≡ tokens_of (line_mode c.args.line.now) c.args.line.now =
     subst (λ m. c.in-Ok.tokens.items ≡ tokens_of m c.args.line.now) c.line_mode.ensures c.in-Ok.ensures.outcome in
-    gives c.args.line.now c.in-Ok.tokens.items c.read.result same (tells c)
+    gives c.args.line.now c.in-Ok.tokens.items c.read_tokens.result same (tells c)

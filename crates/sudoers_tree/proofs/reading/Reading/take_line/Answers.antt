@@ -13,21 +13,15 @@ use Rattle.sudoers_tree.specs.Definition.{definitions, definitions_in}
 use Rattle.sudoers_tree.specs.Policy.{texts}
 use Rattle.sudoers_tree.specs.Index.{Enters, Takes, Indexes}
 use Rattle.sudoers_tree.proofs.Joined.{definitions_push}
-use Rattle.sudoers_tree.proofs.Taken.{says_nothing, refused, stands, row_more}
+use Rattle.sudoers_tree.proofs.Taken.{refused, stands, row_more}
+use Rattle.sudoers_tree.proofs.Outlined.{not_read}
 use Rattle.sudoers_tree.proofs.reading.Reading.take_line.Goals as goal
 
-pub returns-in-Err-Syntax-clause-taken : goal.returns-in-Err-Syntax-clause-taken
-returns-in-Err-Syntax-clause-taken c =
-    let text : List ℕ = c.args.text.now in
-    let at : ℕ = c.in-Err-Syntax.at in
-    let front : take c.min.result text ≡ take at text =
-    ap (λ n. take n text) (c.min.ensures ∙ ap (λ n. min n (length text)) c.in-Err-Syntax.at-is) ∙ take_min at text in
-    let told : outcome_of text ≡ Err (syntax at c.in-Err-Syntax.why) =
-    subst (λ f. LineGives (Err f) (outcome_of text)) c.in-Err-Syntax.field-0-is c.in-Err-Syntax.ensures.outcome in
-    says_nothing c.args.self.now.lines.items text at (c.args.self.now.row + c.lf_count.result) c.column_behind.result c.in-Err-Syntax.why told
-    (ap (λ n. c.args.self.now.row + n) (c.lf_count.ensures.count ∙ ap lf_count front) ∙ ap (λ n. n + lf_count (take at text)) c.requires.reading.row)
-    (c.column_behind.ensures ∙ ap column_behind front)
-    ∙ ap (λ why. Err (Syntax (c.args.self.now.row + c.lf_count.result) c.column_behind.result why)) (sym c.in-Err-Syntax.why-is)
+pub returns-in-Err-clause-taken : goal.returns-in-Err-clause-taken
+returns-in-Err-clause-taken c =
+    let lines : List Line = c.args.self.now.lines.items in
+    subst (λ (fault : ReadFault). Takes (Err fault) lines lines (line_behind lines c.args.text.now)) (sym c.fault_of_line.ensures)
+    (not_read lines lines c.args.text.now c.args.self.now.row c.in-Err.fault c.in-Err.ensures.outcome c.requires.reading.row)
 
 pub returns-in_err-enter-clause-taken : goal.returns-in_err-enter-clause-taken
 returns-in_err-enter-clause-taken c =
@@ -67,6 +61,6 @@ returns-clause-reading c =
     record {
       index = subst (λ ds. Indexes c.enter.new.self ds) definitions_of entered.0;
       row =
-          row_more lines line c.args.self.now.row c.lf_count-2.result c.requires.reading.row (c.lf_count-2.ensures.count ∙ ap lf_count c.as_slice.ensures)
+          row_more lines line c.args.self.now.row c.lf_count.result c.requires.reading.row (c.lf_count.ensures.count ∙ ap lf_count c.as_slice.ensures)
           ∙ ap (λ ls. row_behind (join (texts ls))) (sym more);
     }

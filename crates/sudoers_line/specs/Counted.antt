@@ -1,0 +1,70 @@
+-- A device of the proof, which no public contract cites: where the reader stands of a definition whose members are counted.
+use Rattle.std.specs.Prelude.{◌≡◌, ◌+◌, ℕ, Bool, true, false, List, [], ◌∷◌, Option, Some, None, Result, Ok, length}
+use Rattle.sudoers_line.specs.declared.counted.Place.{Place}
+use Rattle.sudoers_line.specs.declared.counted.Place.TheVariants as place
+use Rattle.sudoers_line.specs.declared.counted.Counted.{Counted}
+use Rattle.sudoers_line.specs.declared.node.Kind.{Kind}
+use Rattle.sudoers_line.specs.declared.node.Kind.TheVariants.{Cmnd}
+use Rattle.sudoers_line.specs.declared.node.Args.{Args}
+use Rattle.sudoers_line.specs.declared.node.Member.{Member}
+use Rattle.sudoers_line.specs.declared.node.Node.{Node}
+use Rattle.sudoers_line.specs.declared.state.Signs.{Signs}
+use Rattle.sudoers_line.specs.declared.state.Named.{Named}
+use Rattle.sudoers_line.specs.declared.state.Frame.TheVariants.{Definition}
+use Rattle.sudoers_line.specs.declared.state.Commands.TheVariants as commands
+use Rattle.sudoers_line.specs.declared.state.Draft.{Draft}
+use Rattle.sudoers_line.specs.declared.state.Program.{Program}
+use Rattle.sudoers_line.specs.declared.state.State.{State}
+use Rattle.sudoers_line.specs.declared.state.State.TheVariants.{AtMember, BehindMember, AtCommand, BehindProgram, BehindCommand, Ended}
+use Rattle.sudoers_line.specs.Piece.{Piece}
+use Rattle.sudoers_line.specs.Machine.{Stop, step_on, finish, behind_definition}
+use Rattle.sudoers_line.specs.Outline.{IsDefinitionOf}
+use Rattle.sudoers_line.specs.Glance.{IsArgued}
+
+-- The reader stands there, in the first definition of a line.
+abbrev pub StandsAt : Kind → Named → Place → ℕ → State → Type 0
+StandsAt k n place.AtMember count s = (ms : List Member) × (sg : Signs) × (length ms ≡ count) × (s ≡ AtMember (Definition k [] n) ms sg)
+StandsAt k n place.BehindMember count s = (ms : List Member) × (length ms ≡ count) × (s ≡ BehindMember (Definition k [] n) ms)
+StandsAt k n place.AtCommand count s = (ms : List Member) × (length ms ≡ count) × (k ≡ Cmnd) × (s ≡ AtCommand (commands.Definition [] n ms))
+StandsAt k n (place.BehindProgram argued) count s =
+    (ms : List Member) × (d : Draft) × (p : Program) × (args : Args) × (stop : ℕ)
+    × (length ms ≡ count) × (k ≡ Cmnd) × IsArgued argued args × (s ≡ BehindProgram (commands.Definition [] n ms) d p args stop)
+StandsAt k n place.BehindCommand count s =
+    (ms : List Member) × (m : Member) × (length ms ≡ count) × (k ≡ Cmnd) × (s ≡ BehindCommand (commands.Definition [] n ms) m)
+StandsAt k n place.Ended count s = (says : Node) × IsDefinitionOf k n.text count says × (s ≡ Ended says)
+
+abbrev pub Stands : Kind → Named → Counted → State → Type 0
+Stands k n c s = StandsAt k n c.place c.members s
+
+-- A step leads there.
+abbrev pub Leads : Kind → Named → Counted → Option State → Type 0
+Leads k n c o = (s : State) × (o ≡ Some s) × Stands k n c s
+
+-- A step by this token, that is no comment, leads there if any place is known.
+abbrev pub LeadsFrom : Kind → Counted → Option Counted → Piece → Type 0
+LeadsFrom k c None t = Unit {0}
+LeadsFrom k c (Some next) t = (n : Named) (s : State) → Stands k n c s → Leads k n next (step_on s t)
+
+-- A token where a command comes leads there.
+abbrev pub LeadsToCommand : Option Place → Piece → Type 0
+LeadsToCommand None t = Unit {0}
+LeadsToCommand (Some p) t =
+    (n : Named) (ms : List Member) (count : ℕ) → length ms ≡ count
+    → (s : State) × (step_on (AtCommand (commands.Definition [] n ms)) t ≡ Some s) × StandsAt Cmnd n p count s
+
+-- A token behind a command, with which there are so many, leads there.
+abbrev pub LeadsBehind : Counted → Option Counted → Piece → Type 0
+LeadsBehind c None t = Unit {0}
+LeadsBehind c (Some next) t =
+    (n : Named) (ms : List Member) → length ms ≡ c.members + 1 → Leads Cmnd n next (behind_definition [] n ms t)
+
+-- The line may end there.
+abbrev pub FinishesDefinition : Kind → Named → ℕ → State → Type 0
+FinishesDefinition k n count s = (says : Node) × (finish s ≡ Some says) × IsDefinitionOf k n.text count says
+
+-- what is read
+abbrev pub ReadsMembers : Kind → Named → ℕ → Result Node Stop → Type 0
+ReadsMembers k n count r = (says : Node) × (r ≡ Ok says) × IsDefinitionOf k n.text count says
+
+abbrev pub IsDefinition : Kind → List ℕ → ℕ → Result Node Stop → Type 0
+IsDefinition k name count r = (says : Node) × (r ≡ Ok says) × IsDefinitionOf k name count says

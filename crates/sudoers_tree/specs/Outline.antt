@@ -1,0 +1,14 @@
+-- A policy in outline.
+use Rattle.std.specs.Prelude.{◌≡◌, ℕ, ◌+◌, List, [], ◌∷◌}
+use Rattle.sudoers_text.specs.Fault.{lf_count}
+use Rattle.sudoers_line.specs.Outline.{IsOutline}
+use Rattle.sudoers_tree.specs.declared.line.Line.{Line}
+use Rattle.sudoers_tree.specs.declared.outline.OutlinedLine.{OutlinedLine}
+
+-- These are outlines of the lines, of which the first begins with this physical line.
+abbrev pub AreOutlines : ℕ → List OutlinedLine → List Line → Type 0
+AreOutlines row [] [] = Unit {0}
+AreOutlines row [] (line ∷ lines) = ⊥
+AreOutlines row (o ∷ os) [] = ⊥
+AreOutlines row (o ∷ os) (line ∷ lines) =
+    (o.row ≡ row) × IsOutline o.outline line.node × AreOutlines (row + lf_count line.text) os lines
