@@ -1,5 +1,6 @@
 -- The graph of the definitions.
 use Rattle.std.proofs.Common.{◌≡◌, ℕ, suc, ◌+◌, ◌<◌, Bool, true, false, List, [], ◌∷◌, ◌++◌, length, map, refl, ap, arith, if◌then◌else◌, Option, Some, None, option_map}
+use Rattle.std.proofs.lemmas.List.{map-append}
 use Rattle.std.specs.List.{AllByRecursion, cons_option}
 use Rattle.sudoers_line.specs.declared.node.Kind.{Kind}
 use Rattle.sudoers_line.specs.declared.node.Def.{Def}
@@ -17,12 +18,8 @@ pub nodes_from : (ds : List Definition) (k : Kind) (line n : ℕ) (defs : List D
 nodes_from ds k line n [] = refl
 nodes_from ds k line n (d ∷ defs) = ap (λ rest. numbers_of k (names_in d.members) ds ∷ rest) (nodes_from ds k line (n + 1) defs)
 
-map_append : {X Y : Type 0} (f : X → Y) (xs ys : List X) → map f (xs ++ ys) ≡ map f xs ++ map f ys
-map_append f [] ys = refl
-map_append f (x ∷ xs) ys = ap (λ zs. f x ∷ zs) (map_append f xs ys)
-
 pub nodes_append : (ds xs ys : List Definition) → nodes_of ds (xs ++ ys) ≡ nodes_of ds xs ++ nodes_of ds ys
-nodes_append ds xs ys = map_append (λ (d : Definition). numbers_of d.kind (names_in d.def.members) ds) xs ys
+nodes_append ds xs ys = map-append (λ (d : Definition). numbers_of d.kind (names_in d.def.members) ds) xs ys
 
 -- ---- numbers are those of nodes
 

@@ -1,7 +1,7 @@
 -- Notes line by line are those of the whole.
 use Rattle.std.proofs.Common.{◌≡◌, inl, inr, ℕ, zero, suc, ◌+◌, ◌<◌, Bool, true, false, ◌||◌, List, [], ◌∷◌, ◌++◌, length, map, take, drop, slice_index_or, refl, sym, ap, ap₂, ◌∙◌, arith, if◌then◌else◌, Option, Some, None, option_map, bytes_eq, append_assoc, append-nil}
 use Rattle.std.specs.List.{list_any}
-use Rattle.std.proofs.lemmas.List.{length-take, length-drop}
+use Rattle.std.proofs.lemmas.List.{map-append, length-take, length-drop}
 use Rattle.std.specs.Option.{is_some as is_there}
 use Rattle.sudoers_text.specs.Line.{join}
 use Rattle.sudoers_text.specs.Fault.{lf_count}
@@ -155,10 +155,6 @@ picked_append true (false ∷ ms) (x ∷ xs) ys = picked_append true ms xs ys
 picked_append false (true ∷ ms) (x ∷ xs) ys = picked_append false ms xs ys
 picked_append false (false ∷ ms) (x ∷ xs) ys = ap (λ zs. x ∷ zs) (picked_append false ms xs ys)
 
-map_append : {X Y : Type 0} (f : X → Y) (xs ys : List X) → map f (xs ++ ys) ≡ map f xs ++ map f ys
-map_append f [] ys = refl
-map_append f (x ∷ xs) ys = ap (λ zs. f x ∷ zs) (map_append f xs ys)
-
 defs_behind : (wanted : Bool) (front : List Line) (line : Line) (rest : List Line) (k : Kind) (n : ℕ) (marks : List Bool) (defs : List Def)
     → noted_defs wanted (row_behind (join (texts front))) line.text k marks defs
     ≡ map (note_of_definition (front ++ line ∷ rest)) (picked wanted marks (definitions_from k (length front) n defs))
@@ -198,7 +194,7 @@ lines_behind wanted front (line ∷ rest) marks =
     ∙ ap (λ ls. map (note_of_definition ls) (picked wanted (drop (count_in line.node) marks) (definitions_since (length (front ++ line ∷ [])) rest))) whole
     ∙ ap (λ n. map N (picked wanted (drop (count_in line.node) marks) (definitions_since n rest))) (length_push front line) in
     ap₂ (λ xs ys. xs ++ ys) first more
-    ∙ sym (map_append N (picked wanted (take (count_in line.node) marks) (definitions_in (length front) line.node)) (picked wanted (drop (count_in line.node) marks) (definitions_since (length front + 1) rest)))
+    ∙ sym (map-append N (picked wanted (take (count_in line.node) marks) (definitions_in (length front) line.node)) (picked wanted (drop (count_in line.node) marks) (definitions_since (length front + 1) rest)))
     ∙ ap (λ n. map N (picked wanted (take n marks) (definitions_in (length front) line.node) ++ picked wanted (drop n marks) (definitions_since (length front + 1) rest))) (sym count)
     ∙ ap (map N) (sym (picked_append wanted marks (definitions_in (length front) line.node) (definitions_since (length front + 1) rest)))
 
@@ -273,7 +269,7 @@ undefined_lines ds front (line ∷ rest) before =
     ∙ undefined_lines ds (front ++ line ∷ []) rest (before ++ here)
     ∙ ap₂ (λ ls k. map (note_of_mention ls) (undefined_behind ds (before ++ here) (mentioned_since k rest))) (append_assoc front (line ∷ []) rest) (length_push front line) in
     ap₂ (λ xs ys. xs ++ ys) first more
-    ∙ sym (map_append N (undefined_behind ds before here) (undefined_behind ds (before ++ here) (mentioned_since (n + 1) rest)))
+    ∙ sym (map-append N (undefined_behind ds before here) (undefined_behind ds (before ++ here) (mentioned_since (n + 1) rest)))
     ∙ ap (map N) (sym (undefined_append ds before here (mentioned_since (n + 1) rest)))
 
 pub undefined_all : (lines : List Line) → undefined_from (definitions lines) 1 [] 0 lines ≡ map (note_of_mention lines) (undefined_of lines)
@@ -305,6 +301,6 @@ places_all n marks (line ∷ lines) l =
     let front : length (take (count_in line.node) marks) ≡ count_in line.node = omega (arith, l, length-take (count_in line.node) marks) in
     let behind : length (drop (count_in line.node) marks) ≡ total lines = omega (arith, l, length-drop (count_in line.node) marks) in
     ap₂ (λ xs ys. xs ++ ys) (places_node n (take (count_in line.node) marks) line.node front) (places_all (n + 1) (drop (count_in line.node) marks) lines behind)
-    ∙ sym (map_append (λ (d : Definition). (d.kind, d.place)) (picked false (take (count_in line.node) marks) (definitions_in n line.node)) (picked false (drop (count_in line.node) marks) (definitions_since (n + 1) lines)))
+    ∙ sym (map-append (λ (d : Definition). (d.kind, d.place)) (picked false (take (count_in line.node) marks) (definitions_in n line.node)) (picked false (drop (count_in line.node) marks) (definitions_since (n + 1) lines)))
     ∙ ap (λ k. map (λ (d : Definition). (d.kind, d.place)) (picked false (take k marks) (definitions_in n line.node) ++ picked false (drop k marks) (definitions_since (n + 1) lines))) (sym count)
     ∙ ap (map (λ (d : Definition). (d.kind, d.place))) (sym (picked_append false marks (definitions_in n line.node) (definitions_since (n + 1) lines)))
