@@ -37,39 +37,48 @@ pub fn report_of(alloc: Global, text: &[u8], file: &[u8], strict: bool) -> Resul
     Ok(report_text(alloc, &report, file, strict)?)
 }
 
-/// The policy of the case has this report. No case at all has any.
-fn is_reported(
-    rt: &impl Abort,
-    alloc: Global,
-    strict: bool,
-    case: &str,
-    wanted: &str,
-) -> Result<(), Fail> {
-    if !case.is_empty() {
-        let text = text_of(alloc, case)?;
-        let found = report_of(alloc, text.as_bytes(), FILE, strict)?;
-        assert_eq!(rt; str::from_utf8(found.as_slice()), Ok(wanted), "of {case}");
-    }
-    Ok(())
-}
-
-/// Each policy of the table has the report in the rows below it, up to an empty row. Each row is a line of it.
-fn have_reports(rt: &impl Abort, alloc: Global, strict: bool, table: &str) -> Result<(), Fail> {
-    let mut case = "";
-    let mut wanted = String::new(alloc);
+/// The cases of a table, each with its report: the rows below it, up to an empty row.
+fn cases(alloc: Global, table: &str) -> Result<Vec<(&str, String)>, AllocError> {
+    let mut cases = Vec::new(alloc);
+    let mut open = None;
+    let mut report = String::new(alloc);
     for row in table.lines() {
-        if row.is_empty() {
-            is_reported(rt, alloc, strict, case, wanted.as_str())?;
-            case = "";
-            wanted = String::new(alloc);
-        } else if case.is_empty() {
-            case = row;
-        } else {
-            wanted.push_str(row)?;
-            wanted.push('\n')?;
+        match open {
+            Some(case) => {
+                if row.is_empty() {
+                    cases.push((case, report))?;
+                    report = String::new(alloc);
+                    open = None;
+                } else {
+                    report.push_str(row)?;
+                    report.push('\n')?;
+                }
+            }
+            None => {
+                if !row.is_empty() {
+                    open = Some(row);
+                }
+            }
         }
     }
-    is_reported(rt, alloc, strict, case, wanted.as_str())
+    if let Some(case) = open {
+        cases.push((case, report))?;
+    }
+    Ok(cases)
+}
+
+/// Each policy of the table has the report in the rows below it.
+fn have_reports(rt: &impl Abort, alloc: Global, strict: bool, table: &str) -> Result<(), Fail> {
+    for (case, wanted) in cases(alloc, table)? {
+        let text = text_of(alloc, case)?;
+        let found = report_of(alloc, text.as_bytes(), FILE, strict)?;
+        assert_eq!(rt;
+            str::from_utf8(found.as_slice()),
+            Ok(wanted.as_str()),
+            "of {case}"
+        );
+    }
+    Ok(())
 }
 
 /// Each policy of the table has the report below it.
@@ -96,19 +105,12 @@ pub fn unused_text(alloc: Global, text: &[u8]) -> Result<String, Fail> {
     Ok(found)
 }
 
-/// Of each policy of the table the definitions in the row below it are unused.
+/// Of each policy of the table the definitions in the row below it are unused. Empty rows stand between two.
 pub fn are_unused(rt: &impl Abort, alloc: Global, table: &str) -> Result<(), Fail> {
-    let mut case = "";
-    for row in table.lines() {
-        if !row.is_empty() && case.is_empty() {
-            case = row;
-        } else if !row.is_empty() {
-            let found = unused_text(alloc, text_of(alloc, case)?.as_bytes())?;
-            assert_eq!(rt; found.as_str(), row, "of {case}");
-            case = "";
-        }
+    for (case, wanted) in cases(alloc, table)? {
+        let found = unused_text(alloc, text_of(alloc, case)?.as_bytes())?;
+        assert_eq!(rt; found.as_str(), wanted.as_str().trim_end(), "of {case}");
     }
-    assert_eq!(rt; case, "", "a row with none below it");
     Ok(())
 }
 

@@ -11,18 +11,25 @@ fn unused_definitions_are_told_with_their_kinds(rt: HostRuntime) -> Result<(), F
         r#"
 ␊
 none
+
 bob h=ALL␊
 none
+
 User_Alias A = x␊
 User 0.0
+
 Runas_Alias A = x␊
 Runas 0.0
+
 Host_Alias A = x␊
 Host 0.0
+
 Cmnd_Alias A = /x␊
 Cmnd 0.0
+
 Cmd_Alias A = /x␊
 Cmnd 0.0
+
 Cmnd_Alias A = /a␊Host_Alias A = h␊Cmnd_Alias B = /b␊User_Alias A = x␊
 Cmnd 0.0, Host 1.0, Cmnd 2.0, User 3.0
 "#,
@@ -37,6 +44,7 @@ fn unused_definitions_are_told_by_their_logical_lines(rt: HostRuntime) -> Result
         r#"
 # a␊␊bob \␊ h=ALL␊User_Alias B = x : \␊ A = y : C = z␊A h=ALL␊
 User 3.0, User 3.2
+
 Host_Alias A = x␍␊\␍␊Host_Alias B = x : C = x␍␊bob B=ALL␍␊Host_Alias D = x
 Host 0.0, Host 1.1, Host 3.0
 "#,
@@ -53,12 +61,16 @@ fn cyclic_definitions_and_those_before_used_ones_may_be_unused(
         r#"
 User_Alias A = A : B = A, C : C = B␊bob h=ALL␊
 User 0.0, User 0.1, User 0.2
+
 User_Alias A = A : B = A, C : C = B␊C h=ALL␊
 none
+
 Cmnd_Alias A = B : B = /b : C = B : D = C␊Host_Alias A = h : D = A␊bob D=A␊
 Cmnd 0.2, Cmnd 0.3
+
 User_Alias A = B␊User_Alias B = x␊A h=ALL␊
 none
+
 Defaults:A x␊User_Alias A = B␊Defaults>A x␊Runas_Alias B = x : A = y␊User_Alias B = x␊
 Runas 3.0
 "#,
