@@ -20,15 +20,17 @@ MOST = 100_000
 
 @dataclass(frozen=True)
 class Input:
-    """How many bytes the program reads under these words, and the fault that it tells of more."""
+    """How many bytes the program reads under these words, and what it answers to more."""
 
     words: tuple
     limit: int
-    too_large: str
+    too_large: Wanted
 
 
-EDIT = Input((), 4_000_000, "InputTooLarge")
-SHOW = Input(("show", "-"), 1_048_576, "-: TooLarge")
+EDIT = Input((), 4_000_000, fault("InputTooLarge"))
+SHOW = Input(("show", "-"), 1_048_576, fault("-: TooLarge"))
+CHECK = Input(("check", "-"), 1_048_576, Wanted(b"-: TooLarge\n", status=1))
+QUIET = Input(("check", "-q", "-"), 1_048_576, Wanted(status=1))
 
 # Cases of the folder that are run under every refusal and failure.
 EDITS = (
@@ -51,11 +53,25 @@ EDITS = (
     "syntax_fault_of_an_edit_is_told_by_its_place_in_the_result",
     "syntax_fault_of_the_policy_comes_before_edits",
     "policy_is_read_where_the_script_is_empty",
+    "two_moves_give_moves_last_edit_first",
+    "moves_and_ends_and_back",
+    "endline_and_insert_behind_it",
+    "move_of_an_open_last_line_before_another",
+    "openend_of_a_line_that_ends_in_a_continuation_and_a_line_end",
+    "endline_of_an_empty_policy",
 )
 SHOWS = (
     "show_of_standard_input",
     "show_of_an_empty_standard_input",
     "show_takes_no_script",
+)
+CHECKS = (
+    "check_of_standard_input",
+    "quiet_strict_check_of_standard_input",
+    "strict_check_of_standard_input",
+    "check_of_an_empty_standard_input",
+    "check_of_a_standard_input_with_a_fault",
+    "quiet_check_of_a_standard_input_with_a_fault",
 )
 
 # Cases of the folder that are run under every refusal of memory alone: they read no standard input.
@@ -75,6 +91,19 @@ WORDS = (
     "show_tells_a_syntax_fault",
     "show_tells_an_open_end",
     "show_tells_a_nul",
+    "help_of_check",
+    "check_without_a_file",
+    "check_of_a_file_that_is_not_there",
+    "quiet_check_of_a_folder",
+    "check_of_a_site_with_some_of_everything",
+    "check_tells_each_word_with_each_kind",
+    "quiet_strict_check_of_undefined_cyclic_and_unused_aliases",
+    "check_tells_a_second_definition",
+    "check_tells_a_reserved_word",
+    "check_tells_a_syntax_fault",
+    "check_tells_an_open_end",
+    "check_tells_a_nul",
+    "quiet_check_of_a_second_definition",
 )
 
 
@@ -104,6 +133,31 @@ def many_definitions_case():
     policy = b"".join(b"User_Alias A%d = bob, ann : B%d = A%d\n" % (n, n, n) for n in numbers)
     lines = b"".join(b"%d alias %d\n%d.1 User_Alias A%d 2\n%d.2 User_Alias B%d 1\n" % (6 * (n,)) for n in numbers)
     return cases.Case("show_of_forty_definitions", ("show", "-"), policy, Wanted(lines))
+
+
+def many_moves_case():
+    """Moves and ends on a policy of twenty lines, so that every list grows often."""
+    numbers = range(1, 7)
+    script = b"".join(b"move %d 20\nopenend\nendline\n" % n for n in numbers)
+    inverse = b"".join(b"openend\nendline\nmove 20 %d\n" % n for n in reversed(numbers))
+    old = [ordinary_line(number) for number in range(1, 21)]
+    new = list(old)
+    for n in numbers:
+        new.append(new.pop(n - 1))
+    wanted = Wanted(inverse + b"%%\n" + b"".join(new))
+    return cases.Case("eighteen_moves_and_ends_on_twenty_lines", (), script + b"%%\n" + b"".join(old), wanted)
+
+
+def many_notes_case():
+    """`check` of twenty lines with notes of each sort, so that every list and every set of names grow often."""
+    numbers = range(10, 30)
+    policy = b"".join(b"User_Alias A%d = A%d, B%d : C%d = x\n" % (4 * (n,)) for n in numbers)
+    notes = [b"%d:23: undefined User_Alias B%d" % (n - 9, n) for n in numbers]
+    notes += [b"%d:12: cyclic User_Alias A%d" % (n - 9, n) for n in numbers]
+    for n in numbers:
+        notes += [b"%d:12: unused User_Alias A%d" % (n - 9, n), b"%d:29: unused User_Alias C%d" % (n - 9, n)]
+    wanted = Wanted(b"".join(b"-:" + note + b"\n" for note in notes) + b"-: parsed OK\n")
+    return cases.Case("check_of_eighty_notes", ("check", "-"), policy, wanted)
 
 
 class Stand:
@@ -178,18 +232,18 @@ def refuse_growths_and_more(stand, case, given):
     """Every growth of runs whose devices fail too."""
     refuse_growths(stand, case, case.wanted, interrupt_read=1)
     refuse_growths(stand, case, fault("Read"), fail_read=2)
-    refuse_growths(stand, case, fault(given.too_large), endless=1)
+    refuse_growths(stand, case, given.too_large, endless=1)
     for room in (0, 5):
-        wanted = Wanted(case.wanted.stdout[:room], fault("Write").stderr, 1)
-        refuse_growths(stand, case, wanted, write_room=room)
+        failed = Wanted(case.wanted.stdout[:room], fault("Write").stderr, 1)
+        refuse_growths(stand, case, failed if case.wanted.stdout else case.wanted, write_room=room)
 
 
-def check_memory(stand, edits, shows, words):
+def check_memory(stand, all_cases, given):
     """Every growth of every case, and of runs whose devices fail too."""
-    for case in [*edits, *shows, *words, many_lines_case(), many_definitions_case()]:
+    for case in [*all_cases, many_lines_case(), many_moves_case(), many_definitions_case(), many_notes_case()]:
         refuse_growths(stand, case, case.wanted)
-    refuse_growths_and_more(stand, edits[1], EDIT)
-    refuse_growths_and_more(stand, shows[0], SHOW)
+    for case, input_given in given:
+        refuse_growths_and_more(stand, case, input_given)
 
 
 # ---- standard input --------------------------------------------------------------
@@ -229,18 +283,18 @@ def last_allowed_read(stand, case, given):
     past = {"interrupt_reads": READ_CALLS, "fail_read": READ_CALLS + 1}
     spare = READ_CALLS - given.limit - 1
     for what, settings, wanted in (
-        ("last read fails", last, "Read"),
-        ("the read behind the last would fail", past, "NoEnd"),
+        ("last read fails", last, fault("Read")),
+        ("the read behind the last would fail", past, fault("NoEnd")),
         ("last read passes the limit", {"interrupt_reads": spare, "endless": 1, "short_read": 1}, given.too_large),
-        ("last read meets the limit", {"interrupt_reads": spare + 1, "endless": 1, "short_read": 1}, "NoEnd"),
+        ("last read meets the limit", {"interrupt_reads": spare + 1, "endless": 1, "short_read": 1}, fault("NoEnd")),
     ):
         answer, _ = stand.run(case, **settings)
-        stand.note(case, what, fault(wanted).problems(answer))
+        stand.note(case, what, wanted.problems(answer))
 
 
 def endless_problems(answer, report, given):
     """An endless input is given up as soon as it has one byte more than may be read."""
-    problems = fault(given.too_large).problems(answer)
+    problems = given.too_large.problems(answer)
     before = report.read_bytes - report.last_read
     if not before <= given.limit < report.read_bytes:
         problems.append(f"reading stopped at byte {report.read_bytes}, the last read from {before} on")
@@ -249,7 +303,8 @@ def endless_problems(answer, report, given):
 
 def endless_input(stand, given):
     """An input without end, in big reads and byte by byte."""
-    case = cases.Case(f"endless_input_of_{given.limit}", given.words, b"", fault(given.too_large))
+    name = "_".join(("endless_input_of", *given.words, str(given.limit)))
+    case = cases.Case(name, given.words, b"", given.too_large)
     for piece in (0, 1, 7):
         answer, report = stand.run(case, endless=1, short_read=piece)
         stand.note(case, f"reads of {piece or 'any'} bytes", endless_problems(answer, report, given))
@@ -271,18 +326,20 @@ def inputs_at_the_limit():
     line = b"#" * 65_535 + b"\n"
     shown = b"".join(b"%d comment %d\n" % (number, number) for number in range(1, 17))
     yield cases.Case("input_of_show_at_the_limit", SHOW.words, line * 16, Wanted(shown))
+    yield cases.Case("input_of_check_at_the_limit", CHECK.words, line * 16, Wanted(b"-: parsed OK\n"))
+    yield cases.Case("input_of_quiet_check_at_the_limit", QUIET.words, line * 16, Wanted())
 
 
-def check_reads(stand, edits, shows):
-    """All that can go wrong with standard input."""
-    for case in [*edits, *shows]:
+def check_reads(stand, read, some, given):
+    """All that can go wrong with standard input: the most with some of the cases."""
+    for case in read:
         fail_reads(stand, case)
-    for case in (edits[1], edits[5], shows[0], shows[2]):
+    for case in some:
         interrupt_for_ever(stand, case)
         interrupt_up_to_the_last_read(stand, case)
-    for case, given in ((edits[1], EDIT), (shows[0], SHOW)):
-        last_allowed_read(stand, case, given)
-        endless_input(stand, given)
+    for case, input_given in given:
+        last_allowed_read(stand, case, input_given)
+        endless_input(stand, input_given)
     for case in inputs_at_the_limit():
         read_byte_by_byte(stand, case)
 
@@ -348,11 +405,13 @@ def check_library(stand, case):
 def run_all(program, tally):
     """Builds the library and runs everything above."""
     by_name = {case.name: case for case in cases.load_all()}
-    edits = [by_name[name] for name in EDITS]
-    shows = [by_name[name] for name in SHOWS]
-    words = [by_name[name] for name in WORDS]
-    for case, given in ((edits[1], EDIT), (shows[0], SHOW)):
-        real_devices.run_all(program, tally, case, given.too_large)
+    edits, shows, checks, words = ([by_name[name] for name in names] for names in (EDITS, SHOWS, CHECKS, WORDS))
+    read = [*edits, *shows, *checks]
+    given = ((edits[1], EDIT), (shows[0], SHOW), (checks[0], CHECK), (checks[1], QUIET))
+    for case, input_given in given:
+        if case.wanted.stdout:
+            real_devices.run_writes(program, tally, case)
+        real_devices.run_reads(program, tally, case, input_given.too_large)
     try:
         library = Preloaded()
     except (OSError, subprocess.CalledProcessError) as error:
@@ -362,6 +421,6 @@ def run_all(program, tally):
         stand = Stand(program, library, tally)
         check_library(stand, edits[1])
         check_pieces(stand, by_name.values())
-        check_reads(stand, edits, shows)
-        check_writes(stand, [*edits, *shows])
-        check_memory(stand, edits, shows, words)
+        check_reads(stand, read, (edits[1], edits[5], shows[0], shows[2], *checks[:2], *checks[4:]), given)
+        check_writes(stand, read)
+        check_memory(stand, [*read, *words], given)

@@ -1,9 +1,10 @@
-"""Each fault of a policy, as `show` and `edit` tell it: of their input, and of what an edit would leave.
+"""Each fault of a policy, as `show`, `check` and `edit` tell it: of their input, and of what an edit would leave.
 
-The texts of faults have FILE in front, which is the word given in `show` and `policy` in `edit`.
+The texts of faults have FILE in front, which is the word given in `show` and `check` and `policy` in `edit`. To `check` a
+fault of the policy is no fault of its own: it stands on standard output.
 """
 
-from program import fault, run
+from program import Wanted, fault, run
 
 MARK = b"%%\n"
 
@@ -74,14 +75,26 @@ class Stand:
         self.program = program
         self.tally = tally
 
-    def ends_in(self, text, words, stdin):
-        """A run that has to end in the fault with this text."""
-        problems = fault(text).problems(run(self.program, words, stdin))
+    def answers(self, wanted, text, words, stdin):
+        """A run that has to answer so because of the fault with this text."""
+        problems = wanted.problems(run(self.program, words, stdin))
         self.tally.note(f"{text} of {' '.join(words) or 'no words'}, {stdin!r}", problems)
 
+    def ends_in(self, text, words, stdin):
+        """A run that has to end in the fault with this text."""
+        self.answers(fault(text), text, words, stdin)
+
+    def is_checked(self, policy, text):
+        """`check` tells the fault of a policy on standard output, and with `-q` by its status alone."""
+        told = Wanted(f"-{text}\n".encode(), status=1)
+        self.answers(told, "-" + text, ("check", "-"), policy)
+        self.answers(told, "-" + text, ("check", "-s", "-"), policy)
+        self.answers(Wanted(status=1), "-" + text, ("check", "-q", "-"), policy)
+
     def refuses(self, policy, text):
-        """`show` and `edit` tell the fault of a policy."""
+        """`show`, `check` and `edit` tell the fault of a policy."""
         self.ends_in("-" + text, ("show", "-"), policy)
+        self.is_checked(policy, text)
         self.ends_in("policy" + text, (), MARK + policy)
         self.ends_in("policy" + text, ("edit",), b"delete 1\n" + MARK + policy)
 

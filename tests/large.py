@@ -1,8 +1,8 @@
 """Cases at the limits, whose inputs are too big to be kept as files.
 
 Each function answers the input of one case, what has to come of it and the words
-of `show` where there are any; its name is the case's name. Every accepted edit is
-also run back.
+of `show` or `check` where there are any; its name is the case's name. Every
+accepted edit is also run back.
 """
 
 from program import Wanted, fault, run
@@ -58,6 +58,22 @@ def shown(policy, text):
 def not_shown(policy, text):
     """A policy of which `show` tells the fault with this text."""
     return policy, fault(text), "show", "-"
+
+
+def checked(policy, notes):
+    """What `check` writes of a policy that is fine: these notes, without the name of the file, and one line."""
+    return policy, Wanted(b"".join(b"-:" + note + b"\n" for note in notes) + b"-: parsed OK\n"), "check", "-"
+
+
+def checked_strictly(policy, notes):
+    """What `check -s` writes of a policy that has faults."""
+    text = b"".join(b"-:" + note + b"\n" for note in notes) + b"-: faults found\n"
+    return policy, Wanted(text, status=1), "check", "-s", "-"
+
+
+def not_checked(policy, text):
+    """A policy of which `check` tells the fault with this text, on standard output."""
+    return policy, Wanted(text.encode() + b"\n", status=1), "check", "-"
 
 
 # ---- the input ---------------------------------------------------------------
@@ -320,6 +336,66 @@ def open_last_line_comes_before_the_policy_limit():
     return refused(b"insert 17\n|\n", policy, "edit 1: OpenLine")
 
 
+# ---- moves and the end of the last line --------------------------------------
+
+
+@case
+def move_of_a_line_at_the_line_limit_is_accepted():
+    line = comment(LINE_LIMIT)
+    return accepted(b"move 1 2\n", line + SMALL, b"move 2 1\n", SMALL + line)
+
+
+@case
+def move_in_a_full_policy_is_accepted():
+    first, rest = SMALL, full_policy()[LINE_LIMIT:] + comment(LINE_LIMIT - len(SMALL))
+    return accepted(b"move 1 17\n", first + rest, b"move 17 1\n", rest + first)
+
+
+@case
+def move_over_very_many_lines_is_accepted():
+    count = POLICY_LIMIT // 4
+    script, inverse = b"move %d 1\n" % count, b"move 1 %d\n" % count
+    return accepted(script, SMALL * (count - 1) + b"# b\n", inverse, b"# b\n" + SMALL * (count - 1))
+
+
+@case
+def move_behind_the_last_of_very_many_lines():
+    count = POLICY_LIMIT // 4
+    return refused(b"move 1 %d\n" % (count + 1), SMALL * count, "edit 1: NoLine")
+
+
+@case
+def endline_up_to_the_line_limit_is_accepted():
+    line = comment(LINE_LIMIT)
+    return accepted(b"endline\n", SMALL + line[:-1], b"openend\n", SMALL + line)
+
+
+@case
+def endline_past_the_line_limit():
+    return refused(b"endline\n", b"#" * LINE_LIMIT, "edit 1: TooLarge")
+
+
+@case
+def endline_past_the_line_limit_behind_other_lines():
+    return refused(b"endline\n", SMALL + b"#" * LINE_LIMIT, "edit 1: TooLarge")
+
+
+@case
+def endline_up_to_the_policy_limit_is_accepted():
+    return accepted(b"endline\n", full_policy()[:-1], b"openend\n", full_policy())
+
+
+@case
+def endline_past_the_policy_limit():
+    policy = full_policy()[LINE_LIMIT:] + comment(LINE_LIMIT - 1) + b"#"
+    return refused(b"endline\n", policy, "edit 1: TooLarge")
+
+
+@case
+def openend_in_a_full_policy_is_accepted():
+    return accepted(b"openend\n", full_policy(), b"endline\n", full_policy()[:-1])
+
+
 # ---- the definitions ---------------------------------------------------------
 
 KINDS = (b"User_Alias", b"Runas_Alias", b"Host_Alias", b"Cmnd_Alias")
@@ -467,6 +543,118 @@ def show_of_very_many_members():
     return shown(line, b"1 alias 1\n1.1 Cmnd_Alias A 20001\n")
 
 
+# ---- what check writes -------------------------------------------------------
+
+
+def chain(kind, count):
+    """So many aliases of a kind, each of which mentions the next; the last mentions none."""
+    lines = (b"%s A%d = A%d\n" % (kind, number, number + 1) for number in range(1, count))
+    return b"".join(lines) + b"%s A%d = ALL\n" % (kind, count)
+
+
+def cycle(kind, count):
+    """So many aliases of a kind, each of which mentions the next, and the last the first."""
+    return b"".join(b"%s A%d = A%d\n" % (kind, number, number % count + 1) for number in range(1, count + 1))
+
+
+def noted(word, kind, count, before=0):
+    """A note of each of so many aliases of a kind that are defined one a line, behind so many lines."""
+    column = len(kind) + 2
+    return [b"%d:%d: %s %s A%d" % (before + n, column, word, kind, n) for n in range(1, count + 1)]
+
+
+@case
+def check_of_a_policy_at_the_limit():
+    return checked(full_policy(), [])
+
+
+@case
+def check_of_a_policy_one_byte_past_the_limit():
+    return not_checked(full_policy() + b"\n", "-: TooLarge")
+
+
+@case
+def check_of_a_policy_far_past_the_limit():
+    return not_checked(b"bob ALL=ALL\n" * (INPUT_LIMIT // 4), "-: TooLarge")
+
+
+@case
+def quiet_check_of_a_policy_at_the_limit():
+    return full_policy(), Wanted(), "check", "-q", "-"
+
+
+@case
+def quiet_check_of_a_policy_one_byte_past_the_limit():
+    return full_policy() + b"\n", Wanted(status=1), "check", "-q", "-"
+
+
+@case
+def policy_past_the_limit_comes_before_other_faults_of_check():
+    return not_checked(b"bob\n\0" + full_policy(), "-: TooLarge")
+
+
+@case
+def check_of_a_line_past_the_limit():
+    return not_checked(b"bob\n" + comment(LINE_LIMIT + 1), "-:2:1: line too long")
+
+
+@case
+def check_of_one_definition_too_many():
+    return not_checked(definitions(b"User_Alias", ALIAS_LIMIT + 1), "-: too many User_Alias")
+
+
+@case
+def check_of_very_many_lines():
+    return checked(b"bob ALL=ALL\n" * (POLICY_LIMIT // 12), [])
+
+
+@case
+def check_of_a_chain_of_as_many_aliases_as_allowed():
+    return checked(chain(b"Cmnd_Alias", ALIAS_LIMIT) + b"bob ALL=A1\n", [])
+
+
+@case
+def check_of_a_chain_of_as_many_aliases_as_allowed_that_is_not_used():
+    return checked(chain(b"Cmnd_Alias", ALIAS_LIMIT), noted(b"unused", b"Cmnd_Alias", ALIAS_LIMIT))
+
+
+@case
+def check_of_a_cycle_of_as_many_aliases_as_allowed():
+    policy = b"A1 ALL=ALL\n" + cycle(b"User_Alias", ALIAS_LIMIT)
+    return checked(policy, noted(b"cyclic", b"User_Alias", ALIAS_LIMIT, 1))
+
+
+@case
+def strict_check_of_a_cycle_of_as_many_aliases_as_allowed_that_is_not_used():
+    notes = noted(b"cyclic", b"Host_Alias", ALIAS_LIMIT) + noted(b"unused", b"Host_Alias", ALIAS_LIMIT)
+    return checked_strictly(cycle(b"Host_Alias", ALIAS_LIMIT), notes)
+
+
+@case
+def check_of_cycles_of_each_kind():
+    policy = b"".join(cycle(kind, ALIAS_LIMIT) for kind in KINDS) + b"A1 A1=(A1) A1\n"
+    notes = [noted(b"cyclic", kind, ALIAS_LIMIT, place * ALIAS_LIMIT) for place, kind in enumerate(KINDS)]
+    return checked(policy, sum(notes, []))
+
+
+@case
+def check_of_very_many_undefined_names():
+    policy, notes = b"", []
+    for line in range(1, 9):
+        users = b""
+        for name in (b"A%d_%d" % (line, number) for number in range(7_500)):
+            notes.append(b"%d:%d: undefined User_Alias %s" % (line, len(users) + 1, name))
+            users += name + b","
+        policy += users + b"bob h=ALL\n"
+    return checked(policy, notes)
+
+
+@case
+def check_of_one_undefined_name_that_is_mentioned_very_often():
+    line = b"bob h=/a" + b",A" * 30_000 + b"\n"
+    return checked(line * 2, [b"1:10: undefined Cmnd_Alias A"])
+
+
 # ---- the script --------------------------------------------------------------
 
 
@@ -503,6 +691,43 @@ def too_many_edits_come_before_a_missing_number_there():
 @case
 def too_many_edits_come_before_a_missing_payload_there():
     return refused(many_edits() + b"insert 1\n", SMALL, "TooMany")
+
+
+@case
+def script_with_one_move_too_many():
+    return refused(many_edits() + b"move 1 1\n", SMALL, "TooMany")
+
+
+@case
+def script_with_one_endline_too_many():
+    return refused(many_edits() + b"endline\n", SMALL, "TooMany")
+
+
+@case
+def script_with_one_openend_too_many():
+    return refused(many_edits() + b"openend\n", SMALL, "TooMany")
+
+
+@case
+def script_of_as_many_moves_as_allowed_is_accepted():
+    moves = b"move 1 2\nmove 2 1\n" * (EDIT_LIMIT // 2)
+    return accepted(moves, SMALL + b"# b\n", b"move 1 2\nmove 2 1\n" * (EDIT_LIMIT // 2), SMALL + b"# b\n")
+
+
+@case
+def script_of_as_many_ends_as_allowed_is_accepted():
+    ends = b"openend\nendline\n" * (EDIT_LIMIT // 2)
+    return accepted(ends, SMALL, ends, SMALL)
+
+
+@case
+def too_many_edits_come_before_words_behind_an_endline_there():
+    return refused(many_edits() + b"endline 1\n", SMALL, "TooMany")
+
+
+@case
+def too_many_edits_come_before_a_missing_number_of_a_move_there():
+    return refused(many_edits() + b"move 1\n", SMALL, "TooMany")
 
 
 @case

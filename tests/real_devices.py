@@ -6,17 +6,21 @@ import threading
 from program import fault, run
 
 
-def run_all(program, tally, case, too_large):
-    """A folder as input, a full device and a closed pipe as output, an endless pipe, which is told with `too_large`."""
+def run_reads(program, tally, case, too_large):
+    """A folder and an endless pipe as standard input; to the pipe `too_large` has to come."""
     folder = os.open("/", os.O_RDONLY)
     try:
         problems = fault("Read").problems(run(program, case.words, folder))
     finally:
         os.close(folder)
     tally.note(f"{case.name}, a folder as standard input", problems)
+    tally.note(f"{case.name}, a pipe without end as standard input", pipe_problems(program, case, too_large))
+
+
+def run_writes(program, tally, case):
+    """A full device and a closed pipe as standard output."""
     for name, open_output in (("a full device", full_device), ("a closed pipe", closed_pipe)):
         tally.note(f"{case.name}, {name} as standard output", write_problems(program, case, open_output()))
-    tally.note(f"{case.name}, a pipe without end as standard input", pipe_problems(program, case, too_large))
 
 
 def full_device():
@@ -55,7 +59,7 @@ def pipe_problems(program, case, too_large):
     feeder = threading.Thread(target=feed, args=(writer,))
     feeder.start()
     try:
-        problems = fault(too_large).problems(run(program, case.words, reader))
+        problems = too_large.problems(run(program, case.words, reader))
     finally:
         os.close(reader)
         feeder.join()
