@@ -7,7 +7,7 @@ use Rattle.sudoers_line.specs.declared.outline.Outline.TheVariants as outline
 use Rattle.sudoers_tree.specs.declared.kind.LineKind.TheVariants as kind
 use Rattle.sudoers_tree.specs.declared.outline.OutlinedLine.{OutlinedLine}
 use Rattle.sudoers_tree.specs.Kind.{line_kind}
-use Rattle.sudoers_tool.specs.FaultText.{kind_name}
+use Rattle.sudoers_tree.specs.Kind.{kind_name}
 use Rattle.sudoers_tool.specs.Shown.{kind_word, shown_node}
 
 -- an alias of this name, that has so many members
