@@ -1,5 +1,5 @@
 -- A definition whose members are counted is read as one whose members are kept.
-use Rattle.std.proofs.Common.{◌≡◌, ◌⊎◌, ℕ, ◌+◌, ◌-◌, ◌<◌, ◌≤◌, take, drop, get_or, Bool, true, false, List, [], ◌∷◌, ◌++◌, length, Option, Some, None, option_map, Result, Ok, IfSome, refl, sym, ap, ◌∙◌, inl, inr, subst, arith}
+use Rattle.std.proofs.Common.{◌≡◌, ◌⊎◌, ℕ, ◌+◌, ◌-◌, ◌<◌, ◌≤◌, take, drop, get_or, Bool, true, false, List, [], ◌∷◌, ◌++◌, length, Option, Some, None, option_map, IfSome, refl, sym, ap, ◌∙◌, inl, inr, subst, arith}
 use Rattle.std.specs.Prelude.{codes, if◌then◌else◌}
 use Rattle.std.specs.Str.{bytes_eq}
 use Rattle.std.proofs.lemmas.List.{length-append, drop_more, take_rest}
@@ -21,21 +21,19 @@ use Rattle.sudoers_line.specs.declared.node.Node.TheVariants as node
 use Rattle.sudoers_line.specs.declared.pattern.Spelling.TheVariants.{Command}
 use Rattle.sudoers_line.specs.declared.state.Signs.{Signs}
 use Rattle.sudoers_line.specs.declared.state.Named.{Named}
-use Rattle.sudoers_line.specs.declared.state.Frame.{Frame}
 use Rattle.sudoers_line.specs.declared.state.Frame.TheVariants.{Definition}
 use Rattle.sudoers_line.specs.declared.state.Commands.{Commands}
 use Rattle.sudoers_line.specs.declared.state.Commands.TheVariants as commands
 use Rattle.sudoers_line.specs.declared.state.Draft.{Draft}
-use Rattle.sudoers_line.specs.declared.state.Program.{Program}
 use Rattle.sudoers_line.specs.declared.state.Program.TheVariants as program
 use Rattle.sudoers_line.specs.declared.state.State.{State}
 use Rattle.sudoers_line.specs.declared.state.State.TheVariants.{Begin, AtName, AtEquals, AtMember, BehindMember, AtCommand, BehindProgram, BehindCommand, Ended}
-use Rattle.sudoers_line.specs.Piece.{Piece, piece, pieces, is_comment, is_alias_name, kind_word, is_word, is_arg, is_mark, option_name, tag_of, digest_kind, begins_with, ends_with}
+use Rattle.sudoers_line.specs.Piece.{Piece, piece, pieces, is_comment, is_alias_name, kind_word, is_word, is_arg, is_mark, digest_kind, begins_with, ends_with}
 use Rattle.sudoers_line.specs.Pattern.{pattern_of}
 use Rattle.sudoers_line.specs.Atom.{atom_of, bare_command}
 use Rattle.sudoers_line.specs.Machine.{no_signs, named, definition, member, in_member, with_argument, no_draft, command, program_of, program_atom, behind_program as behind_program_of, behind_word, at_list, behind_definition, step_on, step_comment, step, finish, run, goes_on, ends}
-use Rattle.sudoers_line.specs.Glance.{IsArgued, IsMemberWord, IsCommandName}
-use Rattle.sudoers_line.specs.Counted.{StandsAt, Stands, Leads, LeadsFrom, LeadsToCommand, LeadsBehind, FinishesDefinition, ReadsMembers, IsDefinition}
+use Rattle.sudoers_line.specs.Glance.{IsMemberWord, IsCommandName}
+use Rattle.sudoers_line.specs.Counted.{StandsAt, Stands, Leads, LeadsFrom, LeadsBehind, FinishesDefinition, ReadsMembers, IsDefinition}
 use Rattle.sudoers_line.proofs.Tokens.{kind_word_kind, alias_name_kind, mark_kind}
 use Rattle.sudoers_line.proofs.Recognized.{no_mark, some_of, commanded, regex, argued_more, name_digest, all_name, all_command, alias_command, alone, either_name}
 

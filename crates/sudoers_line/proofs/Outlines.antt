@@ -1,5 +1,5 @@
 -- The outline of a line is that of what it says.
-use Rattle.std.proofs.Common.{◌≡◌, ℕ, List, Result, Ok, Err, refl, sym, ap, subst, ◌∙◌}
+use Rattle.std.proofs.Common.{◌≡◌, ℕ, List, Result, Ok, Err, sym, ap, subst, ◌∙◌}
 use Rattle.sudoers_text.specs.declared.token.Token.{Token}
 use Rattle.sudoers_text.specs.LineMode.{line_mode}
 use Rattle.sudoers_text.specs.Found.{tokens_of}
@@ -10,7 +10,7 @@ use Rattle.sudoers_line.specs.declared.state.State.TheVariants.{Begin}
 use Rattle.sudoers_line.specs.declared.outline.Outline.TheVariants as outline
 use Rattle.sudoers_line.specs.Piece.{pieces}
 use Rattle.sudoers_line.specs.Line.{line_stop}
-use Rattle.sudoers_line.specs.Machine.{Stop, run}
+use Rattle.sudoers_line.specs.Machine.{run}
 use Rattle.sudoers_line.specs.Outcome.{outcome_of_run, outcome_of, LineGives}
 use Rattle.sudoers_line.specs.declared.node.Kind.{Kind}
 use Rattle.sudoers_line.specs.Outline.{IsDefinitionOf, OutlineGives}

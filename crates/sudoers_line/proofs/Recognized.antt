@@ -1,9 +1,9 @@
 -- A user specification whose parts are not kept is read as one whose parts are.
-use Rattle.std.proofs.Common.{◌≡◌, ◌≢◌, ◌≤◌, ◌⊎◌, ℕ, Bool, true, false, cond, List, [], ◌∷◌, ◌++◌, map, Option, Some, None, option_map, option_and_then, Result, Ok, Err, IfSome, refl, sym, ap, subst, ◌∙◌, inl, inr, arith}
-use Rattle.std.specs.Prelude.{◌==◌, ◌&&◌, ◌||◌, not, codes, if◌then◌else◌}
+use Rattle.std.proofs.Common.{◌≡◌, ◌≤◌, ◌⊎◌, ℕ, Bool, true, false, List, [], ◌∷◌, ◌++◌, Option, Some, None, option_map, IfSome, refl, sym, ap, ◌∙◌, inl, inr, arith}
+use Rattle.std.specs.Prelude.{◌==◌, ◌&&◌, not, codes, if◌then◌else◌}
 use Rattle.std.specs.List.{list_all}
 use Rattle.std.specs.Str.{bytes_eq}
-use Rattle.std.proofs.lemmas.Bool.Decides.{eqb_tells, nat_tests}
+use Rattle.std.proofs.lemmas.Bool.Decides.{nat_tests}
 use Rattle.std.proofs.lemmas.Slice.Eq.{bytes_eq-Decides}
 use Rattle.sudoers_text.specs.declared.token.TokenKind.{TokenKind}
 use Rattle.sudoers_text.specs.declared.token.TokenKind.TheVariants as kind
@@ -14,8 +14,7 @@ use Rattle.sudoers_line.specs.declared.glance.SpecList.{SpecList}
 use Rattle.sudoers_line.specs.declared.glance.SpecList.TheVariants as list
 use Rattle.sudoers_line.specs.declared.glance.Glance.{Glance}
 use Rattle.sudoers_line.specs.declared.glance.Glance.TheVariants as glance
-use Rattle.sudoers_line.specs.declared.node.Kind.{Kind}
-use Rattle.sudoers_line.specs.declared.node.Kind.TheVariants.{User, Runas, Host, Cmnd}
+use Rattle.sudoers_line.specs.declared.node.Kind.TheVariants.{User, Runas, Host}
 use Rattle.sudoers_line.specs.declared.node.Atom.{Atom}
 use Rattle.sudoers_line.specs.declared.node.Atom.TheVariants as atom
 use Rattle.sudoers_line.specs.declared.node.Member.{Member}
@@ -36,16 +35,13 @@ use Rattle.sudoers_line.specs.declared.node.Args.TheVariants.{Any, Nothing, Patt
 use Rattle.sudoers_line.specs.declared.pattern.Spelling.TheVariants.{Command}
 use Rattle.sudoers_line.specs.declared.state.Commands.{Commands}
 use Rattle.sudoers_line.specs.declared.state.Commands.TheVariants as commands
-use Rattle.sudoers_line.specs.declared.state.Draft.{Draft}
-use Rattle.sudoers_line.specs.declared.state.Program.{Program}
 use Rattle.sudoers_line.specs.declared.state.Program.TheVariants as program
 use Rattle.sudoers_line.specs.Pattern.{pattern_of}
 use Rattle.sudoers_line.specs.Grammar.{is_defaults}
 use Rattle.sudoers_line.specs.Piece.{Piece, is_some, is_word, is_arg, is_mark, kind_word, include_word, option_name, tag_of, digest_kind, begins_with, ends_with, has_byte, looked_up, digest_kinds}
 use Rattle.sudoers_line.specs.Number.{address_number, is_slashed}
 use Rattle.sudoers_line.specs.Atom.{filled, prefixed_atom, group_atom, user_word, user_atom, plain_host, unescaped_host, host_atom, atom_of, command_alias, command_word, bare_command, is_no_arguments}
-use Rattle.sudoers_line.specs.Machine.{no_signs, row, no_head, kind_of, member, in_member, with_runas, with_tag, with_command, with_argument, closed, no_draft, command, program_of, program_atom, behind_program as behind_program_of, behind_word, is_first_regex, at_tags, at_command, at_cmd_spec, behind_row, in_program, step_on, step_comment, step, run, goes_on, ends, finish}
-use Rattle.sudoers_line.specs.Outline.{IsSpec}
+use Rattle.sudoers_line.specs.Machine.{no_signs, row, no_head, kind_of, member, in_member, with_runas, with_tag, with_command, with_argument, closed, no_draft, command, program_of, program_atom, behind_program as behind_program_of, behind_word, is_first_regex, at_tags, at_command, at_cmd_spec, behind_row, step_on, step_comment, step, run, goes_on, ends, finish}
 use Rattle.sudoers_line.specs.Glance.{IsFrame, kind_of_list, Stands, Leads, LeadsFrom, ReadsSpec, BeginsPlain, IsUserText, IsHostText, IsMemberWord, IsArgued, IsCommandName, FinishesSpec, behind_path}
 
 -- ---- words

@@ -1,5 +1,5 @@
 -- A device of the proof, which no public contract cites: where the reader stands of a definition whose members are counted.
-use Rattle.std.specs.Prelude.{◌≡◌, ◌+◌, ℕ, Bool, true, false, List, [], ◌∷◌, Option, Some, None, Result, Ok, length}
+use Rattle.std.specs.Prelude.{◌≡◌, ◌+◌, ℕ, List, [], Option, Some, None, Result, Ok, length}
 use Rattle.sudoers_line.specs.declared.counted.Place.{Place}
 use Rattle.sudoers_line.specs.declared.counted.Place.TheVariants as place
 use Rattle.sudoers_line.specs.declared.counted.Counted.{Counted}

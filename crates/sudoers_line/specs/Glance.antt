@@ -15,7 +15,6 @@ use Rattle.sudoers_line.specs.declared.node.Tag.{Tag}
 use Rattle.sudoers_line.specs.declared.node.Member.{Member}
 use Rattle.sudoers_line.specs.declared.node.HostGroup.{HostGroup}
 use Rattle.sudoers_line.specs.declared.node.Node.{Node}
-use Rattle.sudoers_line.specs.declared.node.Node.TheVariants as node
 use Rattle.sudoers_line.specs.declared.state.Signs.{Signs}
 use Rattle.sudoers_line.specs.declared.state.Row.{Row}
 use Rattle.sudoers_line.specs.declared.state.Head.{Head}

@@ -1,5 +1,5 @@
 -- What is shown of a policy by its outline, and of a file that is too large.
-use Rattle.std.proofs.Common.{◌≡◌, ◌<◌, ℕ, Bool, codes, List, length, Option, Some, None, Err, IfSome, inl, inr, subst, sym, refl, ap, append-nil, ◌∙◌, ◌⊎◌, ◌+◌, ◌++◌, [], ◌∷◌, Result, Ok}
+use Rattle.std.proofs.Common.{◌≡◌, ◌<◌, ℕ, Bool, codes, List, length, Option, Some, None, Err, IfSome, inl, inr, subst, sym, refl, ap, append-nil, ◌∙◌, ◌⊎◌, ◌+◌, ◌++◌, [], ◌∷◌, Ok}
 use Rattle.std.proofs.lemmas.Bool.{lt-ltb}
 use Rattle.sudoers_text.specs.Fault.{text_limit, lf_count}
 use Rattle.sudoers_line.specs.declared.node.Node.{Node}

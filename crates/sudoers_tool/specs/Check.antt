@@ -1,5 +1,5 @@
 -- What `check` writes for a policy file.
-use Rattle.std.specs.Prelude.{◌≡◌, ◌⊎◌, ◌+◌, ℕ, Bool, if◌then◌else◌, List, [], ◌++◌, codes, Option, Result, Ok, Err}
+use Rattle.std.specs.Prelude.{◌≡◌, ℕ, Bool, if◌then◌else◌, List, [], ◌++◌, codes, Option, Result, Ok, Err}
 use Rattle.sudoers_text.specs.Fault.{text_limit}
 use Rattle.sudoers_tree.specs.declared.line.Line.{Line}
 use Rattle.sudoers_tree.specs.declared.fault.ReadFault.{ReadFault}
@@ -8,7 +8,7 @@ use Rattle.sudoers_check.specs.Report.{report_of, report_text, is_fine}
 use Rattle.sudoers_tool.specs.declared.fault.LayerFault.TheVariants as layer
 use Rattle.sudoers_tool.specs.declared.fault.ToolFault.{ToolFault}
 use Rattle.sudoers_tool.specs.declared.fault.ToolFault.TheVariants as tool
-use Rattle.sudoers_tool.specs.Device.{TakesAtMost, TakesExactly}
+use Rattle.sudoers_tool.specs.Device.{TakesAtMost}
 use Rattle.sudoers_tool.specs.FaultText.{text_of_read}
 
 -- the report on a policy, or the fault of a text that is none

@@ -109,9 +109,11 @@ fn append_line(
     append_number(alloc, out, line.row)?;
     out.extend_from_slice(b"\n")?;
     match &line.outline {
-        Outline::Alias { kind, name, members } => {
-            append_alias(alloc, out, *kind, (number, 1), name.as_slice(), *members)
-        }
+        Outline::Alias {
+            kind,
+            name,
+            members,
+        } => { append_alias(alloc, out, *kind, (number, 1), name.as_slice(), *members) }
         Outline::Whole(Node::Alias { kind, defs }) => {
             append_defs(alloc, out, *kind, number, defs.as_slice())
         }

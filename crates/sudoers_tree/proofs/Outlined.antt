@@ -1,5 +1,5 @@
 -- Policies in outline.
-use Rattle.std.proofs.Common.{◌≡◌, ℕ, ◌+◌, ◌≤◌, ◌⊎◌, inl, inr, List, [], ◌∷◌, ◌++◌, length, take, drop, Option, Some, None, Result, Ok, Err, refl, sym, ap, subst, ◌∙◌, append-nil, arith}
+use Rattle.std.proofs.Common.{◌≡◌, ℕ, ◌+◌, ◌⊎◌, inl, inr, List, [], ◌∷◌, ◌++◌, length, take, Result, Ok, Err, refl, sym, ap, subst, ◌∙◌, append-nil, arith}
 use Rattle.std.proofs.lemmas.List.{length-append}
 use Rattle.sudoers_text.specs.Line.{join}
 use Rattle.sudoers_text.specs.Fault.{lf_count}
@@ -10,7 +10,6 @@ use Rattle.sudoers_line.specs.declared.fault.LineFault.{LineFault}
 use Rattle.sudoers_line.specs.declared.fault.LineFault.TheVariants as line_fault
 use Rattle.sudoers_line.specs.declared.node.Node.{Node}
 use Rattle.sudoers_line.specs.declared.node.Node.TheVariants as node
-use Rattle.sudoers_line.specs.declared.outline.Outline.{Outline}
 use Rattle.sudoers_line.specs.Outcome.{outcome_of, LineGives}
 use Rattle.sudoers_line.specs.Outline.{IsSpec, IsOutline, OutlineGives}
 use Rattle.sudoers_tree.specs.declared.line.Line.{Line}
@@ -23,7 +22,7 @@ use Rattle.sudoers_tree.specs.Physical.{row_behind, column_behind}
 use Rattle.sudoers_tree.specs.Definition.{Definition, definitions, definitions_in}
 use Rattle.sudoers_tree.specs.Policy.{texts}
 use Rattle.sudoers_tree.specs.Wrapped.{fault_of_text}
-use Rattle.sudoers_tree.specs.Reading.{line_behind, read_behind, read_of, read_cut}
+use Rattle.sudoers_tree.specs.Reading.{line_behind, read_of, read_cut}
 use Rattle.sudoers_line.specs.declared.node.Kind.{Kind}
 use Rattle.sudoers_line.specs.declared.node.Def.{Def}
 use Rattle.sudoers_tree.specs.declared.place.Place.{Place}
@@ -32,7 +31,6 @@ use Rattle.sudoers_tree.specs.Outline.{AreOutlines}
 use Rattle.sudoers_tree.specs.Outlining.{fault_of_line, IsOutlining}
 use Rattle.sudoers_tree.proofs.Joined.{lf_append, definitions_push}
 use Rattle.sudoers_tree.proofs.Taken.{says_nothing, row_more}
-use Rattle.sudoers_tree.proofs.ReadText.{is_cut}
 
 -- a line that is not read
 pub not_read : (before new : List Line) (text : List ℕ) (row : ℕ) (fault : LineFault) → LineGives (Err fault) (outcome_of text)

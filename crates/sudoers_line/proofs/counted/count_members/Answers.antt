@@ -1,6 +1,6 @@
-use Rattle.std.proofs.Common.{◌≡◌, ◌+◌, [], List, drop, arith, ap}
+use Rattle.std.proofs.Common.{◌≡◌, [], drop, arith, ap}
 use Rattle.std.proofs.lemmas.List.{drop_all}
-use Rattle.sudoers_line.specs.Piece.{Piece, pieces}
+use Rattle.sudoers_line.specs.Piece.{pieces}
 use Rattle.sudoers_line.specs.Seen.{seen}
 use Rattle.sudoers_line.proofs.Counts.{comes_first, next_comes, counts_last}
 use Rattle.sudoers_line.proofs.counted.count_members.Goals as goal

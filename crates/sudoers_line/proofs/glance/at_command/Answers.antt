@@ -1,5 +1,4 @@
 use Rattle.std.proofs.Common.{◌≡◌, ◌∙◌, sym, subst, rules}
-use Rattle.sudoers_line.specs.declared.state.State.{State}
 use Rattle.sudoers_line.specs.declared.glance.Glance.TheVariants.{AtCommand}
 use Rattle.sudoers_line.specs.declared.state.Stage.TheVariants.{Runas}
 use Rattle.sudoers_line.specs.Glance.{Stands}

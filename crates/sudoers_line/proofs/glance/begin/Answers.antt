@@ -1,6 +1,6 @@
 use Rattle.std.proofs.Common.{◌∙◌, sym, rules}
 use Rattle.sudoers_line.specs.Seen.{seen}
-use Rattle.sudoers_line.proofs.Recognized.{begins, none_of}
+use Rattle.sudoers_line.proofs.Recognized.{begins}
 use Rattle.sudoers_line.proofs.glance.begin.Goals as goal
 
 pub returns-then-is_user : goal.returns-then-is_user

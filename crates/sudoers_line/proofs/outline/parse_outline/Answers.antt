@@ -1,4 +1,4 @@
-use Rattle.std.proofs.Common.{◌≡◌, ◌∙◌, ℕ, List, ap, subst, sym, refl, Ok, Err, rules}
+use Rattle.std.proofs.Common.{◌≡◌, ℕ, List, subst, sym, refl, Ok, Err, rules}
 use Rattle.sudoers_text.specs.declared.token.Token.{Token}
 use Rattle.sudoers_text.specs.LineMode.{line_mode}
 use Rattle.sudoers_text.specs.Found.{tokens_of}

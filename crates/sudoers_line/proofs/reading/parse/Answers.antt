@@ -1,15 +1,14 @@
-use Rattle.std.proofs.Common.{◌≡◌, ◌-◌, ℕ, List, map, ap, subst, ◌∙◌, length}
+use Rattle.std.proofs.Common.{◌≡◌, List, subst}
 use Rattle.sudoers_text.specs.declared.token.Token.{Token}
 use Rattle.sudoers_text.specs.Token.{HasTokens}
 use Rattle.sudoers_text.specs.LineMode.{line_mode}
 use Rattle.sudoers_text.specs.Found.{tokens_of}
 use Rattle.sudoers_line.specs.declared.state.State.TheVariants.{Begin}
-use Rattle.sudoers_line.specs.Piece.{Piece, pieces}
+use Rattle.sudoers_line.specs.Piece.{pieces}
 use Rattle.sudoers_line.specs.Grammar.{Reads}
 use Rattle.sudoers_line.specs.Fault.{IsFirstFault}
 use Rattle.sudoers_line.specs.Line.{line_stop}
 use Rattle.sudoers_line.specs.Machine.{run}
-use Rattle.sudoers_line.specs.Seen.{seen}
 use Rattle.sudoers_line.specs.Steps.{Answers}
 use Rattle.sudoers_line.proofs.Contract.{found, only, fault, refused, gives}
 use Rattle.sudoers_line.proofs.reading.parse.Goals as goal

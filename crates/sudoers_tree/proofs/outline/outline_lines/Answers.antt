@@ -1,4 +1,4 @@
-use Rattle.std.proofs.Common.{◌≡◌, ◌∙◌, ◌++◌, ◌∷◌, ◌+◌, ◌⊎◌, [], ◌<◌, List, ℕ, length, take, drop, slice_get, Option, Some, None, Ok, Err, MatchResult, sym, ap, subst, rules, arith}
+use Rattle.std.proofs.Common.{◌≡◌, ◌∙◌, ◌++◌, ◌∷◌, ◌⊎◌, [], ◌<◌, List, ℕ, length, take, slice_get, Option, Some, None, Ok, Err, MatchResult, sym, ap, subst, rules, arith}
 use Rattle.std.proofs.lemmas.List.{length-append}
 use Rattle.std.proofs.lemmas.Option.{slice_get_within}
 use Rattle.sudoers_text.specs.Line.{join}
@@ -7,9 +7,8 @@ use Rattle.sudoers_tree.specs.declared.outline.Outlining.{Outlining}
 use Rattle.sudoers_tree.specs.declared.fault.ReadFault.{ReadFault}
 use Rattle.sudoers_tree.specs.declared.fault.ReadFault.TheVariants.{NoMemory}
 use Rattle.sudoers_tree.specs.Policy.{texts}
-use Rattle.sudoers_tree.specs.Reading.{read_behind, line_behind}
+use Rattle.sudoers_tree.specs.Reading.{read_behind}
 use Rattle.sudoers_tree.specs.Outline.{AreOutlines}
-use Rattle.sudoers_tree.specs.Outlining.{IsOutlining}
 use Rattle.sudoers_tree.proofs.Joined.{fits_before, drop_none}
 use Rattle.sudoers_tree.proofs.Taken.{next_texts, next_read, stops}
 use Rattle.sudoers_tree.proofs.Outlined.{told}

@@ -1,6 +1,6 @@
 use Rattle.std.proofs.Common.{◌∙◌, sym, subst}
 use Rattle.sudoers_line.specs.declared.glance.SpecList.TheVariants.{RunasUsers}
-use Rattle.sudoers_line.specs.declared.glance.Glance.TheVariants.{AtMember, AtRunas, BehindTag, BehindCommand}
+use Rattle.sudoers_line.specs.declared.glance.Glance.TheVariants.{AtMember, AtRunas, BehindCommand}
 use Rattle.sudoers_line.specs.Glance.{Stands}
 use Rattle.sudoers_line.specs.Seen.{seen}
 use Rattle.sudoers_line.proofs.Recognized.{member_leads, at_member, at_runas, tag_ends, command_leads, behind_one}

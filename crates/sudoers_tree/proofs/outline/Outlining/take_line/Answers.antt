@@ -1,4 +1,4 @@
-use Rattle.std.proofs.Common.{◌≡◌, ◌∙◌, ◌++◌, ◌∷◌, [], ◌+◌, List, ℕ, length, Ok, Err, rules, sym, ap, subst, refl}
+use Rattle.std.proofs.Common.{◌≡◌, ◌∙◌, ◌+◌, List, ℕ, length, Ok, Err, rules, sym, ap, subst, refl}
 use Rattle.sudoers_line.specs.declared.node.Node.{Node}
 use Rattle.sudoers_line.specs.Outcome.{outcome_of}
 use Rattle.sudoers_line.specs.Outline.{IsOutline}
@@ -7,7 +7,7 @@ use Rattle.sudoers_tree.specs.declared.fault.ReadFault.{ReadFault}
 use Rattle.sudoers_tree.specs.Reading.{line_behind}
 use Rattle.sudoers_tree.specs.Definition.{definitions, definitions_in}
 use Rattle.sudoers_tree.specs.Index.{Enters, Takes}
-use Rattle.sudoers_tree.specs.Outlining.{IsOutlining, TakesOutline}
+use Rattle.sudoers_tree.specs.Outlining.{TakesOutline}
 use Rattle.sudoers_tree.proofs.Taken.{refused, stands}
 use Rattle.sudoers_tree.proofs.Outlined.{not_read, not_outlined, outlining_more}
 use Rattle.sudoers_tree.proofs.outline.Outlining.take_line.Goals as goal

@@ -1,14 +1,10 @@
-use Rattle.std.proofs.Common.{◌≡◌, ◌∙◌, ◌++◌, ◌∷◌, [], ◌+◌, List, ℕ, length, take, min, Ok, Err, rules, sym, ap, subst}
-use Rattle.std.proofs.lemmas.List.{take_min}
+use Rattle.std.proofs.Common.{◌≡◌, ◌∙◌, ◌++◌, ◌∷◌, [], List, length, Ok, Err, rules, sym, ap, subst}
 use Rattle.sudoers_text.specs.Line.{join}
 use Rattle.sudoers_text.specs.Fault.{lf_count}
-use Rattle.sudoers_line.specs.declared.fault.LineFault.TheVariants.{Syntax as syntax}
-use Rattle.sudoers_line.specs.Outcome.{outcome_of, LineGives}
 use Rattle.sudoers_tree.specs.declared.line.Line.{Line}
 use Rattle.sudoers_tree.specs.declared.fault.ReadFault.{ReadFault}
-use Rattle.sudoers_tree.specs.declared.fault.ReadFault.TheVariants.{Syntax}
 use Rattle.sudoers_tree.specs.Reading.{line_behind}
-use Rattle.sudoers_tree.specs.Physical.{column_behind, row_behind}
+use Rattle.sudoers_tree.specs.Physical.{row_behind}
 use Rattle.sudoers_tree.specs.Definition.{definitions, definitions_in}
 use Rattle.sudoers_tree.specs.Policy.{texts}
 use Rattle.sudoers_tree.specs.Index.{Enters, Takes, Indexes}
