@@ -16,9 +16,12 @@ use sudoers_tree::Policy;
 /// A piece of a text, and how often it stands there.
 type Piece<'a> = (&'a str, usize);
 
-/// How many times as long as to read it a policy may take to check. A walk that goes through all of it anew for each alias or
-/// each mention takes more.
-const TIMES: u32 = 16;
+/// How many parts of a policy are checked beside the whole of it.
+const PARTS: u32 = 16;
+
+/// How many times as long as its parts a policy may take to check. A walk that goes through all of it anew for each alias or each
+/// mention takes nearly as many times as long as there are parts.
+const TIMES: u32 = 4;
 
 /// Puts the piece of this number behind the text; `all` is its number over all pieces.
 fn put_piece(text: &mut String, piece: &str, number: usize, all: usize) -> Result<(), AllocError> {
@@ -52,20 +55,18 @@ fn text_of(alloc: Global, pieces: &[Piece<'_>]) -> Result<String, AllocError> {
     Ok(text)
 }
 
-/// How long it takes to read the policy that a text is, and how often it was read to tell so.
-fn reading_time(rt: &impl Clock, alloc: Global, text: &[u8]) -> Result<(Duration, u32), Fail> {
-    let start = Instant::now(rt)?;
-    let mut time = start.elapsed(rt)?;
-    let mut times = 0;
-    for number in 1..1_000 {
-        Policy::read(alloc, text)?;
-        time = start.elapsed(rt)?;
-        times = number;
-        if time > Duration::from_secs(1) {
-            break;
-        }
-    }
-    Ok((time, times))
+/// The policy of these pieces has the report of those.
+fn is_reported(
+    rt: &impl Abort,
+    alloc: Global,
+    policy: &[Piece<'_>],
+    report: &[Piece<'_>],
+) -> Result<(), Fail> {
+    let text = text_of(alloc, policy)?;
+    let wanted = text_of(alloc, report)?;
+    let found = report_of(alloc, text.as_bytes(), b"f", false)?;
+    assert!(rt; found.as_slice() == wanted.as_bytes());
+    Ok(())
 }
 
 /// Checks the policy so often.
@@ -84,35 +85,79 @@ fn checking_time(
     text: &[u8],
     times: u32,
 ) -> Result<Duration, Fail> {
-    let start = Instant::now(rt)?;
     let policy = Policy::read(alloc, text)?;
+    let start = Instant::now(rt)?;
     check_often(alloc, &policy, times)?;
     Ok(start.elapsed(rt)?)
 }
 
-/// The policy of these pieces has the report of those, and takes not many times as long to check as to read.
-fn is_checked_soon(
+/// How long it takes to check the first policy once and the second once for each part, so often that time can tell.
+fn checking_times(
+    rt: &impl Clock,
+    alloc: Global,
+    whole: &[u8],
+    part: &[u8],
+) -> Result<(Duration, Duration), Fail> {
+    let mut of_whole = Duration::ZERO;
+    let mut of_parts = Duration::ZERO;
+    for _ in 0..1_000 {
+        of_whole = of_whole.saturating_add(checking_time(rt, alloc, whole, 1)?);
+        of_parts = of_parts.saturating_add(checking_time(rt, alloc, part, PARTS)?);
+        if of_parts > Duration::from_millis(200) {
+            break;
+        }
+    }
+    Ok((of_whole, of_parts))
+}
+
+/// A policy of 4096 times this piece and then that takes not many times as long to check as those of 256 times the piece.
+fn takes_as_long_as_its_parts(
     rt: &(impl Abort + Clock),
     alloc: Global,
-    policy: &[Piece<'_>],
-    report: &[Piece<'_>],
+    piece: &str,
+    behind: &str,
 ) -> Result<(), Fail> {
-    let text = text_of(alloc, policy)?;
-    let wanted = text_of(alloc, report)?;
-    let found = report_of(alloc, text.as_bytes(), b"f", false)?;
-    assert!(rt; found.as_slice() == wanted.as_bytes(), "the report");
-    let (reading, times) = reading_time(rt, alloc, text.as_bytes())?;
-    let checking = checking_time(rt, alloc, text.as_bytes(), times)?;
+    let whole = text_of(alloc, &[(piece, 4_096), (behind, 1)])?;
+    let part = text_of(alloc, &[(piece, 256), (behind, 1)])?;
+    let (of_whole, of_parts) = checking_times(rt, alloc, whole.as_bytes(), part.as_bytes())?;
     assert!(rt;
-        checking < reading.saturating_mul(TIMES),
-        "{times} times: read in {reading:?}, checked in {checking:?}"
+        of_whole < of_parts.saturating_mul(TIMES),
+        "{of_whole:?}, its parts {of_parts:?}, of {piece}"
     );
     Ok(())
 }
 
 #[test]
+fn long_chains_and_cycles_take_as_long_as_short_ones(rt: HostRuntime) -> Result<(), Fail> {
+    for (piece, behind) in [
+        ("Cmnd_Alias A# = A+\n", "bob h=A1\n"),
+        ("Cmnd_Alias A+ = A#\n", "bob h=A256, A4096\n"),
+        ("User_Alias A# = A+, A1\n", "A1 h=ALL\n"),
+        (
+            "Host_Alias A#=A+,A8,A7,A6,A5,A4,A3,A2,A1,A9,A16,A15,A14,A13,A12,A11,A10\n",
+            "bob A1=ALL\n",
+        ),
+    ] {
+        takes_as_long_as_its_parts(&rt, rt.alloc(), piece, behind)?;
+    }
+    Ok(())
+}
+
+#[test]
+fn very_many_undefined_names_take_as_long_as_few(rt: HostRuntime) -> Result<(), Fail> {
+    for (piece, behind) in [
+        ("A#,B#,", "bob h=ALL\n"),
+        ("A#,\\\nB#,\\\n", "bob h=ALL\n"),
+        ("A#,B#,C#,D#,E#,F# h=ALL\n", ""),
+    ] {
+        takes_as_long_as_its_parts(&rt, rt.alloc(), piece, behind)?;
+    }
+    Ok(())
+}
+
+#[test]
 fn a_chain_of_4096_aliases_that_is_used_has_no_notes(rt: HostRuntime) -> Result<(), Fail> {
-    is_checked_soon(
+    is_reported(
         &rt,
         rt.alloc(),
         &[
@@ -125,7 +170,7 @@ fn a_chain_of_4096_aliases_that_is_used_has_no_notes(rt: HostRuntime) -> Result<
 
 #[test]
 fn a_chain_of_4096_aliases_that_is_not_used_has_as_many_notes(rt: HostRuntime) -> Result<(), Fail> {
-    is_checked_soon(
+    is_reported(
         &rt,
         rt.alloc(),
         &[
@@ -141,7 +186,7 @@ fn a_chain_of_4096_aliases_that_is_not_used_has_as_many_notes(rt: HostRuntime) -
 
 #[test]
 fn a_chain_may_lead_from_the_last_definition_to_the_first(rt: HostRuntime) -> Result<(), Fail> {
-    is_checked_soon(
+    is_reported(
         &rt,
         rt.alloc(),
         &[
@@ -169,7 +214,7 @@ fn a_chain_may_stand_in_one_line(rt: HostRuntime) -> Result<(), Fail> {
 
 #[test]
 fn a_cycle_may_have_4096_aliases(rt: HostRuntime) -> Result<(), Fail> {
-    is_checked_soon(
+    is_reported(
         &rt,
         rt.alloc(),
         &[
@@ -186,7 +231,7 @@ fn a_cycle_may_have_4096_aliases(rt: HostRuntime) -> Result<(), Fail> {
 
 #[test]
 fn each_kind_may_have_a_cycle_of_4096_aliases(rt: HostRuntime) -> Result<(), Fail> {
-    is_checked_soon(
+    is_reported(
         &rt,
         rt.alloc(),
         &[
@@ -212,7 +257,7 @@ fn each_kind_may_have_a_cycle_of_4096_aliases(rt: HostRuntime) -> Result<(), Fai
 
 #[test]
 fn aliases_may_have_very_many_mentions(rt: HostRuntime) -> Result<(), Fail> {
-    is_checked_soon(
+    is_reported(
         &rt,
         rt.alloc(),
         &[
@@ -232,7 +277,7 @@ fn aliases_may_have_very_many_mentions(rt: HostRuntime) -> Result<(), Fail> {
 
 #[test]
 fn few_lines_may_mention_60000_undefined_names(rt: HostRuntime) -> Result<(), Fail> {
-    is_checked_soon(
+    is_reported(
         &rt,
         rt.alloc(),
         &[
@@ -269,7 +314,7 @@ fn few_lines_may_mention_60000_undefined_names(rt: HostRuntime) -> Result<(), Fa
 
 #[test]
 fn a_line_may_have_very_many_pieces(rt: HostRuntime) -> Result<(), Fail> {
-    is_checked_soon(
+    is_reported(
         &rt,
         rt.alloc(),
         &[("bob h=/a", 1), (",\\\nA+", 6_999), ("\nA h=ALL\n", 1)],
@@ -282,7 +327,7 @@ fn a_line_may_have_very_many_pieces(rt: HostRuntime) -> Result<(), Fail> {
 
 #[test]
 fn a_name_that_is_mentioned_very_often_is_told_once(rt: HostRuntime) -> Result<(), Fail> {
-    is_checked_soon(
+    is_reported(
         &rt,
         rt.alloc(),
         &[
@@ -297,7 +342,7 @@ fn a_name_that_is_mentioned_very_often_is_told_once(rt: HostRuntime) -> Result<(
 
 #[test]
 fn notes_may_stand_far_down(rt: HostRuntime) -> Result<(), Fail> {
-    is_checked_soon(
+    is_reported(
         &rt,
         rt.alloc(),
         &[
