@@ -1,4 +1,4 @@
--- What the program writes for what it reads, and its faults in their order.
+-- What `edit` writes for what it reads, and its faults in their order.
 use Rattle.std.specs.Prelude.{◌≡◌, ◌⊎◌, ◌+◌, ℕ, Bool, false, ◌&&◌, ◌==◌, nat_lt, if◌then◌else◌, List, [], ◌∷◌, ◌++◌, length, Option, Some, None, Result, Ok, Err}
 use Rattle.std.specs.Option.{option_map}
 use Rattle.sudoers_text.specs.Line.{join}
@@ -19,7 +19,7 @@ use Rattle.sudoers_tool.specs.Editing.{run_all, inv_run}
 use Rattle.sudoers_tool.specs.Script.{edit_limit, spelling}
 use Rattle.sudoers_tool.specs.ScriptReading.{reading}
 
--- how many bytes the program reads
+-- how many bytes `edit` reads
 abbrev pub input_limit : ℕ
 input_limit = 4000000
 

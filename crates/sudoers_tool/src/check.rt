@@ -1,5 +1,5 @@
 //! The check of a policy file.
-ghost use Rattle.std.specs.Prelude.{◌≡◌, ◌≢◌, ◌⊎◌, ◌+◌, ◌<◌, ◌≤◌, ◌++◌, codes, length, Ok, Err, IfOk, IfErr, IfSome, OnOk, min, ◌-◌, ◌^◌};
+ghost use Rattle.std.specs.Prelude.{◌≡◌, ◌≢◌, ◌⊎◌, ◌+◌, ◌<◌, ◌≤◌, ◌++◌, true, codes, length, Ok, Err, IfOk, IfErr, IfSome, OnOk, min, ◌-◌, ◌^◌};
 ghost use Rattle.std.specs.Io.KnownBytes.{Keeps, Appends};
 ghost use Rattle.sudoers_text.specs.Fault.{text_limit};
 ghost use Rattle.sudoers_tree.specs.Reading.{read_of};
@@ -55,11 +55,19 @@ pub fn run_check<R: Source, W: Sink>(
     ensures asked { R.Source.pulls reader.new ≤ R.Source.pulls reader.old + pull_limit }
     ensures no_end { result ≡ Err ToolFault.NoEnd
         → min (R.Source.pulls reader.old + pull_limit) (2 ^ 64 - 1) ≤ R.Source.pulls reader.new }
-    // It stops at the first byte past the limit of a policy file.
+    // Of a file past the limit no byte behind the first such is taken.
+    ensures large { NeedsFile result → IfSome (R.remaining reader.old) (λ input. text_limit < length input
+        → TakesExactly (R.remaining reader.old) (R.remaining reader.new) (text_limit + 1)) }
+    // A reader that failed or was given up had given no such byte.
     ensures stops { IfErr result (StopsCheck (R.remaining reader.old) (R.remaining reader.new)) }
     // Else an outcome, but a fault of reading and want of memory, comes only where the reader told its end.
     ensures ended { NeedsFile result → Rose (R.ends reader.old) (R.ends reader.new)
         ⊎ TakesExactly (R.remaining reader.old) (R.remaining reader.new) (text_limit + 1) }
+    // Whatever is known of the reader: the status is 0 only where it told its end, and else 1.
+    ensures whole { result ≡ Ok 0 → Rose (R.ends reader.old) (R.ends reader.new) }
+    ensures statuses { IfOk result (λ status. status ≤ 1) }
+    // With `quiet`, nothing is written, whatever is read.
+    ensures silent { quiet ≡ true → (result ≢ Err ToolFault.Write) × Keeps (W.contents writer.old) (W.contents writer.new) }
 {
     let outcome = outcome_of(alloc, reader, file, strict)?;
     if !quiet {
@@ -94,6 +102,10 @@ fn outcome_of<R: Source>(
     ensures stops { IfErr result (StopsCheck (R.remaining reader.old) (R.remaining reader.new)) }
     ensures ended { OnOk result (Rose (R.ends reader.old) (R.ends reader.new)
         ⊎ TakesExactly (R.remaining reader.old) (R.remaining reader.new) (text_limit + 1)) }
+    ensures large { OnOk result (IfSome (R.remaining reader.old) (λ input. text_limit < length input
+        → TakesExactly (R.remaining reader.old) (R.remaining reader.new) (text_limit + 1))) }
+    ensures whole { IfOk result (λ outcome. outcome.status ≡ 0 → Rose (R.ends reader.old) (R.ends reader.new)) }
+    ensures statuses { IfOk result (λ outcome. outcome.status ≤ 1) }
 {
     match read_all(alloc, reader, TEXT_LIMIT) {
         Ok(input) => Ok(checked(alloc, input.as_slice(), file, strict)?),

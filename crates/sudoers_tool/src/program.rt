@@ -1,4 +1,4 @@
-//! The program: a script and a policy in, the inverse script and the edited policy out.
+//! `edit`: a script and a policy in, the inverse script and the edited policy out.
 ghost use Rattle.std.specs.Prelude.{◌≡◌, ◌≢◌, ◌+◌, ◌<◌, ◌≤◌, ◌++◌, length, Ok, Err, IfOk, IfErr, OnOk, OnErr, IfSome, IsOkAnd, MatchResult, min, ◌-◌, ◌^◌};
 ghost use Rattle.std.specs.Option.{option_map};
 ghost use Rattle.std.specs.Io.KnownBytes.{Keeps, Appends};
@@ -16,7 +16,7 @@ use crate::spelling::write_script;
 use std::alloc::Global;
 use sudoers_tree::Policy;
 
-/// How many bytes the program reads at most.
+/// How many bytes `edit` reads at most.
 pub const INPUT_LIMIT: usize = 4_000_000;
 
 /// How often it asks one reader at most.

@@ -21,7 +21,7 @@ pub enum ScriptFault {
     /// This line is no command and no part of a text that may stand there.
     #[error("line {line}: BadWord")]
     BadWord { line: usize },
-    /// What stands in the number's place of this command is no number from 1 to 4,294,967,296.
+    /// A word in the place of a number of this command is no number from 1 to 4,294,967,296.
     #[error("line {line}: BadNumber")]
     BadNumber { line: usize },
     /// This command wants a text behind it, and none follows.

@@ -1,4 +1,4 @@
-//! Policies in outline: what is left aside is who may run what.
+//! Policies in outline: who may run what, and what the members of aliases are, is left aside.
 
 ghost use Rattle.std.specs.Prelude.{◌≡◌, ◌≤◌, ◌⊎◌, List, [], length, Ok, Err, IfOk, IfErr, MatchResult};
 ghost use Rattle.sudoers_text.specs.Line.{join};
@@ -69,7 +69,8 @@ fn outline_lines(alloc: Global, lines: &Lines<'_>) -> Result<Outlining, ReadFaul
     Ok(outlining)
 }
 
-/// The policy that a text is, in outline: its lines, most user specifications without what they say.
+/// The policy that a text is, in outline: its lines, most user specifications without what they say, and of most definitions of
+/// aliases how many members they have.
 ///
 /// # Errors
 ///
