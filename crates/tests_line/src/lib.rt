@@ -24,6 +24,8 @@ mod lines;
 #[cfg(test)]
 mod options;
 #[cfg(test)]
+mod outlines;
+#[cfg(test)]
 mod params;
 #[cfg(test)]
 mod places;
