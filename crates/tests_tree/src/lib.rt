@@ -26,6 +26,8 @@ mod one_line;
 #[cfg(test)]
 mod order;
 #[cfg(test)]
+mod outlines;
+#[cfg(test)]
 mod reserved;
 #[cfg(test)]
 mod show;
