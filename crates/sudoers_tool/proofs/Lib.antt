@@ -1,14 +1,2 @@
-mod EditLemmas
-mod FrontLemmas
-mod HistoryLemmas
-mod LastLemmas
-mod NumberLemmas
-mod OneSpelling
-mod PhysicalLemmas
-mod PolicyLemmas
 mod ProgramLemmas
-mod ReadingLemmas
-mod ScriptLemmas
 mod ShowLemmas
-mod SpellingLemmas
-mod WordLemmas

@@ -3,8 +3,7 @@ use Rattle.std.proofs.Common.{◌≡◌, ℕ, true, false, List, [], ◌∷◌, 
 use Rattle.std.specs.Option.{option_map}
 use Rattle.std.specs.Io.KnownBytes.{Appends, Keeps}
 use Rattle.sudoers_text.specs.Line.{join}
-use Rattle.sudoers_tool.specs.Physical.{physical_lines}
-use Rattle.sudoers_tool.proofs.PhysicalLemmas.{lines-each}
+use Rattle.sudoers_edit.specs.Physical.{physical_lines}
 use Rattle.sudoers_tool.specs.Program.{is_mark, split_lines}
 
 split_map : (front line : List ℕ) (o : Option (List (List ℕ) × List (List ℕ))) → option_map {U = List ℕ × List ℕ} (λ p. ((front ++ line) ++ join p.0, join p.1)) o ≡ option_map {U = List ℕ × List ℕ} (λ p. (front ++ join p.0, join p.1)) (option_map {U = List (List ℕ) × List (List ℕ)} (λ p. (line ∷ p.0, p.1)) o)
@@ -16,10 +15,9 @@ pub split_more : (front later line : List ℕ) (ls : List (List ℕ)) → later 
 split_more front later line ls e h = rw (e, h) (split_map front line (split_lines ls))
 
 -- the mark
-pub split_found : (front line after : List ℕ) → is_mark line ≡ true → option_map {U = List ℕ × List ℕ} (λ p. (front ++ join p.0, join p.1)) (split_lines (line ∷ physical_lines after)) ≡ Some (front, after)
-split_found front line after h =
+pub split_found : (front line after : List ℕ) → join (physical_lines after) ≡ after → is_mark line ≡ true → option_map {U = List ℕ × List ℕ} (λ p. (front ++ join p.0, join p.1)) (split_lines (line ∷ physical_lines after)) ≡ Some (front, after)
+split_found front line after rest h =
     let begin : front ++ [] ≡ front = append-nil front in
-    let rest : join (physical_lines after) ≡ after = (lines-each after).2 in
     rw h (ap (λ z. Some (z, join (physical_lines after))) begin ∙ ap (λ z. Some (front, z)) rest)
 
 -- two appends in turn

@@ -2,10 +2,10 @@
 use Rattle.std.specs.Prelude.{ℕ}
 use Rattle.sudoers_tree.specs.declared.fault.ReadFault.{ReadFault}
 use Rattle.sudoers_tree.specs.declared.fault.ReadFault.TheVariants as read
-use Rattle.sudoers_tool.specs.declared.edit.EditFault.{EditFault}
-use Rattle.sudoers_tool.specs.declared.edit.EditFault.TheVariants as edit
-use Rattle.sudoers_tool.specs.declared.script.ScriptFault.{ScriptFault}
-use Rattle.sudoers_tool.specs.declared.script.ScriptFault.TheVariants as script
+use Rattle.sudoers_edit.specs.declared.edit.EditFault.{EditFault}
+use Rattle.sudoers_edit.specs.declared.edit.EditFault.TheVariants as edit
+use Rattle.sudoers_edit.specs.declared.script.ScriptFault.{ScriptFault}
+use Rattle.sudoers_edit.specs.declared.script.ScriptFault.TheVariants as script
 use Rattle.sudoers_tool.specs.declared.fault.LayerFault.{LayerFault}
 use Rattle.sudoers_tool.specs.declared.fault.LayerFault.TheVariants as layer
 
@@ -32,12 +32,3 @@ layer_of_edit place edit.EndAsIs = layer.Edit place edit.EndAsIs
 layer_of_edit place edit.TooLarge = layer.Edit place edit.TooLarge
 layer_of_edit place (edit.NotPolicy fault) = layer.Edit place (edit.NotPolicy fault)
 layer_of_edit place edit.NoMemory = layer.NoMemory
-
--- a fault of a text that an edit leads to
-abbrev pub edit_of_read : ReadFault → EditFault
-edit_of_read (read.Text fault) = edit.NotPolicy (read.Text fault)
-edit_of_read (read.Syntax line col why) = edit.NotPolicy (read.Syntax line col why)
-edit_of_read (read.Reserved kind name) = edit.NotPolicy (read.Reserved kind name)
-edit_of_read (read.Duplicate kind name) = edit.NotPolicy (read.Duplicate kind name)
-edit_of_read (read.TooMany kind) = edit.NotPolicy (read.TooMany kind)
-edit_of_read read.NoMemory = edit.NoMemory

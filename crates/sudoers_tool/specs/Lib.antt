@@ -1,12 +1,4 @@
 pub mod Device
-pub mod Physical
-pub mod OneLine
-pub mod Editing
-pub mod LastLine
-pub mod Leading
-pub mod Script
-pub mod ScriptReading
-pub mod ScriptStanding
 pub mod FaultText
 pub mod Shown
 pub mod ShownOutline

@@ -3,9 +3,8 @@ ghost use Rattle.std.specs.Prelude.{◌≡◌, ◌+◌, ◌<◌, ◌^◌, ◌++�
 ghost use Rattle.std.specs.Fmt.{decimal};
 ghost use Rattle.sudoers_tool.specs.FaultText.{text_of_tool, text_of_layer, text_of_read, text_of_text, text_of_script, text_of_edit, script_text, edit_name, name_text, why_name};
 
-use crate::edit::EditFault;
-use crate::script::ScriptFault;
 use std::alloc::{AllocError, Global};
+use sudoers_edit::{EditFault, ScriptFault};
 use sudoers_line::{Kind, Why};
 use sudoers_text::TextFault;
 use sudoers_tree::{ReadFault, kind_word};

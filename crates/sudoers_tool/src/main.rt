@@ -3,17 +3,9 @@
 
 mod check;
 mod device;
-mod edit;
-mod editor;
 mod fault;
-mod physical;
 mod program;
-mod reread;
-mod script;
-mod script_line;
 mod show;
-mod spelling;
-mod text;
 
 use check::run_check;
 use clap::error::ErrorKind;

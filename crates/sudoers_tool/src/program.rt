@@ -7,13 +7,11 @@ ghost use Rattle.sudoers_tool.specs.Device.{Rose, AppendsFront, TakesAtMost, Tak
 ghost use Rattle.sudoers_tool.specs.Program.{is_mark as is_mark_text, split_text, edit_output as output_of_edit, edited_output, output_of, output_text, input_limit, TellsLayer, TellsTool, NeedsEnd, StopsReading, IsReadFault, IsAnswerFault, pull_limit};
 
 use crate::device::{DeviceFailed, Pulled, Sink, Source};
-use crate::edit::{Edit, Edits};
-use crate::editor::Editor;
 use crate::fault::{LayerFault, ToolFault};
-use crate::physical::first_line_len;
-use crate::script::read_script;
-use crate::spelling::write_script;
 use std::alloc::Global;
+use sudoers_edit::{
+    Edit, Editor, Edits, first_line_len, physical_lines_join, read_script, write_script,
+};
 use sudoers_tree::Policy;
 
 /// How many bytes `edit` reads at most.
@@ -151,6 +149,7 @@ fn answer(alloc: Global, input: &[u8]) -> Result<Vec<u8>, ToolFault>
 fn split_mark(input: &[u8]) -> Option<(&[u8], &[u8])>
     ensures { option_map (λ parts. (parts.0.now, parts.1.now)) result ≡ split_text input.now }
 {
+    physical_lines_join();
     let mut at = 0;
     while at < input.len() {
         let rest = &input[at..];

@@ -3,7 +3,7 @@ use Rattle.std.proofs.lemmas.List.{take_rest, drop-drop, length-drop}
 use Rattle.std.proofs.Math.Seq.{take-add}
 use Rattle.std.specs.Option.{option_map}
 use Rattle.sudoers_text.specs.Line.{join}
-use Rattle.sudoers_tool.specs.Physical.{physical_lines}
+use Rattle.sudoers_edit.specs.Physical.{physical_lines}
 use Rattle.sudoers_tool.specs.Program.{split_lines}
 use Rattle.sudoers_tool.proofs.ProgramLemmas.{split_more, split_found}
 use Rattle.sudoers_tool.proofs.program.split_mark.Goals as goal
@@ -16,7 +16,7 @@ returns-then-is_mark c =
     let after : List ℕ = c.split_at.result.1.now in
     let tail : take (length input - at) (drop at input) ≡ drop at input = take_rest input at in
     let cut : physical_lines (drop at input) ≡ line ∷ physical_lines after = ap physical_lines (sym tail) ∙ c.first_line_len.ensures.first ∙ ap (λ (z : List ℕ). z ∷ physical_lines (drop c.first_line_len.result (take (length input - at) (drop at input)))) (sym c.split_at.ensures.front) ∙ ap (λ (z : List ℕ). line ∷ physical_lines z) (sym c.split_at.ensures.back) in
-    sym (split_found (take at input) line after (sym c.if-is_mark.ensures))
+    sym (split_found (take at input) line after (c.physical_lines_join.ensures after) (sym c.if-is_mark.ensures))
     ∙ ap (λ ls. option_map {U = List ℕ × List ℕ} (λ p. (take at input ++ join p.0, join p.1)) (split_lines ls)) (sym cut)
     ∙ c.loop-at.invariant.1
 

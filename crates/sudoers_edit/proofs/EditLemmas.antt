@@ -1,0 +1,306 @@
+-- What an edit leaves of the lines, and that its inverse gives them back.
+use Rattle.std.proofs.Common.{◌≡◌, ℕ, zero, suc, ◌-◌, ◌<◌, ◌≤◌, Bool, true, false, not, ◌||◌, List, [], ◌∷◌, ◌++◌, length, insert, remove, slice_index_or, reverse, Option, Some, Result, Ok, refl, sym, ap, subst, ◌∙◌, arith, unwrap_or}
+use Rattle.std.proofs.lemmas.Bool.{le-ltb, lt-ltb, or_parts as or_false}
+use Rattle.std.proofs.lemmas.List.{reverse-append}
+use Rattle.std.specs.Prelude.{slice_get}
+use Rattle.sudoers_edit.proofs.PolicyLemmas.{at_get}
+use Rattle.sudoers_text.specs.Line.{join}
+use Rattle.sudoers_text.specs.Ended.{has_unended_inside, ends_in_lf}
+use Rattle.sudoers_text.specs.Cut.{StandAlone}
+use Rattle.sudoers_edit.specs.declared.edit.Edit.{Edit}
+use Rattle.sudoers_edit.specs.declared.edit.Edit.TheVariants.{Insert, Delete, Move}
+use Rattle.sudoers_edit.specs.declared.edit.EditFault.{EditFault}
+use Rattle.sudoers_edit.specs.declared.edit.EditFault.TheVariants.{NoLine, NotOneLine, OpenLine, EndAsIs, TooLarge, NotPolicy, NoMemory}
+use Rattle.sudoers_edit.specs.Editing.{lines_or_refusal, policy_or_refusal, where_policy, moved, Refuses, step, inv, run, IsUndoable, first_lines}
+use Rattle.sudoers_tree.specs.declared.line.Line.{Line}
+use Rattle.sudoers_edit.specs.OneLine.{is_one_line, IsAlone, IsSound}
+use Rattle.sudoers_tree.specs.Policy.{texts}
+use Rattle.sudoers_edit.specs.Leading.{Leads}
+use Rattle.sudoers_edit.specs.declared.editor.Entry.{Entry}
+
+or-false : (x : Bool) → (x || false) ≡ x
+or-false true = refl
+or-false false = refl
+
+-- OPEN LINES
+
+open_cons : (l k : List ℕ) (ks : List (List ℕ)) → has_unended_inside (l ∷ k ∷ ks) ≡ (not (ends_in_lf l) || has_unended_inside (k ∷ ks))
+open_cons l k ks = refl
+
+open_tail : (l : List ℕ) (ls : List (List ℕ)) → has_unended_inside (l ∷ ls) ≡ false → has_unended_inside ls ≡ false
+open_tail l [] h = refl
+open_tail l (k ∷ ks) h = (or_false _ _ h).1
+
+open_front : (l : List ℕ) (ls : List (List ℕ)) → not (ends_in_lf l) ≡ false → has_unended_inside ls ≡ false → has_unended_inside (l ∷ ls) ≡ false
+open_front l [] c h = refl
+open_front l (k ∷ ks) c h = rw c h
+
+-- in front of a line, the text alone decides
+pub open_insert : (ls : List (List ℕ)) (at : ℕ) (t : List ℕ) → at < length ls → has_unended_inside ls ≡ false → not (ends_in_lf t) ≡ has_unended_inside (insert ls at t)
+open_insert [] at t l h = absurd (omega arith)
+open_insert (k ∷ ks) zero t l h = rw h (sym (or-false (not (ends_in_lf t))))
+open_insert (k ∷ []) (suc n) t l h = absurd (omega arith)
+open_insert (k ∷ j ∷ js) (suc zero) t l h = let e : not (ends_in_lf k) ≡ false = (or_false _ _ h).0 in rw e (open_insert (j ∷ js) 0 t (omega arith) (or_false _ _ h).1)
+open_insert (k ∷ j ∷ js) (suc (suc n)) t l h = let e : not (ends_in_lf k) ≡ false = (or_false _ _ h).0 in rw e (open_insert (j ∷ js) (suc n) t (omega arith) (or_false _ _ h).1)
+
+-- behind the last line, that line decides
+pub open_insert_end : (ls : List (List ℕ)) (n : ℕ) (t d : List ℕ) → length ls ≡ suc n → has_unended_inside ls ≡ false → not (ends_in_lf (slice_index_or ls n d)) ≡ has_unended_inside (insert ls (suc n) t)
+open_insert_end [] n t d l h = absurd (omega arith)
+open_insert_end (k ∷ []) zero t d l h = sym (or-false (not (ends_in_lf k)))
+open_insert_end (k ∷ []) (suc n) t d l h = absurd (omega arith)
+open_insert_end (k ∷ j ∷ js) zero t d l h = absurd (omega arith)
+open_insert_end (k ∷ j ∷ js) (suc n) t d l h = let e : not (ends_in_lf k) ≡ false = (or_false _ _ h).0 in rw e (open_insert_end (j ∷ js) n t d (omega arith) (or_false _ _ h).1)
+
+pub open_remove : (ls : List (List ℕ)) (at : ℕ) → has_unended_inside ls ≡ false → has_unended_inside (remove ls at) ≡ false
+open_remove [] zero h = refl
+open_remove [] (suc n) h = refl
+open_remove (k ∷ ks) zero h = open_tail k ks h
+open_remove (k ∷ []) (suc zero) h = refl
+open_remove (k ∷ []) (suc (suc n)) h = refl
+open_remove (k ∷ j ∷ js) (suc n) h = open_front k (remove (j ∷ js) n) (or_false _ _ h).0 (open_remove (j ∷ js) n (or_false _ _ h).1)
+
+-- LINES AND SIZES
+
+pub each_insert : (ls : List (List ℕ)) (at : ℕ) (t : List ℕ) → StandAlone ls → IsAlone t → StandAlone (insert ls at t)
+each_insert ls zero t each is = (is, each)
+each_insert [] (suc n) t each is = (is, tt)
+each_insert (k ∷ ks) (suc n) t each is = (each.0, each_insert ks n t each.1 is)
+
+pub each_remove : (ls : List (List ℕ)) (at : ℕ) → StandAlone ls → StandAlone (remove ls at)
+each_remove [] zero each = tt
+each_remove [] (suc n) each = tt
+each_remove (k ∷ ks) zero each = each.1
+each_remove (k ∷ ks) (suc n) each = (each.0, each_remove ks n each.1)
+
+pub each_at : (ls : List (List ℕ)) (at : ℕ) → at < length ls → StandAlone ls → IsAlone (slice_index_or ls at [])
+each_at [] at l each = absurd (omega arith)
+each_at (k ∷ ks) zero l each = each.0
+each_at (k ∷ ks) (suc n) l each = each_at ks n (omega arith) each.1
+
+pub remove-insert : (ls : List (List ℕ)) (at : ℕ) (t : List ℕ) → at ≤ length ls → remove (insert ls at t) at ≡ ls
+remove-insert ls zero t l = refl
+remove-insert [] (suc n) t l = absurd (omega arith)
+remove-insert (k ∷ ks) (suc n) t l = ap (λ z. k ∷ z) (remove-insert ks n t (omega arith))
+
+pub insert-remove : (ls : List (List ℕ)) (at : ℕ) (d : List ℕ) → at < length ls → insert (remove ls at) at (slice_index_or ls at d) ≡ ls
+insert-remove [] at d l = absurd (omega arith)
+insert-remove (k ∷ ks) zero d l = refl
+insert-remove (k ∷ ks) (suc n) d l = ap (λ z. k ∷ z) (insert-remove ks n d (omega arith))
+
+pub length_insert : (ls : List (List ℕ)) (at : ℕ) (t : List ℕ) → at ≤ length ls → length (insert ls at t) ≡ suc (length ls)
+length_insert ls zero t l = refl
+length_insert [] (suc n) t l = absurd (omega arith)
+length_insert (k ∷ ks) (suc n) t l = ap suc (length_insert ks n t (omega arith))
+
+pub length_remove : (ls : List (List ℕ)) (at : ℕ) → at < length ls → suc (length (remove ls at)) ≡ length ls
+length_remove [] at l = absurd (omega arith)
+length_remove (k ∷ ks) zero l = refl
+length_remove (k ∷ ks) (suc n) l = ap suc (length_remove ks n (omega arith))
+
+pub at_insert : (ls : List (List ℕ)) (at : ℕ) (t d : List ℕ) → at ≤ length ls → slice_index_or (insert ls at t) at d ≡ t
+at_insert ls zero t d l = refl
+at_insert [] (suc n) t d l = absurd (omega arith)
+at_insert (k ∷ ks) (suc n) t d l = at_insert ks n t d (omega arith)
+
+-- a line that was moved and is moved back
+pub moved_back : (ls : List (List ℕ)) (from to : ℕ) → from < length ls → to < length ls → moved to from (moved from to ls) ≡ ls
+moved_back ls from to l k =
+    let t : List ℕ = slice_index_or ls from [] in
+    let within : to ≤ length (remove ls from) = omega (arith, length_remove ls from l) in
+    ap (λ z. insert z from (slice_index_or (moved from to ls) to [])) (remove-insert (remove ls from) to t within)
+    ∙ ap (λ z. insert (remove ls from) from z) (at_insert (remove ls from) to t [] within)
+    ∙ insert-remove ls from [] l
+
+-- a line behind one that is taken out
+at_remove : (ls : List (List ℕ)) (at k : ℕ) (d : List ℕ) → at ≤ k → slice_index_or (remove ls at) k d ≡ slice_index_or ls (suc k) d
+at_remove [] zero k d l = refl
+at_remove [] (suc n) k d l = refl
+at_remove (j ∷ ks) zero k d l = refl
+at_remove (j ∷ ks) (suc n) zero d l = absurd (omega arith)
+at_remove (j ∷ ks) (suc n) (suc k) d l = at_remove ks n k d (omega arith)
+
+-- a line that is moved before another decides whether one without LF stands there
+pub open_move : (ls : List (List ℕ)) (from to : ℕ) → from < length ls → to < length ls - 1 → has_unended_inside ls ≡ false
+    → not (ends_in_lf (slice_index_or ls from [])) ≡ has_unended_inside (moved from to ls)
+open_move ls from to l k h = open_insert (remove ls from) to (slice_index_or ls from []) (omega (arith, length_remove ls from l)) (open_remove ls from h)
+
+-- where another becomes the last, the one that was last decides
+pub open_move_end : (ls : List (List ℕ)) (from to n : ℕ) (d : List ℕ) → from < suc n → length ls ≡ suc (suc n) → to ≡ suc n → has_unended_inside ls ≡ false
+    → not (ends_in_lf (slice_index_or ls (suc n) d)) ≡ has_unended_inside (moved from to ls)
+open_move_end ls from to n d l size last h =
+    ap (λ z. not (ends_in_lf z)) (sym (at_remove ls from n d (omega arith)))
+    ∙ open_insert_end (remove ls from) n (slice_index_or ls from []) d (omega (arith, length_remove ls from (omega (arith, size)))) (open_remove ls from h)
+    ∙ ap (λ k. has_unended_inside (insert (remove ls from) k (slice_index_or ls from []))) (sym last)
+
+-- a line that is moved to its own place
+pub stays_in_place : (ls : List (List ℕ)) (from to : ℕ) → from ≡ to → from < length ls → has_unended_inside ls ≡ false → false ≡ has_unended_inside (moved from to ls)
+stays_in_place ls from to same l h =
+    sym h ∙ ap has_unended_inside (sym (insert-remove ls from [] l)) ∙ ap (λ k. has_unended_inside (moved from k ls)) same
+
+-- the line that decides, as the code reads it
+pub move_before : (ls : List (List ℕ)) (from to before last : ℕ) (line : List ℕ) → from < length ls → last ≡ length ls - 1 → to < last → before ≡ from
+    → slice_get ls before ≡ Some line → has_unended_inside ls ≡ false → not (ends_in_lf line) ≡ has_unended_inside (moved from to ls)
+move_before ls from to before last line l last_is order same here h =
+    ap (λ z. not (ends_in_lf z)) (sym (at_get ls from line [] (ap (slice_get ls) (sym same) ∙ here)))
+    ∙ open_move ls from to l (omega (arith, last_is, order)) h
+
+pub move_behind : (ls : List (List ℕ)) (from to before last : ℕ) (line : List ℕ) → from < length ls → to < length ls → (from ≡ to → ⊥) → last ≡ length ls - 1 → last ≤ to
+    → before ≡ last → slice_get ls before ≡ Some line → has_unended_inside ls ≡ false → not (ends_in_lf line) ≡ has_unended_inside (moved from to ls)
+move_behind ls from to before last line l k other last_is order same here h =
+    let place : before ≡ suc (last - 1) = omega (arith, l, k, other, last_is, order, same) in
+    ap (λ z. not (ends_in_lf z)) (sym (at_get ls (suc (last - 1)) line [] (ap (slice_get ls) (sym place) ∙ here)))
+    ∙ open_move_end ls from to (last - 1) [] (omega (arith, l, k, other, last_is, order)) (omega (arith, l, k, other, last_is, order)) (omega (arith, l, k, other, last_is, order)) h
+
+-- ONE LINE
+
+pub is_one : (t : List ℕ) → IsAlone t → is_one_line t ≡ true
+is_one t alone = rw alone refl
+
+-- STEPS
+
+-- the lines of a policy are no refusal
+pub settled : (ls : List (List ℕ)) → IsSound ls → lines_or_refusal ls ≡ Ok ls
+settled ls sound = rw (sound.ended, le-ltb 1048576 (length (join ls)) sound.fits, sound.read) refl
+
+pub step_insert : (ls : List (List ℕ)) (at : ℕ) (t : List ℕ) → at ≤ length ls → is_one_line t ≡ true → step (Insert at t) ls ≡ lines_or_refusal (insert ls at t)
+step_insert ls at t l one = rw (le-ltb (length ls) at l, one) refl
+
+pub step_delete : (ls : List (List ℕ)) (at : ℕ) → at < length ls → step (Delete at) ls ≡ lines_or_refusal (remove ls at)
+step_delete ls at l = rw (lt-ltb at (length ls) l) refl
+
+pub step_move : (ls : List (List ℕ)) (from to : ℕ) → from < length ls → to < length ls → step (Move from to) ls ≡ lines_or_refusal (moved from to ls)
+step_move ls from to l k = rw (lt-ltb from (length ls) l, lt-ltb to (length ls) k) refl
+
+-- lines of which only the last may lack LF go by what their text is read as
+pub by_text : (ls : List (List ℕ)) → has_unended_inside ls ≡ false → lines_or_refusal ls ≡ where_policy ls (policy_or_refusal (join ls))
+by_text ls ended = rw ended refl
+
+pub refuses_lines : (f : EditFault) (ls : List (List ℕ)) (r : Result (List Line) EditFault) → Refuses f r → Refuses f (where_policy ls r)
+refuses_lines NoLine ls r is = ap (where_policy ls) is
+refuses_lines NotOneLine ls r is = ap (where_policy ls) is
+refuses_lines OpenLine ls r is = ap (where_policy ls) is
+refuses_lines EndAsIs ls r is = ap (where_policy ls) is
+refuses_lines TooLarge ls r is = ap (where_policy ls) is
+refuses_lines (NotPolicy fault) ls r is = ap (where_policy ls) is
+refuses_lines NoMemory ls r is = tt
+
+-- one step as a run
+pub run_one : (e : Edit) (ls new : List (List ℕ)) → step e ls ≡ Ok new → run (e ∷ []) ls ≡ Some new
+run_one e ls new h = rw h refl
+
+pub back_insert : (ls : List (List ℕ)) (at : ℕ) (t : List ℕ) → IsSound ls → at ≤ length ls → run (Delete at ∷ []) (insert ls at t) ≡ Some ls
+back_insert ls at t sound l =
+    run_one (Delete at) (insert ls at t) ls
+    (step_delete (insert ls at t) at (omega (arith, length_insert ls at t l)) ∙ ap lines_or_refusal (remove-insert ls at t l) ∙ settled ls sound)
+
+pub back_delete : (ls : List (List ℕ)) (at : ℕ) → IsSound ls → at < length ls → run (Insert at (slice_index_or ls at []) ∷ []) (remove ls at) ≡ Some ls
+back_delete ls at sound l =
+    let t : List ℕ = slice_index_or ls at [] in
+    run_one (Insert at t) (remove ls at) ls
+    (step_insert (remove ls at) at t (omega (arith, length_remove ls at l)) (is_one t (each_at ls at l sound.each))
+    ∙ ap lines_or_refusal (insert-remove ls at [] l) ∙ settled ls sound)
+
+pub back_move : (ls : List (List ℕ)) (from to : ℕ) → IsSound ls → from < length ls → to < length ls → run (Move to from ∷ []) (moved from to ls) ≡ Some ls
+back_move ls from to sound l k =
+    let one : suc (length (remove ls from)) ≡ length ls = length_remove ls from l in
+    let size : length (moved from to ls) ≡ length ls = length_insert (remove ls from) to (slice_index_or ls from []) (omega (arith, one)) ∙ one in
+    run_one (Move to from) (moved from to ls) ls
+    (step_move (moved from to ls) to from (omega (arith, size)) (omega (arith, size))
+    ∙ ap lines_or_refusal (moved_back ls from to l k) ∙ settled ls sound)
+
+-- JOURNALS
+
+undoable_more : (e : Edit) (entries : List Entry) (ls new : List (List ℕ)) → step e ls ≡ Ok new → run (inv e ls) new ≡ Some ls → IsUndoable entries ls → IsUndoable (record { edit = e; inverse = inv e ls } ∷ entries) new
+undoable_more e entries ls new forth back rest = rw back (forth, refl, rest)
+
+pushed : (journal later : List Entry) (x : Entry) → later ≡ journal ++ x ∷ [] → reverse later ≡ x ∷ reverse journal
+pushed journal later x e = ap reverse e ∙ reverse-append journal (x ∷ [])
+
+begins_same : (e : Entry) (entries : List Entry) (ls new : List (List ℕ)) → run e.inverse new ≡ Some ls → first_lines (e ∷ entries) new ≡ first_lines entries ls
+begins_same e entries ls new back = ap (λ (o : Option (List (List ℕ))). first_lines entries (unwrap_or o new)) back
+
+-- What an accepted edit leaves: the step, a journal that can be undone, and that leads back as before.
+pub record Leaves (e : Edit) (inverse : List Edit) (ls new : List (List ℕ)) (journal later : List Entry) : Type 0 where
+  pub forth : step e ls ≡ Ok new
+  pub undoable : IsUndoable (reverse later) new
+  pub begun : first_lines (reverse later) new ≡ first_lines (reverse journal) ls
+
+left_by : (e : Edit) (ls new : List (List ℕ)) (journal later : List Entry) → step e ls ≡ Ok new → run (inv e ls) new ≡ Some ls → IsUndoable (reverse journal) ls → later ≡ journal ++ record { edit = e; inverse = inv e ls } ∷ [] → Leaves e (inv e ls) ls new journal later
+left_by e ls new journal later forth back undoable later_is =
+    let same = pushed journal later (record { edit = e; inverse = inv e ls }) later_is in
+    record {
+      forth = forth;
+      undoable = subst (λ (entries : List Entry). IsUndoable entries new) (sym same) (undoable_more e (reverse journal) ls new forth back undoable);
+      begun = ap (λ (entries : List Entry). first_lines entries new) same ∙ begins_same (record { edit = e; inverse = inv e ls }) (reverse journal) ls new back;
+    }
+
+-- the last line, as the code reads it
+pub last_decides : (ls : List (List ℕ)) (at : ℕ) (t x : List ℕ) → at ≡ length ls → 0 < at → slice_index_or ls (at - 1) x ≡ x → has_unended_inside ls ≡ false → not (ends_in_lf x) ≡ has_unended_inside (insert ls at t)
+last_decides ls zero t x l some is h = absurd (omega arith)
+last_decides ls (suc n) t x l some is h =
+    let e : suc n - 1 ≡ n = omega arith in
+    ap (λ z. not (ends_in_lf z)) (sym is ∙ ap (λ k. slice_index_or ls k x) e) ∙ open_insert_end ls n t x (sym l) h
+
+-- WHERE EDITS LEAD
+
+pub insert_leads : (ls : List (List ℕ)) (at : ℕ) (t text : List ℕ) → IsSound ls → at ≤ length ls → is_one_line t ≡ true → IsAlone t
+    → has_unended_inside (insert ls at t) ≡ false → text ≡ join (insert ls at t)
+    → Leads (record { edit = Insert at t; inverse = Delete at ∷ [] }) ls text
+insert_leads ls at t text sound within one alone ended is = record {
+  new = insert ls at t;
+  joined = is;
+  each = λ policy read. each_insert ls at t sound.each alone;
+  ended = ended;
+  forth = step_insert ls at t within one;
+  inverse = refl;
+  back = λ policy read. back_insert ls at t sound within;
+}
+
+pub delete_leads : (ls : List (List ℕ)) (at : ℕ) (text : List ℕ) → IsSound ls → at < length ls → text ≡ join (remove ls at)
+    → Leads (record { edit = Delete at; inverse = Insert at (slice_index_or ls at []) ∷ [] }) ls text
+delete_leads ls at text sound within is = record {
+  new = remove ls at;
+  joined = is;
+  each = λ policy read. each_remove ls at sound.each;
+  ended = open_remove ls at sound.ended;
+  forth = step_delete ls at within;
+  inverse = refl;
+  back = λ policy read. back_delete ls at sound within;
+}
+
+pub move_leads : (ls : List (List ℕ)) (from to : ℕ) (text : List ℕ) → IsSound ls → from < length ls → to < length ls
+    → has_unended_inside (moved from to ls) ≡ false → text ≡ join (moved from to ls)
+    → Leads (record { edit = Move from to; inverse = Move to from ∷ [] }) ls text
+move_leads ls from to text sound inside within ended is = record {
+  new = moved from to ls;
+  joined = is;
+  each = λ policy read. each_insert (remove ls from) to (slice_index_or ls from []) (each_remove ls from sound.each) (each_at ls from inside sound.each);
+  ended = ended;
+  forth = step_move ls from to inside within;
+  inverse = refl;
+  back = λ policy read. back_move ls from to sound inside within;
+}
+
+-- What an accepted edit leaves.
+pub settles : (entry : Entry) (ls new : List (List ℕ)) (text : List ℕ) (policy : List Line) (journal later : List Entry) → Leads entry ls text
+    → policy_or_refusal text ≡ Ok policy → ((lines : List (List ℕ)) → StandAlone lines → has_unended_inside lines ≡ false
+    → policy_or_refusal (join lines) ≡ Ok policy → texts policy ≡ lines)
+    → IsUndoable (reverse journal) ls → later ≡ journal ++ entry ∷ [] → new ≡ texts policy
+    → Leaves entry.edit entry.inverse ls new journal later
+settles entry ls new text policy journal later leads read same undoable later_is is =
+    let whole : policy_or_refusal (join leads.new) ≡ Ok policy = ap policy_or_refusal (sym leads.joined) ∙ read in
+    let reached : leads.new ≡ new = sym (same leads.new (leads.each policy whole) leads.ended whole) ∙ sym is in
+    let forth : step entry.edit ls ≡ Ok leads.new = leads.forth ∙ by_text leads.new leads.ended ∙ ap (where_policy leads.new) whole in
+    let entry_is : entry ≡ record { edit = entry.edit; inverse = inv entry.edit ls } = ap (λ i. record { edit = entry.edit; inverse = i }) leads.inverse in
+    let left =
+    left_by entry.edit ls new journal later (forth ∙ ap (λ z. Ok z) reached)
+    (ap (λ i. run i new) (sym leads.inverse) ∙ ap (run entry.inverse) (sym reached) ∙ leads.back policy whole) undoable
+    (later_is ∙ ap (λ e. journal ++ e ∷ []) entry_is) in
+    record { forth = left.forth; undoable = left.undoable; begun = left.begun }
+
+-- A refusal of the text is one of the edit.
+pub refused : (entry : Entry) (ls : List (List ℕ)) (text : List ℕ) (f : EditFault) → Leads entry ls text → Refuses f (policy_or_refusal text)
+    → Refuses f (step entry.edit ls)
+refused entry ls text f leads is =
+    subst (λ r. Refuses f r) (sym (leads.forth ∙ by_text leads.new leads.ended))
+    (refuses_lines f leads.new (policy_or_refusal (join leads.new)) (subst (λ t. Refuses f (policy_or_refusal t)) leads.joined is))

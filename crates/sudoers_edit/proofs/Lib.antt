@@ -1,0 +1,12 @@
+mod EditLemmas
+mod FrontLemmas
+mod HistoryLemmas
+mod LastLemmas
+mod NumberLemmas
+mod OneSpelling
+mod PhysicalLemmas
+mod PolicyLemmas
+mod ReadingLemmas
+mod ScriptLemmas
+mod SpellingLemmas
+mod WordLemmas

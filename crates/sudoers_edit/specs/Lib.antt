@@ -1,0 +1,9 @@
+pub mod Physical
+pub mod OneLine
+pub mod Editing
+pub mod LastLine
+pub mod Leading
+pub mod Reread
+pub mod Script
+pub mod ScriptReading
+pub mod ScriptStanding

@@ -1,0 +1,14 @@
+-- A fault of reading as the refusal of an edit: want of memory is one fault, wherever it was met.
+use Rattle.sudoers_tree.specs.declared.fault.ReadFault.{ReadFault}
+use Rattle.sudoers_tree.specs.declared.fault.ReadFault.TheVariants as read
+use Rattle.sudoers_edit.specs.declared.edit.EditFault.{EditFault}
+use Rattle.sudoers_edit.specs.declared.edit.EditFault.TheVariants as edit
+
+-- a fault of a text that an edit leads to
+abbrev pub edit_of_read : ReadFault → EditFault
+edit_of_read (read.Text fault) = edit.NotPolicy (read.Text fault)
+edit_of_read (read.Syntax line col why) = edit.NotPolicy (read.Syntax line col why)
+edit_of_read (read.Reserved kind name) = edit.NotPolicy (read.Reserved kind name)
+edit_of_read (read.Duplicate kind name) = edit.NotPolicy (read.Duplicate kind name)
+edit_of_read (read.TooMany kind) = edit.NotPolicy (read.TooMany kind)
+edit_of_read read.NoMemory = edit.NoMemory

@@ -1,0 +1,22 @@
+//! The editor of a sudoers policy: its edits, the journal that takes them back, and the script that spells them.
+#![tactic(auto)]
+
+mod edit;
+mod editor;
+mod physical;
+mod reread;
+mod script;
+mod script_line;
+mod spelling;
+mod text;
+
+pub use edit::{Edit, EditFault, Edits};
+pub use editor::{Editor, Entry};
+pub use physical::{first_line_len, physical_lines_join};
+pub use script::{MAX_EDITS, ScriptFault, read_script};
+pub use spelling::{
+    first_dead_line_is_told, front_is_by_bytes, one_spelling,
+    payload_fault_is_at_a_command_without_text, read_is_spelling, spelling_is_read,
+    too_many_is_behind_the_most_edits, word_fault_is_at_the_first_dead_line, write_script,
+};
+pub use text::Text;

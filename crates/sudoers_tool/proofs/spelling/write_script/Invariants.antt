@@ -1,6 +1,0 @@
-use Rattle.std.proofs.Common.{◌≡◌, take}
-use Rattle.sudoers_tool.specs.Script.{spelling}
-use Rattle.sudoers_tool.proofs.spelling.write_script.Given as goal
-
-abbrev pub invariant-loop-edit : goal.invariant-loop-edit
-invariant-loop-edit l = l.out.items ≡ spelling (take l.edit-index l.edits)
