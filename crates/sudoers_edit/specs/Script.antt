@@ -30,6 +30,7 @@ spell (Delete at) = codes "delete " ++ number at ++ 10 ∷ []
 spell (Move from to) = codes "move " ++ number from ++ 32 ∷ number to ++ 10 ∷ []
 spell EndLine = codes "endline" ++ 10 ∷ []
 spell OpenEnd = codes "openend" ++ 10 ∷ []
+spell edit = []
 
 -- the edits, one after another
 abbrev pub spelling : List Edit → List ℕ
@@ -42,6 +43,7 @@ IsNumbered (Delete at) = at + 1 ≤ 2 ^ 32
 IsNumbered (Move from to) = (from + 1 ≤ 2 ^ 32) × (to + 1 ≤ 2 ^ 32)
 IsNumbered EndLine = Unit {0}
 IsNumbered OpenEnd = Unit {0}
+IsNumbered edit = ⊥
 
 abbrev pub AreNumbered : List Edit → Type 0
 AreNumbered [] = Unit {0}

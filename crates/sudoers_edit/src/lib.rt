@@ -3,7 +3,10 @@
 
 mod edit;
 mod editor;
+mod landing;
+mod line_edits;
 mod physical;
+mod pruning;
 mod reread;
 mod script;
 mod script_line;

@@ -2,7 +2,9 @@
 ghost use Rattle.std.specs.Prelude.{◌≡◌, ◌-◌, ◌<◌, ◌≤◌, ◌++◌, List, ℕ, length, insert, remove, take, drop, Ok, IfOk, OnOk, MatchResult};
 ghost use Rattle.sudoers_text.specs.Line.{join};
 ghost use Rattle.sudoers_tree.specs.Policy.{texts};
-ghost use Rattle.sudoers_edit.specs.Editing.{policy_or_refusal, moved, Refuses};
+ghost use Rattle.sudoers_edit.specs.Landing.{policy_or_refusal};
+ghost use Rattle.sudoers_edit.specs.LineEdits.{moved};
+ghost use Rattle.sudoers_edit.specs.Editing.{Refuses};
 
 use crate::edit::EditFault;
 use std::alloc::{AllocError, Global};

@@ -76,6 +76,7 @@ fn append_edit(alloc: Global, out: &mut Vec<u8>, edit: &Edit) -> Result<(), Allo
         }
         Edit::EndLine => out.extend_from_slice(b"endline\n"),
         Edit::OpenEnd => out.extend_from_slice(b"openend\n"),
+        _ => Ok(()),
     }
 }
 

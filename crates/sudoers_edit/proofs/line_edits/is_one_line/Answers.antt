@@ -1,6 +1,6 @@
 use Rattle.std.proofs.Common.{◌∙◌, sym, eqb-true}
 use Rattle.sudoers_edit.proofs.PolicyLemmas.{alone_of}
-use Rattle.sudoers_edit.proofs.editor.is_one_line.Goals as goal
+use Rattle.sudoers_edit.proofs.line_edits.is_one_line.Goals as goal
 
 pub returns-in-Ok-clause-alone : goal.returns-in-Ok-clause-alone
 returns-in-Ok-clause-alone c = λ one.

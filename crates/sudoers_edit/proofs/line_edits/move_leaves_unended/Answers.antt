@@ -4,8 +4,8 @@ use Rattle.sudoers_tree.specs.declared.line.Line.{Line}
 use Rattle.sudoers_tree.specs.Policy.{texts}
 use Rattle.sudoers_edit.proofs.EditLemmas.{stays_in_place, move_before, move_behind}
 use Rattle.sudoers_edit.proofs.PolicyLemmas.{text_at, count_texts, past_lines}
-use Rattle.sudoers_edit.proofs.editor.move_leaves_unended.Goals as goal
-use Rattle.sudoers_edit.proofs.editor.move_leaves_unended.Goals.{then-to-last, else-to-last}
+use Rattle.sudoers_edit.proofs.line_edits.move_leaves_unended.Goals as goal
+use Rattle.sudoers_edit.proofs.line_edits.move_leaves_unended.Goals.{then-to-last, else-to-last}
 
 pub returns-then-from-to : goal.returns-then-from-to
 returns-then-from-to c =

@@ -1,5 +1,5 @@
 use Rattle.sudoers_edit.proofs.LastLemmas.{stays}
-use Rattle.sudoers_edit.proofs.editor.stays_cut.Goals as goal
+use Rattle.sudoers_edit.proofs.line_edits.stays_cut.Goals as goal
 
 pub returns : goal.returns
 returns c =

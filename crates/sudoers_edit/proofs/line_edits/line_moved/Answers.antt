@@ -4,15 +4,15 @@ use Rattle.sudoers_text.specs.Ended.{has_unended_inside}
 use Rattle.sudoers_tree.specs.declared.line.Line.{Line}
 use Rattle.sudoers_tree.specs.Policy.{texts}
 use Rattle.sudoers_edit.specs.declared.edit.Edit.TheVariants.{Move}
-use Rattle.sudoers_edit.specs.Editing.{Desk, moved}
+use Rattle.sudoers_edit.specs.LineEdits.{moved}
 use Rattle.sudoers_edit.specs.Leading.{Leads}
 use Rattle.sudoers_edit.proofs.EditLemmas.{move_leads}
 use Rattle.sudoers_edit.proofs.PolicyLemmas.{count_texts}
-use Rattle.sudoers_edit.proofs.editor.Editor.move_line.Goals as goal
+use Rattle.sudoers_edit.proofs.line_edits.line_moved.Goals as goal
 
-pub settle-requires : goal.settle-requires
-settle-requires c =
-    let policy : List Line = c.self.inside.policy in
+pub returns : goal.returns
+returns c =
+    let policy : List Line = c.args.policy.now in
     let from : ℕ = c.args.from in
     let to : ℕ = c.args.to in
     let inside : from < length (texts policy) = omega (arith, c.if-place-count.false, c.len-count.ensures, count_texts policy) in
@@ -21,6 +21,6 @@ settle-requires c =
     let whole : c.as_slice.result.now ≡ join (moved from to (texts policy)) =
     c.as_slice.ensures.value ∙ c.in_ok-whole.ensures ∙ ap (λ ls. join (moved from to (texts ls))) c.lines.ensures in
     let leads = move_leads (texts policy) from to c.as_slice.result.now c.is_sound.ensures inside within ended whole in
-    let told : Leads (record { edit = Move from to; inverse = c.in_ok-inverse.inverse }) (texts policy) c.as_slice.result.now =
-    subst (λ i. Leads (record { edit = Move from to; inverse = i }) (texts policy) c.as_slice.result.now) (sym c.in_ok-inverse.ensures) leads in
-    subst (λ (d : Desk). Leads (record { edit = Move from to; inverse = c.in_ok-inverse.inverse }) d.lines c.as_slice.result.now) c.self.view_is told
+    let told : Leads (Move from to) c.in_ok-inverse.inverse (texts policy) c.as_slice.result.now =
+    subst (λ i. Leads (Move from to) i (texts policy) c.as_slice.result.now) (sym c.in_ok-inverse.ensures) leads in
+    c.land.ensures (Move from to) (texts policy) told

@@ -3,7 +3,7 @@ use Rattle.sudoers_tree.specs.declared.line.Line.{Line}
 use Rattle.sudoers_tree.specs.Policy.{texts}
 use Rattle.sudoers_edit.proofs.EditLemmas.{open_insert, last_decides}
 use Rattle.sudoers_edit.proofs.PolicyLemmas.{at_get, text_at, count_texts, past_lines}
-use Rattle.sudoers_edit.proofs.editor.leaves_unended.Goals as goal
+use Rattle.sudoers_edit.proofs.line_edits.leaves_unended.Goals as goal
 
 pub returns-then-at-len : goal.returns-then-at-len
 returns-then-at-len c =
