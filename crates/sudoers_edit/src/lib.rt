@@ -1,6 +1,7 @@
 //! The editor of a sudoers policy: its edits, the journal that takes them back, and the script that spells them.
 #![tactic(auto)]
 
+mod alike;
 mod edit;
 mod editor;
 mod landing;
@@ -11,6 +12,7 @@ mod reread;
 mod script;
 mod script_line;
 mod spelling;
+mod splice;
 mod text;
 
 pub use edit::{Edit, EditFault, Edits};
