@@ -1,5 +1,5 @@
 -- Which bytes of its line a member or a definition owns.
-use Rattle.std.specs.Prelude.{ℕ, zero, suc, ◌-◌, Bool, false, ◌&&◌, ◌==◌, nat_le, List, [], ◌∷◌, ◌++◌, length, take, drop, remove, map, Option, Some, None, slice_get}
+use Rattle.std.specs.Prelude.{ℕ, zero, suc, ◌-◌, Bool, false, ◌&&◌, ◌==◌, nat_le, if◌then◌else◌, List, [], ◌∷◌, ◌++◌, length, take, drop, remove, map, Option, Some, None, slice_get}
 use Rattle.std.specs.Option.{option_map}
 use Rattle.sudoers_line.specs.declared.node.Def.{Def}
 use Rattle.sudoers_line.specs.declared.node.Member.{Member}
@@ -22,13 +22,15 @@ def_extents defs = map (λ (d : Def). (d.start, d.stop)) defs
 
 -- where the bytes begin that the one at a place owns: at the end of the one before it; of the first, at its start
 abbrev pub seam : ℕ → List Extent → Option ℕ
-seam zero extents = option_map (λ (x : Extent). x.0) (slice_get extents 0)
-seam (suc at) extents = option_map (λ (x : Extent). x.1) (slice_get extents at)
+seam at extents =
+    if at == 0 then option_map (λ (x : Extent). x.0) (slice_get extents 0)
+    else option_map (λ (x : Extent). x.1) (slice_get extents (at - 1))
 
 -- where they stop: at its own end; of the first, at the start of the next
 abbrev pub owned_stop : ℕ → List Extent → Option ℕ
-owned_stop zero extents = option_map (λ (x : Extent). x.0) (slice_get extents 1)
-owned_stop (suc at) extents = option_map (λ (x : Extent). x.1) (slice_get extents (suc at))
+owned_stop at extents =
+    if at == 0 then option_map (λ (x : Extent). x.0) (slice_get extents 1)
+    else option_map (λ (x : Extent). x.1) (slice_get extents at)
 
 -- the bytes from one place of a line to another
 abbrev pub slice : ℕ → ℕ → List ℕ → List ℕ

@@ -1,52 +1,62 @@
 //! Members and definitions that say the same, wherever in their lines they stand.
-ghost use Rattle.std.specs.Prelude.{◌≡◌};
-ghost use Rattle.sudoers_edit.specs.Alike.{are_alike, is_same_digest as same_digest, is_same_mask as same_mask, is_same_args as same_args, is_same_atom as same_atom, is_same_member as same_member, is_same_def as same_def};
+ghost use Rattle.std.specs.Prelude.{◌≡◌, Bool};
+ghost use Rattle.sudoers_edit.specs.Alike.{are_alike as alike_lists, is_same_digest as same_digest, is_same_mask as same_mask, is_same_args as same_args, is_same_atom as same_atom, is_same_member as same_member, is_same_def as same_def};
 
 use sudoers_tree::{Args, Atom, Def, Digest, Mask, Member};
 
-/// Whether two definitions say the same.
-pub fn is_same_def(def: &Def, other: &Def) -> bool
-    ensures { result ≡ same_def def.now other.now }
-{
-    def.name.as_slice() == other.name.as_slice()
-        && are_same_members(def.members.as_slice(), other.members.as_slice())
+/// What can say the same as another.
+pub trait Alike {
+    ghost alike: { Self → Self → Bool };
+
+    /// Whether it says the same.
+    fn is_like(&self, other: &Self) -> bool
+        ensures { result ≡ alike self.now other.now };
 }
 
-/// Whether lists of members say the same.
-pub fn are_same_members(members: &[Member], others: &[Member]) -> bool
-    ensures { result ≡ are_alike same_member members.now others.now }
-{
-    if members.len() != others.len() {
-        return false;
+impl Alike for Def {
+    ghost alike = { same_def };
+
+    fn is_like(&self, other: &Def) -> bool {
+        self.name.as_slice() == other.name.as_slice()
+            && are_alike(self.members.as_slice(), other.members.as_slice())
     }
-    for (member, other) in members.iter().zip(others.iter()) {
-        if !is_same_member(member, other) {
+}
+
+impl Alike for Member {
+    ghost alike = { same_member };
+
+    fn is_like(&self, other: &Member) -> bool {
+        self.negated == other.negated
+            && are_alike(self.digests.as_slice(), other.digests.as_slice())
+            && is_same_atom(&self.atom, &other.atom)
+    }
+}
+
+impl Alike for Digest {
+    ghost alike = { same_digest };
+
+    fn is_like(&self, other: &Digest) -> bool {
+        self.kind == other.kind && self.text.as_slice() == other.text.as_slice()
+    }
+}
+
+/// Whether lists have the same length, and each two items that stand at one place are alike.
+pub fn are_alike<T: Alike>(items: &[T], others: &[T]) -> bool
+    ensures { result ≡ alike_lists T.alike items.now others.now }
+{
+    let mut rest = items;
+    let mut left = others;
+    while let Some((item, behind)) = rest.split_first() {
+        let Some((other, after)) = left.split_first() else {
+            return false;
+        };
+        if !item.is_like(other) {
             return false;
         }
+        rest = behind;
+        left = after;
     }
-    true
-}
-
-fn is_same_member(member: &Member, other: &Member) -> bool
-    ensures { result ≡ same_member member.now other.now }
-{
-    member.negated == other.negated
-        && are_same_digests(member.digests.as_slice(), other.digests.as_slice())
-        && is_same_atom(&member.atom, &other.atom)
-}
-
-fn are_same_digests(digests: &[Digest], others: &[Digest]) -> bool
-    ensures { result ≡ are_alike same_digest digests.now others.now }
-{
-    if digests.len() != others.len() {
-        return false;
-    }
-    for (digest, other) in digests.iter().zip(others.iter()) {
-        if digest.kind != other.kind || digest.text.as_slice() != other.text.as_slice() {
-            return false;
-        }
-    }
-    true
+    left.is_empty()
 }
 
 fn is_same_atom(atom: &Atom, other: &Atom) -> bool

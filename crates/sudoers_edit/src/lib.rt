@@ -6,6 +6,7 @@ mod edit;
 mod editor;
 mod landing;
 mod line_edits;
+mod one_more;
 mod physical;
 mod pruning;
 mod reread;
@@ -13,6 +14,7 @@ mod script;
 mod script_line;
 mod spelling;
 mod splice;
+mod splice_edits;
 mod text;
 
 pub use edit::{Edit, EditFault, Edits};

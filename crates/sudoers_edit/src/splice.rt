@@ -1,5 +1,5 @@
 //! Which bytes of its line a member or a definition owns, and the line without them or with others.
-ghost use Rattle.std.specs.Prelude.{◌≡◌, ◌≤◌, ◌×◌, ℕ, map, length, IfOk};
+ghost use Rattle.std.specs.Prelude.{◌≡◌, ◌≤◌, ℕ, map, length, IfOk};
 ghost use Rattle.sudoers_edit.specs.Splice.{Extent, seam as the_seam, owned_stop as the_stop, line_with as with_splice, line_without as without_slice};
 
 use std::alloc::{AllocError, Global};
