@@ -1,6 +1,6 @@
 //! Which bytes of its line a member or a definition owns, and the line without them or with others.
-ghost use Rattle.std.specs.Prelude.{◌≡◌, ◌≤◌, ℕ, map, length, IfOk};
-ghost use Rattle.sudoers_edit.specs.Splice.{Extent, seam as the_seam, owned_stop as the_stop, line_with as with_splice, line_without as without_slice};
+ghost use Rattle.std.specs.Prelude.{◌≡◌, ◌≤◌, ◌+◌, ℕ, List, map, length, IfOk};
+ghost use Rattle.sudoers_edit.specs.Splice.{Extent, seam as the_seam, owned_stop as the_stop, line_with as with_splice, line_without as without_slice, slice};
 
 use std::alloc::{AllocError, Global};
 use sudoers_tree::{Def, Member};
@@ -83,3 +83,9 @@ pub fn line_without(
     text.extend_from_slice(&line[to..])?;
     Ok(text)
 }
+
+/// A law: a splice put in and taken out, and a slice taken out and put in.
+pub fn splices_are_undone()
+    ensures taken { (line splice : List ℕ) (at : ℕ) → at ≤ length line → without_slice at (at + length splice) (with_splice at splice line) ≡ line }
+    ensures put { (line : List ℕ) (from to : ℕ) → from ≤ to → to ≤ length line → with_splice from (slice from to line) (without_slice from to line) ≡ line }
+{}

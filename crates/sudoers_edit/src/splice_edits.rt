@@ -7,7 +7,7 @@ ghost use Rattle.sudoers_edit.specs.Landing.{replaced};
 ghost use Rattle.sudoers_edit.specs.Leading.{Lands, Replaces};
 
 use crate::edit::{Edit, EditFault, Edits};
-use crate::landing::{Landed, is_sound, land};
+use crate::landing::{Landed, is_sound, land, reads_lines};
 use crate::one_more::OneMore;
 use crate::reread::text_replaced;
 use crate::splice::{line_with, line_without, owned_stop, seam};
@@ -110,13 +110,26 @@ fn line_replaced(
 {
     let alloc = policy.allocator();
     is_sound(policy);
+    reads_lines();
     line_alone_is_whole();
     if text.len() > LINE_LIMIT {
         return Err(EditFault::TooLarge);
     }
-    if at + 1 < policy.len() && !ends_in_lf(text) {
+    if leaves_open(policy, at, text) {
         return Err(EditFault::OpenLine);
     }
     let whole = text_replaced(alloc, policy.lines(), at, text)?;
     land(alloc, whole.as_slice(), inverse)
+}
+
+/// Whether a line without LF would stand before another once the text stands in the place of a line.
+fn leaves_open(policy: &Policy, at: usize, text: &[u8]) -> bool
+    requires { at < length policy.now }
+    ensures { result ≡ has_unended_inside (replaced at text.now (texts policy.now)) }
+{
+    is_sound(policy);
+    if ends_in_lf(text) {
+        return false;
+    }
+    policy.len() - at > 1
 }
