@@ -1,5 +1,7 @@
 mod AlikeLemmas
 mod ChangedLemmas
+mod BackLemmas
+mod DefLemmas
 mod EditLemmas
 mod FrontLemmas
 mod HistoryLemmas
@@ -15,4 +17,5 @@ mod ReplacedLemmas
 mod ScriptLemmas
 mod SpellingLemmas
 mod SpliceLemmas
+mod WayBackLemmas
 mod WordLemmas
