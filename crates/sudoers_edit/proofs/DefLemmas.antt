@@ -24,13 +24,13 @@ add_replaces policy n at from s text line known here put forth = record {
   forth = ap (add_def n at s) (def_of_policy policy known.read) ∙ forth;
   inverse_is = refl;
   back = λ after read same.
-    let more = def_more at from (from + length s) put.new line.node put.more in
-    let swap = swaps policy after known n line text put.new here put.says read same in
-    ap (run (DropDef n at ∷ [])) (sym same)
-    ∙ run_one (DropDef n at) (texts after) (texts policy)
-    (ap (drop_def n at) swap.again
-    ∙ drops_def n at from (from + length s) after (record { text = text; node = put.new }) more.more swap.here (ap defs_of more.is) more.owned.begins more.owned.stops
-    ∙ put_back among.Definitions at from n s text policy after line known here put read same);
+      let more = def_more at from (from + length s) put.new line.node put.more in
+      let swap = swaps policy after known n line text put.new here put.says read same in
+      ap (run (DropDef n at ∷ [])) (sym same)
+      ∙ run_one (DropDef n at) (texts after) (texts policy)
+      (ap (drop_def n at) swap.again
+      ∙ drops_def n at from (from + length s) after (record { text = text; node = put.new }) more.more swap.here (ap defs_of more.is) more.owned.begins more.owned.stops
+      ∙ put_back among.Definitions at from n s text policy after line known here put read same);
 }
 
 -- the bytes that a definition owns
@@ -48,11 +48,11 @@ drop_replaces policy n at from to s text line defs known here is begins stops cu
   forth = ap (drop_def n at) (def_of_policy policy known.read) ∙ forth;
   inverse_is = ap (λ z. AddDef n at z ∷ []) (owned ∙ sym (owned_is policy n at from to line defs here is begins stops) ∙ ap (owned_def n at) (sym (def_of_policy policy known.read)));
   back = λ after read same.
-    let more = def_more at from to line.node cut.new cut.more in
-    let swap = swaps policy after known n line text cut.new here cut.says read same in
-    ap (run (AddDef n at s ∷ [])) (sym same)
-    ∙ run_one (AddDef n at s) (texts after) (texts policy)
-    (ap (add_def n at s) swap.again
-    ∙ adds_def n at from s after (record { text = text; node = cut.new }) more.less swap.here (ap defs_of more.was) more.owned.fits
-    ∙ cut_back among.Definitions at from to n s text policy after line known here cut owned read same);
+      let more = def_more at from to line.node cut.new cut.more in
+      let swap = swaps policy after known n line text cut.new here cut.says read same in
+      ap (run (AddDef n at s ∷ [])) (sym same)
+      ∙ run_one (AddDef n at s) (texts after) (texts policy)
+      (ap (add_def n at s) swap.again
+      ∙ adds_def n at from s after (record { text = text; node = cut.new }) more.less swap.here (ap defs_of more.was) more.owned.fits
+      ∙ cut_back among.Definitions at from to n s text policy after line known here cut owned read same);
 }

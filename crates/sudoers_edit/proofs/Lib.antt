@@ -6,10 +6,12 @@ mod EditLemmas
 mod FrontLemmas
 mod HistoryLemmas
 mod LastLemmas
+mod MemberLemmas
 mod MoreLemmas
 mod NumberLemmas
 mod OneSpelling
 mod PhysicalLemmas
+mod PlaceLemmas
 mod PolicyLemmas
 mod ReadingLemmas
 mod ReplaceLemmas

@@ -1,5 +1,5 @@
 -- A device of the proof, which no public contract cites: where an edit leads.
-use Rattle.std.specs.Prelude.{◌≡◌, ◌<◌, ◌≤◌, ◌+◌, ℕ, true, false, length, List, Some, Result, Ok, Err}
+use Rattle.std.specs.Prelude.{◌≡◌, ◌<◌, ◌≤◌, ◌+◌, ℕ, true, false, length, slice_get, List, Some, Result, Ok, Err}
 use Rattle.sudoers_text.specs.Line.{join}
 use Rattle.sudoers_text.specs.Ended.{has_unended_inside}
 use Rattle.sudoers_text.specs.Cut.{StandAlone}
@@ -16,7 +16,11 @@ use Rattle.std.specs.List.{AllByRecursion}
 use Rattle.sudoers_text.specs.Fault.{line_limit}
 use Rattle.sudoers_edit.specs.OneLine.{IsAlone, IsSound}
 use Rattle.sudoers_edit.specs.Splice.{line_with, line_without}
-use Rattle.sudoers_edit.specs.SpliceEdits.{is_one_more}
+use Rattle.sudoers_edit.specs.SpliceEdits.{is_one_more, defs_of}
+use Rattle.sudoers_line.specs.declared.node.Def.{Def}
+use Rattle.sudoers_line.specs.declared.node.Kind.{Kind}
+use Rattle.sudoers_tree.specs.declared.place.Place.{Place}
+use Rattle.sudoers_tree.specs.Definition.{place_of}
 use Rattle.sudoers_line.specs.declared.node.Node.{Node}
 use Rattle.sudoers_tree.specs.Single.{said}
 use Rattle.sudoers_edit.specs.Editing.{Refuses, step, inv, run}
@@ -64,6 +68,14 @@ pub record CutOut (among : Among) (at from to : ℕ) (old : Line) (text : List �
   pub new : Node
   pub says : said text ≡ Some new
   pub more : is_one_more among at from to (Some old.node) (Some new) ≡ true
+
+-- The alias is defined at this place, in this line, and so.
+pub record IsDefAt (k : Kind) (name : List ℕ) (policy : List Line) (place : Place) (line : Line) (d : Def) : Type 0 where
+  pub named : place_of k name policy ≡ Some place
+  pub here : slice_get policy place.line ≡ Some line
+  pub defs : List Def
+  pub makes : defs_of line.node ≡ Some defs
+  pub stands : slice_get defs place.def ≡ Some d
 
 -- The edit has led to this policy, and these edits lead back.
 pub record IsLanded (edit : Edit) (lines : List (List ℕ)) (landed : Landed) : Type 0 where

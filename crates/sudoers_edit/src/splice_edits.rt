@@ -1,14 +1,16 @@
 //! Members and definitions put in and taken out.
-ghost use Rattle.std.specs.Prelude.{◌≡◌, ◌≤◌, ◌<◌, length, slice_get, Some, Result, Err, List, ℕ, IfOk, MatchResult};
+ghost use Rattle.std.specs.Prelude.{◌≡◌, ◌≤◌, ◌<◌, ◌∷◌, [], length, slice_get, Some, Result, Err, List, ℕ, IfOk, MatchResult};
 ghost use Rattle.sudoers_text.specs.Ended.{has_unended_inside};
 ghost use Rattle.sudoers_tree.specs.Policy.{texts};
 ghost use Rattle.sudoers_edit.specs.declared.edit.Edit.{Edit as AnEdit};
 ghost use Rattle.sudoers_edit.specs.Editing.{Refuses};
 ghost use Rattle.sudoers_edit.specs.Landing.{replaced, changed_or_refusal};
-ghost use Rattle.sudoers_edit.specs.Leading.{Lands, Replaces, PutIn, CutOut, IsKnown};
-ghost use Rattle.sudoers_edit.specs.SpliceEdits.{Lines, put_in as with_more, cut_out as with_less, with_defs, defs_of};
+ghost use Rattle.sudoers_edit.specs.Leading.{Lands, Replaces, PutIn, CutOut, IsKnown, IsDefAt};
+ghost use Rattle.sudoers_edit.specs.SpliceEdits.{Lines, put_in as with_more, cut_out as with_less, with_defs, with_def, defs_of};
 ghost use Rattle.sudoers_tree.specs.declared.line.Line.{Line as LineOf};
 ghost use Rattle.sudoers_line.specs.declared.node.Def.{Def as DefOf};
+ghost use Rattle.sudoers_tree.specs.declared.place.Place.{Place as PlaceOf};
+ghost use Rattle.sudoers_tree.specs.Definition.{place_of};
 ghost use Rattle.sudoers_edit.specs.declared.edit.EditFault.{EditFault as Refusal};
 
 use crate::edit::{Edit, EditFault, Edits};
@@ -17,9 +19,9 @@ use crate::one_more::{Among, OneMore};
 use crate::reread::text_replaced;
 use crate::splice::{line_with, line_without, place_to_add, place_to_drop};
 use crate::text::Text;
-use std::alloc::Global;
+use std::alloc::{AllocError, Global};
 use sudoers_text::{LINE_LIMIT, ends_in_lf, line_alone_is_whole, line_alone_size};
-use sudoers_tree::{Def, Kind, Line, Node, Policy, lines_are_said, read_line};
+use sudoers_tree::{Def, Kind, Line, Node, Place, Policy, lines_are_said, read_line};
 
 /// A definition put into a line.
 pub fn def_added(policy: &Policy, line: u32, at: u32, splice: &[u8]) -> Result<Landed, EditFault>
@@ -64,6 +66,113 @@ pub fn def_dropped(policy: &Policy, line: u32, at: u32) -> Result<Landed, EditFa
     let splice = Text::from_slice(alloc, &old.text.as_slice()[from..to])?;
     let inverse = Edits::one(alloc, Edit::AddDef { line, at, splice })?;
     line_replaced(policy, line as usize, text.as_slice(), inverse)
+}
+
+/// A member put into the list of an alias.
+pub fn member_added(
+    policy: &Policy,
+    kind: Kind,
+    name: &[u8],
+    at: u32,
+    splice: &[u8],
+) -> Result<Landed, EditFault>
+    ensures { Lands (Edit.AddMember kind name.now at splice.now) (texts policy.now) result }
+{
+    is_known(policy);
+    let alloc = policy.allocator();
+    let (place, old, def) = match def_at(policy, kind, name) {
+        Ok(found) => found,
+        Err(fault) => return Err(fault),
+    };
+    let from = match place_to_add(def.members.as_slice(), at as usize) {
+        Ok(from) => from,
+        Err(fault) => return Err(fault),
+    };
+    let among = Among::Members { def: place.def };
+    let text = match put_in(alloc, among, at as usize, from, splice, old) {
+        Ok(text) => text,
+        Err(fault) => return Err(fault),
+    };
+    let name = Text::from_slice(alloc, name)?;
+    let inverse = Edits::one(alloc, Edit::DropMember { kind, name, at })?;
+    line_replaced(policy, place.line, text.as_slice(), inverse)
+}
+
+/// A member taken out of the list of an alias.
+pub fn member_dropped(
+    policy: &Policy,
+    kind: Kind,
+    name: &[u8],
+    at: u32,
+) -> Result<Landed, EditFault>
+    ensures { Lands (Edit.DropMember kind name.now at) (texts policy.now) result }
+{
+    is_known(policy);
+    let alloc = policy.allocator();
+    let (place, old, def) = match def_at(policy, kind, name) {
+        Ok(found) => found,
+        Err(fault) => return Err(fault),
+    };
+    let (from, to) = match place_to_drop(def.members.as_slice(), at as usize) {
+        Ok(bytes) => bytes,
+        Err(fault) => return Err(fault),
+    };
+    let among = Among::Members { def: place.def };
+    let text = match cut_out(alloc, among, at as usize, from, to, old) {
+        Ok(text) => text,
+        Err(fault) => return Err(fault),
+    };
+    let inverse = member_again(alloc, kind, name, at, &old.text.as_slice()[from..to])?;
+    line_replaced(policy, place.line, text.as_slice(), inverse)
+}
+
+/// The edit that puts a member in again.
+fn member_again(
+    alloc: Global,
+    kind: Kind,
+    name: &[u8],
+    at: u32,
+    splice: &[u8],
+) -> Result<Edits, AllocError>
+    ensures { IfOk result (λ edits. edits ≡ Edit.AddMember kind name.now at splice.now ∷ []) }
+{
+    let name = Text::from_slice(alloc, name)?;
+    let splice = Text::from_slice(alloc, splice)?;
+    Edits::one(
+        alloc,
+        Edit::AddMember {
+            kind,
+            name,
+            at,
+            splice,
+        },
+    )
+}
+
+/// Where an alias is defined: the place, the line and the definition.
+fn def_at<'a>(
+    policy: &'a Policy,
+    kind: Kind,
+    name: &[u8],
+) -> Result<(Place, &'a Line, &'a Def), EditFault>
+    ensures outcome { (next : PlaceOf → LineOf → DefOf → Result Lines Refusal) → MatchResult result
+        (λ found. with_def (place_of kind name.now policy.now) policy.now next ≡ next found.0 found.1.now found.2.now)
+        (λ fault. with_def (place_of kind name.now policy.now) policy.now next ≡ Err fault) }
+    ensures found { IfOk result (λ found. IsDefAt kind name.now policy.now found.0 found.1.now found.2.now) }
+{
+    let Some(place) = policy.definition(kind, name) else {
+        return Err(EditFault::NoAlias);
+    };
+    let Some(line) = policy.lines().get(place.line) else {
+        return Err(EditFault::NoAlias);
+    };
+    let Node::Alias { defs, .. } = &line.node else {
+        return Err(EditFault::NoAlias);
+    };
+    match defs.as_slice().get(place.def) {
+        Some(def) => Ok((place, line, def)),
+        None => Err(EditFault::NoAlias),
+    }
 }
 
 /// The line of a number, and its definitions.
