@@ -9,6 +9,7 @@ use crate::edit::{Edit, EditFault, Edits};
 use crate::landing::{Landed, is_sound};
 use crate::line_edits::{end_closed, end_opened, line_deleted, line_inserted, line_moved};
 use crate::reread::reread;
+use crate::splice_edits::{def_added, def_dropped, member_added, member_dropped};
 use crate::text::Text;
 use std::alloc::{AllocError, Global};
 use std::marker::Model;
@@ -199,6 +200,17 @@ fn landed(policy: &Policy, edit: &Edit) -> Result<Landed, EditFault>
         Edit::Insert { at, text } => line_inserted(policy, *at, text.as_slice()),
         Edit::Delete { at } => line_deleted(policy, *at),
         Edit::Move { from, to } => line_moved(policy, *from, *to),
+        Edit::AddMember {
+            kind,
+            name,
+            at,
+            splice,
+        } => member_added(policy, *kind, name.as_slice(), *at, splice.as_slice()),
+        Edit::DropMember { kind, name, at } => {
+            member_dropped(policy, *kind, name.as_slice(), *at)
+        }
+        Edit::AddDef { line, at, splice } => def_added(policy, *line, *at, splice.as_slice()),
+        Edit::DropDef { line, at } => def_dropped(policy, *line, *at),
         Edit::EndLine => end_closed(policy),
         Edit::OpenEnd => end_opened(policy),
         _ => Err(EditFault::NoMemory),
