@@ -1,6 +1,7 @@
 //! The editor of a sudoers policy: its edits, the journal that takes them back, and the script that spells them.
 #![tactic(auto)]
 
+mod draft;
 mod edit;
 mod editor;
 mod physical;
