@@ -51,4 +51,4 @@ later_ok (Err _) edits more line begun so_far text said new none e h = h
 pub later_err : (result : Result (Unit {0}) ScriptFault) (edits more : List Edit) (line : ℕ) (begun : Draft) (so_far text : List ℕ) (said : Said) → IsNoText said → more ≡ edits ++ with_text begun so_far ∷ [] → IfErr result (λ fault. (rest : Rest) → Tells fault (behind more (command_line rest line (length more) said))) → IfErr result (λ fault. (rest : Rest) → Tells fault (behind edits (later_line rest line (length edits + 1) begun so_far text said)))
 later_err (Ok _) edits more line begun so_far text said none e h = h
 later_err (Err fault) edits more line begun so_far text said none e h =
-    λ rest. rw (later_step rest edits line begun so_far text said no, ← e) (h rest)
+    λ rest. rw (later_step rest edits line begun so_far text said none, ← e) (h rest)
