@@ -1,5 +1,5 @@
 -- What an edit leaves of the lines, and that its inverse gives them back.
-use Rattle.std.proofs.Common.{◌≡◌, ℕ, zero, suc, ◌-◌, ◌<◌, ◌≤◌, Bool, true, false, not, ◌||◌, List, [], ◌∷◌, ◌++◌, length, insert, remove, slice_index_or, reverse, Option, Some, Result, Ok, refl, sym, ap, subst, ◌∙◌, arith, unwrap_or}
+use Rattle.std.proofs.Common.{◌≡◌, ℕ, zero, suc, ◌-◌, ◌<◌, ◌≤◌, Bool, true, false, not, ◌||◌, List, [], ◌∷◌, ◌++◌, length, insert, remove, slice_index_or, reverse, Option, Some, Result, Ok, inl, inr, refl, sym, ap, subst, ◌∙◌, arith, unwrap_or}
 use Rattle.std.proofs.lemmas.Bool.{le-ltb, lt-ltb, or_parts as or_false}
 use Rattle.std.proofs.lemmas.List.{reverse-append}
 use Rattle.std.specs.Prelude.{slice_get}
@@ -11,11 +11,14 @@ use Rattle.sudoers_edit.specs.declared.edit.Edit.{Edit}
 use Rattle.sudoers_edit.specs.declared.edit.Edit.TheVariants.{Insert, Delete, Move}
 use Rattle.sudoers_edit.specs.declared.edit.EditFault.{EditFault}
 use Rattle.sudoers_edit.specs.declared.edit.EditFault.TheVariants.{NoLine, NotOneLine, OpenLine, EndAsIs, TooLarge, NotPolicy, NoMemory}
-use Rattle.sudoers_edit.specs.Editing.{lines_or_refusal, policy_or_refusal, where_policy, moved, Refuses, step, inv, run, IsUndoable, first_lines}
+use Rattle.sudoers_edit.specs.Landing.{lines_or_refusal, policy_or_refusal, where_policy}
+use Rattle.sudoers_edit.specs.LineEdits.{moved}
+use Rattle.sudoers_edit.specs.Editing.{Refuses, step, inv, run, IsUndoable, first_lines}
 use Rattle.sudoers_tree.specs.declared.line.Line.{Line}
 use Rattle.sudoers_edit.specs.OneLine.{is_one_line, IsAlone, IsSound}
 use Rattle.sudoers_tree.specs.Policy.{texts}
-use Rattle.sudoers_edit.specs.Leading.{Leads}
+use Rattle.sudoers_edit.specs.Leading.{Leads, IsLanded, Lands}
+use Rattle.sudoers_edit.specs.declared.landing.Landed.{Landed}
 use Rattle.sudoers_edit.specs.declared.editor.Entry.{Entry}
 
 or-false : (x : Bool) → (x || false) ≡ x
@@ -176,13 +179,8 @@ pub by_text : (ls : List (List ℕ)) → has_unended_inside ls ≡ false → lin
 by_text ls ended = rw ended refl
 
 pub refuses_lines : (f : EditFault) (ls : List (List ℕ)) (r : Result (List Line) EditFault) → Refuses f r → Refuses f (where_policy ls r)
-refuses_lines NoLine ls r is = ap (where_policy ls) is
-refuses_lines NotOneLine ls r is = ap (where_policy ls) is
-refuses_lines OpenLine ls r is = ap (where_policy ls) is
-refuses_lines EndAsIs ls r is = ap (where_policy ls) is
-refuses_lines TooLarge ls r is = ap (where_policy ls) is
-refuses_lines (NotPolicy fault) ls r is = ap (where_policy ls) is
-refuses_lines NoMemory ls r is = tt
+refuses_lines f ls r (inl none) = inl none
+refuses_lines f ls r (inr is) = inr (ap (where_policy ls) is)
 
 -- one step as a run
 pub run_one : (e : Edit) (ls new : List (List ℕ)) → step e ls ≡ Ok new → run (e ∷ []) ls ≡ Some new
@@ -245,62 +243,62 @@ last_decides ls (suc n) t x l some is h =
 
 pub insert_leads : (ls : List (List ℕ)) (at : ℕ) (t text : List ℕ) → IsSound ls → at ≤ length ls → is_one_line t ≡ true → IsAlone t
     → has_unended_inside (insert ls at t) ≡ false → text ≡ join (insert ls at t)
-    → Leads (record { edit = Insert at t; inverse = Delete at ∷ [] }) ls text
+    → Leads (Insert at t) (Delete at ∷ []) ls text
 insert_leads ls at t text sound within one alone ended is = record {
   new = insert ls at t;
   joined = is;
   each = λ policy read. each_insert ls at t sound.each alone;
   ended = ended;
   forth = step_insert ls at t within one;
-  inverse = refl;
+  inverse_is = refl;
   back = λ policy read. back_insert ls at t sound within;
 }
 
 pub delete_leads : (ls : List (List ℕ)) (at : ℕ) (text : List ℕ) → IsSound ls → at < length ls → text ≡ join (remove ls at)
-    → Leads (record { edit = Delete at; inverse = Insert at (slice_index_or ls at []) ∷ [] }) ls text
+    → Leads (Delete at) (Insert at (slice_index_or ls at []) ∷ []) ls text
 delete_leads ls at text sound within is = record {
   new = remove ls at;
   joined = is;
   each = λ policy read. each_remove ls at sound.each;
   ended = open_remove ls at sound.ended;
   forth = step_delete ls at within;
-  inverse = refl;
+  inverse_is = refl;
   back = λ policy read. back_delete ls at sound within;
 }
 
 pub move_leads : (ls : List (List ℕ)) (from to : ℕ) (text : List ℕ) → IsSound ls → from < length ls → to < length ls
     → has_unended_inside (moved from to ls) ≡ false → text ≡ join (moved from to ls)
-    → Leads (record { edit = Move from to; inverse = Move to from ∷ [] }) ls text
+    → Leads (Move from to) (Move to from ∷ []) ls text
 move_leads ls from to text sound inside within ended is = record {
   new = moved from to ls;
   joined = is;
   each = λ policy read. each_insert (remove ls from) to (slice_index_or ls from []) (each_remove ls from sound.each) (each_at ls from inside sound.each);
   ended = ended;
   forth = step_move ls from to inside within;
-  inverse = refl;
+  inverse_is = refl;
   back = λ policy read. back_move ls from to sound inside within;
 }
 
--- What an accepted edit leaves.
-pub settles : (entry : Entry) (ls new : List (List ℕ)) (text : List ℕ) (policy : List Line) (journal later : List Entry) → Leads entry ls text
-    → policy_or_refusal text ≡ Ok policy → ((lines : List (List ℕ)) → StandAlone lines → has_unended_inside lines ≡ false
-    → policy_or_refusal (join lines) ≡ Ok policy → texts policy ≡ lines)
-    → IsUndoable (reverse journal) ls → later ≡ journal ++ entry ∷ [] → new ≡ texts policy
-    → Leaves entry.edit entry.inverse ls new journal later
-settles entry ls new text policy journal later leads read same undoable later_is is =
+-- what the law says of lines that are read
+abbrev pub ReadsLaw : Type 0
+ReadsLaw = (lines : List (List ℕ)) (policy : List Line) → StandAlone lines → has_unended_inside lines ≡ false
+    → policy_or_refusal (join lines) ≡ Ok policy → texts policy ≡ lines
+
+-- The text is read as a policy.
+pub landed_by : ReadsLaw → (edit : Edit) (inverse : List Edit) (ls : List (List ℕ)) (text : List ℕ) (policy : List Line) → Leads edit inverse ls text
+    → policy_or_refusal text ≡ Ok policy → IsLanded edit ls (record { policy = policy; inverse = inverse })
+landed_by law edit inverse ls text policy leads read =
     let whole : policy_or_refusal (join leads.new) ≡ Ok policy = ap policy_or_refusal (sym leads.joined) ∙ read in
-    let reached : leads.new ≡ new = sym (same leads.new (leads.each policy whole) leads.ended whole) ∙ sym is in
-    let forth : step entry.edit ls ≡ Ok leads.new = leads.forth ∙ by_text leads.new leads.ended ∙ ap (where_policy leads.new) whole in
-    let entry_is : entry ≡ record { edit = entry.edit; inverse = inv entry.edit ls } = ap (λ i. record { edit = entry.edit; inverse = i }) leads.inverse in
-    let left =
-    left_by entry.edit ls new journal later (forth ∙ ap (λ z. Ok z) reached)
-    (ap (λ i. run i new) (sym leads.inverse) ∙ ap (run entry.inverse) (sym reached) ∙ leads.back policy whole) undoable
-    (later_is ∙ ap (λ e. journal ++ e ∷ []) entry_is) in
-    record { forth = left.forth; undoable = left.undoable; begun = left.begun }
+    let same : texts policy ≡ leads.new = law leads.new policy (leads.each policy whole) leads.ended whole in
+    record {
+      forth = leads.forth ∙ by_text leads.new leads.ended ∙ ap (where_policy leads.new) whole ∙ ap (λ z. Ok z) (sym same);
+      inverse_is = leads.inverse_is;
+      back = ap (run inverse) same ∙ leads.back policy whole;
+    }
 
 -- A refusal of the text is one of the edit.
-pub refused : (entry : Entry) (ls : List (List ℕ)) (text : List ℕ) (f : EditFault) → Leads entry ls text → Refuses f (policy_or_refusal text)
-    → Refuses f (step entry.edit ls)
-refused entry ls text f leads is =
+pub refused_by : (edit : Edit) (inverse : List Edit) (ls : List (List ℕ)) (text : List ℕ) (f : EditFault) → Leads edit inverse ls text
+    → Refuses f (policy_or_refusal text) → Refuses f (step edit ls)
+refused_by edit inverse ls text f leads is =
     subst (λ r. Refuses f r) (sym (leads.forth ∙ by_text leads.new leads.ended))
     (refuses_lines f leads.new (policy_or_refusal (join leads.new)) (subst (λ t. Refuses f (policy_or_refusal t)) leads.joined is))

@@ -11,7 +11,9 @@ use Rattle.sudoers_text.specs.Cut.{cut_of, StandAlone}
 use Rattle.sudoers_tree.specs.Policy.{texts}
 use Rattle.sudoers_edit.specs.declared.edit.Edit.TheVariants.{EndLine, OpenEnd}
 use Rattle.sudoers_edit.specs.declared.edit.EditFault.TheVariants.{EndAsIs, TooLarge}
-use Rattle.sudoers_edit.specs.Editing.{with_last, with_end, without_lf, is_last_too_long, ended_or_refusal, lines_or_refusal, step}
+use Rattle.sudoers_edit.specs.Landing.{lines_or_refusal}
+use Rattle.sudoers_edit.specs.LineEdits.{with_last, with_end, without_lf, is_last_too_long, ended_or_refusal}
+use Rattle.sudoers_edit.specs.Editing.{step}
 use Rattle.sudoers_edit.specs.OneLine.{IsAlone, IsSound}
 use Rattle.sudoers_edit.specs.LastLine.{StaysCut}
 use Rattle.sudoers_edit.specs.Leading.{Leads}
@@ -184,7 +186,7 @@ open_lacks ls line is h =
 -- these lines, with LF behind the last
 end_leads_parts : StaysCut → (front : List (List ℕ)) (line text : List ℕ) → IsSound (front ++ line ∷ []) → ends_in_lf line ≡ false
     → length line < line_limit → text ≡ join (front ++ line ∷ []) ++ 10 ∷ []
-    → Leads (record { edit = EndLine; inverse = OpenEnd ∷ [] }) (front ++ line ∷ []) text
+    → Leads EndLine (OpenEnd ∷ []) (front ++ line ∷ []) text
 end_leads_parts law front line text sound lacks short is =
     let new : List (List ℕ) = front ++ (line ++ 10 ∷ []) ∷ [] in
     let alone = law.size line (last_alone front line sound.each) in
@@ -194,7 +196,7 @@ end_leads_parts law front line text sound lacks short is =
       each = λ policy read. law.behind front line policy sound.each sound.ended lacks read;
       ended = sym (ended_last front line (line ++ 10 ∷ [])) ∙ sound.ended;
       forth = step_changed with_end front line (line ++ 10 ∷ []) (with_end_lacks line lacks) (omega (arith, short, length-append line (10 ∷ [])));
-      inverse = refl;
+      inverse_is = refl;
       back = λ policy read. run_one OpenEnd new (front ++ line ∷ [])
           (step_changed without_lf front (line ++ 10 ∷ []) line (without_lf_more line (λ e. omega (arith, alone.0, ap length e))) alone.1
           ∙ settled (front ++ line ∷ []) sound);
@@ -203,7 +205,7 @@ end_leads_parts law front line text sound lacks short is =
 -- these lines, without the LF of the last
 open_leads_parts : StaysCut → (front : List (List ℕ)) (line text : List ℕ) → IsSound (front ++ (line ++ 10 ∷ []) ∷ []) → line ≢ []
     → text ≡ join (front ++ line ∷ [])
-    → Leads (record { edit = OpenEnd; inverse = EndLine ∷ [] }) (front ++ (line ++ 10 ∷ []) ∷ []) text
+    → Leads OpenEnd (EndLine ∷ []) (front ++ (line ++ 10 ∷ []) ∷ []) text
 open_leads_parts law front line text sound some is =
     let old : List (List ℕ) = front ++ (line ++ 10 ∷ []) ∷ [] in
     let alone = law.size (line ++ 10 ∷ []) (last_alone front (line ++ 10 ∷ []) sound.each) in
@@ -213,17 +215,17 @@ open_leads_parts law front line text sound some is =
       each = λ policy read. (law.from front line policy sound.each sound.ended some read).0;
       ended = ended_last front line (line ++ 10 ∷ []) ∙ sound.ended;
       forth = step_changed without_lf front (line ++ 10 ∷ []) line (without_lf_more line some) (omega (arith, alone.1, length-append line (10 ∷ [])));
-      inverse = refl;
+      inverse_is = refl;
       back = λ policy read. run_one EndLine (front ++ line ∷ []) old
           (step_changed with_end front line (line ++ 10 ∷ []) (with_end_lacks line (law.from front line policy sound.each sound.ended some read).1) alone.1
           ∙ settled old sound);
     }
 
 pub end_leads : StaysCut → (ls : List (List ℕ)) (line text : List ℕ) → IsSound ls → slice_get ls (length ls - 1) ≡ Some line → ends_in_lf line ≡ false
-    → length line < line_limit → text ≡ join ls ++ 10 ∷ [] → Leads (record { edit = EndLine; inverse = OpenEnd ∷ [] }) ls text
+    → length line < line_limit → text ≡ join ls ++ 10 ∷ [] → Leads EndLine (OpenEnd ∷ []) ls text
 end_leads law ls line text sound at lacks short is =
     let p = last_parts ls line at in
-    subst (λ (z : List (List ℕ)). Leads (record { edit = EndLine; inverse = OpenEnd ∷ [] }) z text) (sym p.1)
+    subst (λ (z : List (List ℕ)). Leads EndLine (OpenEnd ∷ []) z text) (sym p.1)
     (end_leads_parts law p.0 line text (subst IsSound p.1 sound) lacks short (is ∙ ap (λ (z : List (List ℕ)). join z ++ 10 ∷ []) p.1))
 
 -- all bytes but the last of a text that ends in LF
@@ -235,11 +237,11 @@ but_last front body =
     ∙ ap (λ n. take n (whole ++ 10 ∷ [])) size ∙ take_front whole (10 ∷ [])
 
 pub open_leads : StaysCut → (ls : List (List ℕ)) (line text : List ℕ) → IsSound ls → slice_get ls (length ls - 1) ≡ Some line → ends_in_lf line ≡ true
-    → 2 ≤ length line → text ≡ take (length (join ls) - 1) (join ls) → Leads (record { edit = OpenEnd; inverse = EndLine ∷ [] }) ls text
+    → 2 ≤ length line → text ≡ take (length (join ls) - 1) (join ls) → Leads OpenEnd (EndLine ∷ []) ls text
 open_leads law ls line text sound at ended long is =
     let p = last_parts ls line at in
     let q = lf_parts line long ended in
     let whole : ls ≡ p.0 ++ (q.0 ++ 10 ∷ []) ∷ [] = p.1 ∙ ap (λ (z : List ℕ). p.0 ++ z ∷ []) q.1 in
-    subst (λ (z : List (List ℕ)). Leads (record { edit = OpenEnd; inverse = EndLine ∷ [] }) z text) (sym whole)
+    subst (λ (z : List (List ℕ)). Leads OpenEnd (EndLine ∷ []) z text) (sym whole)
     (open_leads_parts law p.0 q.0 text (subst IsSound whole sound) q.2
     (is ∙ ap (λ (z : List (List ℕ)). take (length (join z) - 1) (join z)) whole ∙ but_last p.0 q.0))

@@ -1,7 +1,10 @@
+mod AlikeLemmas
+mod ChangedLemmas
 mod EditLemmas
 mod FrontLemmas
 mod HistoryLemmas
 mod LastLemmas
+mod MoreLemmas
 mod NumberLemmas
 mod OneSpelling
 mod PhysicalLemmas

@@ -1,6 +1,7 @@
 -- A policy line by line, from the laws of logical lines.
-use Rattle.std.proofs.Common.{◌≡◌, ℕ, zero, suc, ◌+◌, ◌-◌, ◌<◌, ◌≤◌, Bool, true, false, List, [], ◌∷◌, ◌++◌, length, take, drop, insert, remove, slice_index_or, Some, None, Result, Ok, Err, refl, sym, ap, ◌∙◌, arith, append-nil, append_assoc}
+use Rattle.std.proofs.Common.{◌≡◌, ℕ, zero, suc, ◌+◌, ◌-◌, ◌<◌, ◌≤◌, Bool, true, false, List, [], ◌∷◌, ◌++◌, length, take, drop, insert, remove, slice_index_or, Some, None, Result, Ok, Err, inl, inr, MatchResult, refl, sym, ap, ◌∙◌, arith, append-nil, append_assoc}
 use Rattle.std.specs.Prelude.{slice_get, option_map, nat_lt, if◌then◌else◌}
+use Rattle.std.proofs.lemmas.Bool.{le-ltb}
 use Rattle.std.proofs.lemmas.Option.{slice_get-map}
 use Rattle.sudoers_text.specs.Line.{join}
 use Rattle.sudoers_text.specs.Ended.{has_unended_inside}
@@ -10,8 +11,11 @@ use Rattle.sudoers_tree.specs.declared.line.Line.{Line}
 use Rattle.sudoers_tree.specs.Policy.{texts}
 use Rattle.sudoers_tree.specs.Reading.{read_of}
 use Rattle.sudoers_edit.specs.OneLine.{IsAlone, IsSound}
-use Rattle.sudoers_edit.specs.Editing.{moved, by_read, policy_or_refusal}
-use Rattle.sudoers_edit.specs.declared.edit.EditFault.TheVariants.{TooLarge}
+use Rattle.sudoers_edit.specs.LineEdits.{moved}
+use Rattle.sudoers_edit.specs.Landing.{by_read, policy_or_refusal}
+use Rattle.sudoers_edit.specs.Editing.{Refuses}
+use Rattle.sudoers_edit.specs.declared.edit.EditFault.{EditFault}
+use Rattle.sudoers_edit.specs.declared.edit.EditFault.TheVariants.{TooLarge, NoMemory}
 use Rattle.sudoers_tree.specs.declared.fault.ReadFault.{ReadFault}
 
 -- what the laws say
@@ -147,3 +151,25 @@ past_lines (line ∷ lines) (suc n) none = omega (arith, past_lines lines n none
 
 pub text_at : (lines : List Line) (i : ℕ) → slice_get (texts lines) i ≡ option_map (λ (line : Line). line.text) (slice_get lines i)
 text_at lines i = slice_get-map (λ (line : Line). line.text) lines i
+
+ok_same : (a b : List Line) → (let r : Result (List Line) EditFault = Ok a in r) ≡ Ok b → a ≡ b
+ok_same a b is = cc
+
+err_ok : (fault : EditFault) (b : List Line) → (let r : Result (List Line) EditFault = Err fault in r) ≡ Ok b → ⊥
+err_ok fault b is = cc
+
+-- a policy's text is read as that policy
+read_again : (policy : List Line) → read_of (join (texts policy)) ≡ Ok policy → length (join (texts policy)) ≤ text_limit
+    → policy_or_refusal (join (texts policy)) ≡ Ok policy
+read_again policy read fits = rw (le-ltb text_limit (length (join (texts policy))) fits, read) refl
+
+pub read_again_gives : (policy : List Line) (text : List ℕ) (r : Result (List Line) EditFault) → read_of (join (texts policy)) ≡ Ok policy
+    → length (join (texts policy)) ≤ text_limit → text ≡ join (texts policy)
+    → MatchResult r (λ new. policy_or_refusal text ≡ Ok new) (λ fault. Refuses fault (policy_or_refusal text))
+    → MatchResult r (λ new. texts new ≡ texts policy) (λ fault. fault ≡ NoMemory)
+read_again_gives policy text (Ok new) read fits is gives =
+    let same : new ≡ policy = ok_same new policy (sym gives ∙ ap policy_or_refusal is ∙ read_again policy read fits) in
+    ap texts same
+read_again_gives policy text (Err fault) read fits is (inl none) = none
+read_again_gives policy text (Err fault) read fits is (inr gives) =
+    absurd (err_ok fault policy (sym gives ∙ ap policy_or_refusal is ∙ read_again policy read fits))

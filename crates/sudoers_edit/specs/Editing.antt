@@ -1,138 +1,125 @@
 -- What an edit does to the lines of a policy, and what takes it back.
-use Rattle.std.specs.Prelude.{◌≡◌, ◌⊎◌, ℕ, ◌+◌, Bool, false, ◌&&◌, ◌==◌, nat_lt, if◌then◌else◌, List, [], ◌∷◌, ◌++◌, length, insert, remove, slice_index_or, map, reverse, Option, Some, None, Result, Ok, Err, unwrap_or, option_and_then, IsSomeAnd}
-use Rattle.std.specs.Option.{option_map}
+use Rattle.std.specs.Prelude.{◌≡◌, ◌⊎◌, ℕ, ◌+◌, List, [], ◌∷◌, ◌++◌, slice_index_or, map, reverse, Option, Some, Result, Ok, Err, unwrap_or, option_and_then, IsSomeAnd}
 use Rattle.std.specs.Result.{result_ok, result_unwrap_or}
-use Rattle.sudoers_text.specs.Line.{join}
-use Rattle.sudoers_text.specs.Ended.{ends_in_lf, has_unended_inside}
-use Rattle.sudoers_text.specs.Fault.{text_limit, line_limit}
-use Rattle.sudoers_tree.specs.declared.line.Line.{Line}
-use Rattle.sudoers_tree.specs.declared.fault.ReadFault.{ReadFault}
-use Rattle.sudoers_tree.specs.Reading.{read_of}
-use Rattle.sudoers_edit.specs.OneLine.{is_one_line}
+use Rattle.sudoers_edit.specs.Landing.{policy_of}
+use Rattle.sudoers_edit.specs.LineEdits.{with_line, without_line, with_move, with_last, with_end, without_lf, ended_or_refusal}
+use Rattle.sudoers_edit.specs.SpliceEdits.{add_member, drop_member, add_def, drop_def, owned_member, owned_def}
+use Rattle.sudoers_edit.specs.Renaming.{rename}
+use Rattle.sudoers_edit.specs.Pruning.{removals}
 use Rattle.sudoers_edit.specs.declared.edit.Edit.{Edit}
 use Rattle.sudoers_edit.specs.declared.edit.Edit.TheVariants.{Insert, Delete, Move, AddMember, DropMember, AddDef, DropDef, Rename, EndLine, OpenEnd, Prune}
 use Rattle.sudoers_edit.specs.declared.edit.EditFault.{EditFault}
-use Rattle.sudoers_edit.specs.declared.edit.EditFault.TheVariants.{NoLine, NotOneLine, OpenLine, NoAlias, NoPlace, OnlyOne, BadName, NameTaken, BadSplice, EndAsIs, TooLarge, NotPolicy, NoMemory}
+use Rattle.sudoers_edit.specs.declared.edit.EditFault.TheVariants.{NoMemory}
 use Rattle.sudoers_edit.specs.declared.editor.Entry.{Entry}
+use Rattle.sudoers_edit.specs.declared.pruning.Removal.{Removal}
+use Rattle.sudoers_edit.specs.declared.pruning.Removal.TheVariants as removal
 
-abbrev pub by_read : Result (List Line) ReadFault → Result (List Line) EditFault
-by_read (Ok policy) = Ok policy
-by_read (Err fault) = Err (NotPolicy fault)
+abbrev pub Lines : Type 0
+Lines = List (List ℕ)
 
--- the policy that the text is, if it is within the limit and one
-abbrev pub policy_or_refusal : List ℕ → Result (List Line) EditFault
-policy_or_refusal text = if nat_lt text_limit (length text) then Err TooLarge else by_read (read_of text)
+-- PRUNE
 
--- these lines, where their text is a policy
-abbrev pub where_policy : List (List ℕ) → Result (List Line) EditFault → Result (List (List ℕ)) EditFault
-where_policy lines (Ok policy) = Ok lines
-where_policy lines (Err fault) = Err fault
+-- the lines after something is taken out
+abbrev pub removed : Removal → Lines → Result Lines EditFault
+removed (removal.Line at) lines = without_line at lines
+removed (removal.Def line at) lines = drop_def line at (policy_of lines)
 
--- these lines, if only the last may lack LF, and they are those of a policy
-abbrev pub lines_or_refusal : List (List ℕ) → Result (List (List ℕ)) EditFault
-lines_or_refusal lines =
-    if has_unended_inside lines then Err OpenLine else where_policy lines (policy_or_refusal (join lines))
+-- the edit that puts it in again
+abbrev pub put_back : Removal → Lines → Edit
+put_back (removal.Line at) lines = Insert at (slice_index_or lines at [])
+put_back (removal.Def line at) lines = AddDef line at (owned_def line at (policy_of lines))
 
--- the lines with the line `from` taken out and put where it stands at `to`
-abbrev pub moved : ℕ → ℕ → List (List ℕ) → List (List ℕ)
-moved from to lines = insert (remove lines from) to (slice_index_or lines from [])
+abbrev pub and_then : Result Lines EditFault → (Lines → Result Lines EditFault) → Result Lines EditFault
+and_then (Ok lines) next = next lines
+and_then (Err fault) next = Err fault
 
--- the lines with another last line, where there is one and it can be changed
-abbrev pub with_last : (List ℕ → Option (List ℕ)) → List (List ℕ) → Option (List (List ℕ))
-with_last change [] = None
-with_last change (line ∷ []) = option_map (λ new. new ∷ []) (change line)
-with_last change (line ∷ next ∷ lines) = option_map (λ new. line ∷ new) (with_last change (next ∷ lines))
+-- the lines after one removal after another, or the first refusal
+abbrev pub removed_all : List Removal → Lines → Result Lines EditFault
+removed_all [] lines = Ok lines
+removed_all (one ∷ more) lines = and_then (removed one lines) (removed_all more)
 
--- the line with LF behind it, where it does not end in LF
-abbrev pub with_end : List ℕ → Option (List ℕ)
-with_end line = if ends_in_lf line then None else Some (line ++ 10 ∷ [])
+-- what puts all of them in again: each at the lines just before it was taken out, the last first
+abbrev pub put_all_back : List Removal → Lines → List Edit
+put_all_back [] lines = []
+put_all_back (one ∷ more) lines = put_all_back more (result_unwrap_or (removed one lines) lines) ++ put_back one lines ∷ []
 
--- the line without the LF that it ends in, where something stands before that
-abbrev pub without_lf : List ℕ → Option (List ℕ)
-without_lf [] = None
-without_lf (b ∷ []) = None
-without_lf (b ∷ c ∷ []) = if c == 10 then Some (b ∷ []) else None
-without_lf (b ∷ c ∷ d ∷ line) = option_map (λ new. b ∷ new) (without_lf (c ∷ d ∷ line))
-
--- the last line is past the limit
-abbrev pub is_last_too_long : List (List ℕ) → Bool
-is_last_too_long [] = false
-is_last_too_long (line ∷ []) = nat_lt line_limit (length line)
-is_last_too_long (line ∷ next ∷ lines) = is_last_too_long (next ∷ lines)
-
--- these lines, of which the last was changed, if they can be a policy's; else its end is as it should be
-abbrev pub ended_or_refusal : Option (List (List ℕ)) → Result (List (List ℕ)) EditFault
-ended_or_refusal None = Err EndAsIs
-ended_or_refusal (Some lines) = if is_last_too_long lines then Err TooLarge else lines_or_refusal lines
+-- EDITS
 
 -- the lines after an edit, or the first cause of its refusal
-abbrev pub step : Edit → List (List ℕ) → Result (List (List ℕ)) EditFault
-step (Insert at text) lines =
-    if nat_lt (length lines) at then Err NoLine
-    else (if is_one_line text then lines_or_refusal (insert lines at text) else Err NotOneLine)
-step (Delete at) lines = if nat_lt at (length lines) then lines_or_refusal (remove lines at) else Err NoLine
-step (Move from to) lines =
-    if nat_lt from (length lines) && nat_lt to (length lines) then lines_or_refusal (moved from to lines) else Err NoLine
+abbrev pub step : Edit → Lines → Result Lines EditFault
+step (Insert at text) lines = with_line at text lines
+step (Delete at) lines = without_line at lines
+step (Move from to) lines = with_move from to lines
+step (AddMember kind name at splice) lines = add_member kind name at splice (policy_of lines)
+step (DropMember kind name at) lines = drop_member kind name at (policy_of lines)
+step (AddDef line at splice) lines = add_def line at splice (policy_of lines)
+step (DropDef line at) lines = drop_def line at (policy_of lines)
+step (Rename kind name fresh) lines = rename kind name fresh (policy_of lines)
 step EndLine lines = ended_or_refusal (with_last with_end lines)
 step OpenEnd lines = ended_or_refusal (with_last without_lf lines)
-step edit lines = Err NoAlias
+step Prune lines = removed_all (removals (policy_of lines)) lines
 
 -- the lines after an edit, or those before it where it is refused
-abbrev pub after : Edit → List (List ℕ) → List (List ℕ)
+abbrev pub after : Edit → Lines → Lines
 after edit lines = result_unwrap_or (step edit lines) lines
 
 -- the edits that take an edit back
-abbrev pub inv : Edit → List (List ℕ) → List Edit
+abbrev pub inv : Edit → Lines → List Edit
 inv (Insert at text) lines = Delete at ∷ []
 inv (Delete at) lines = Insert at (slice_index_or lines at []) ∷ []
 inv (Move from to) lines = Move to from ∷ []
+inv (AddMember kind name at splice) lines = DropMember kind name at ∷ []
+inv (DropMember kind name at) lines = AddMember kind name at (owned_member kind name at (policy_of lines)) ∷ []
+inv (AddDef line at splice) lines = DropDef line at ∷ []
+inv (DropDef line at) lines = AddDef line at (owned_def line at (policy_of lines)) ∷ []
+inv (Rename kind name fresh) lines = Rename kind fresh name ∷ []
 inv EndLine lines = OpenEnd ∷ []
 inv OpenEnd lines = EndLine ∷ []
-inv edit lines = []
+inv Prune lines = put_all_back (removals (policy_of lines)) lines
 
 -- the lines after all edits, where none is refused
-abbrev pub run : List Edit → List (List ℕ) → Option (List (List ℕ))
+abbrev pub run : List Edit → Lines → Option Lines
 run [] lines = Some lines
 run (edit ∷ edits) lines = option_and_then (run edits) (result_ok (step edit lines))
 
 -- what follows a step, or its refusal with its place
-abbrev pub then_or : (List (List ℕ) → Result (List (List ℕ)) (ℕ × EditFault)) → ℕ → Result (List (List ℕ)) EditFault → Result (List (List ℕ)) (ℕ × EditFault)
+abbrev pub then_or : (Lines → Result Lines (ℕ × EditFault)) → ℕ → Result Lines EditFault → Result Lines (ℕ × EditFault)
 then_or next place (Ok lines) = next lines
 then_or next place (Err fault) = Err (place, fault)
 
 -- the lines after all edits, or the place of the first refused one, where the places count on from this one, and the cause
-abbrev pub run_all : ℕ → List Edit → List (List ℕ) → Result (List (List ℕ)) (ℕ × EditFault)
+abbrev pub run_all : ℕ → List Edit → Lines → Result Lines (ℕ × EditFault)
 run_all place [] lines = Ok lines
 run_all place (edit ∷ edits) lines = then_or (run_all (place + 1) edits) place (step edit lines)
 
 -- each edit's inverse at the lines just before it, the last edit's first
-abbrev pub inv_run : List Edit → List (List ℕ) → List Edit
+abbrev pub inv_run : List Edit → Lines → List Edit
 inv_run [] lines = []
 inv_run (edit ∷ edits) lines = inv_run edits (after edit lines) ++ inv edit lines
 
 -- The entries, the newest first, are undone in turn from the present lines on: each inverse is defined there, and leads
 -- to the lines just before its edit, at which it is the edit's inverse.
-abbrev pub IsUndoable : List Entry → List (List ℕ) → Type 0
+abbrev pub IsUndoable : List Entry → Lines → Type 0
 IsUndoable [] now = Unit {0}
 IsUndoable (entry ∷ entries) now =
     IsSomeAnd (run entry.inverse now) (λ before.
     (step entry.edit before ≡ Ok now) × (entry.inverse ≡ inv entry.edit before) × IsUndoable entries before)
 
 -- the lines before the first of the entries, the newest first
-abbrev pub first_lines : List Entry → List (List ℕ) → List (List ℕ)
+abbrev pub first_lines : List Entry → Lines → Lines
 first_lines [] now = now
 first_lines (entry ∷ entries) now = first_lines entries (unwrap_or (run entry.inverse now) now)
 
 -- an editor: its lines, and the entries of its journal, the oldest first
 pub record Desk : Type 0 where
-  pub lines : List (List ℕ)
+  pub lines : Lines
   pub journal : List Entry
 
 abbrev pub edits_of : List Entry → List Edit
 edits_of entries = map (λ (entry : Entry). entry.edit) entries
 
 -- the lines that the editor began with
-abbrev pub first_of : Desk → List (List ℕ)
+abbrev pub first_of : Desk → Lines
 first_of desk = first_lines (reverse desk.journal) desk.lines
 
 -- a fault that is told: the stated one, or want of memory
@@ -140,5 +127,5 @@ abbrev pub Refuses : {X : Type 0} → EditFault → Result X EditFault → Type 
 Refuses fault wanted = (fault ≡ NoMemory) ⊎ (wanted ≡ Err fault)
 
 -- the run stops at this place for this cause, or memory ran out
-abbrev pub StopsAt : ℕ → EditFault → List Edit → List (List ℕ) → Type 0
+abbrev pub StopsAt : ℕ → EditFault → List Edit → Lines → Type 0
 StopsAt place fault edits lines = (fault ≡ NoMemory) ⊎ (run_all 0 edits lines ≡ Err (place, fault))

@@ -6,7 +6,7 @@ use Rattle.sudoers_text.specs.Fault.{line_limit}
 use Rattle.sudoers_text.specs.Cut.{StandAlone}
 use Rattle.sudoers_tree.specs.declared.line.Line.{Line}
 use Rattle.sudoers_edit.specs.OneLine.{IsAlone}
-use Rattle.sudoers_edit.specs.Editing.{policy_or_refusal}
+use Rattle.sudoers_edit.specs.Landing.{policy_or_refusal}
 
 -- Lines that stand alone are neither empty nor too long; and where LF is put behind the last of a policy's lines or taken from
 -- it, and the result is read as a policy, each line stands alone again.

@@ -1,6 +1,14 @@
 pub mod Physical
 pub mod OneLine
+pub mod Alike
+pub mod Splice
+pub mod Landing
+pub mod LineEdits
+pub mod SpliceEdits
+pub mod Renaming
+pub mod Pruning
 pub mod Editing
+pub mod Undoing
 pub mod LastLine
 pub mod Leading
 pub mod Reread

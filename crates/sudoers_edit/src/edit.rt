@@ -11,11 +11,19 @@ use thiserror::Error;
 #[derive(Debug, Drop)]
 pub enum Edit {
     /// Puts a text of one logical line before the line `at`, or behind the last line.
-    Insert { at: u32, text: Text },
+    Insert {
+        at: u32,
+        text: Text,
+    },
     /// Takes the line `at` out.
-    Delete { at: u32 },
+    Delete {
+        at: u32,
+    },
     /// Takes the line `from` out and puts it where it stands at `to`.
-    Move { from: u32, to: u32 },
+    Move {
+        from: u32,
+        to: u32,
+    },
     /// Puts a member into the list of an alias, at the place `at`; the splice is put in behind the member before it, or in front
     /// of the first.
     AddMember {
@@ -26,13 +34,24 @@ pub enum Edit {
     },
     /// Takes the member at the place `at` out of the list of an alias, with the bytes from the end of the member before it; the
     /// first with those up to the start of the next.
-    DropMember { kind: Kind, name: Text, at: u32 },
+    DropMember {
+        kind: Kind,
+        name: Text,
+        at: u32,
+    },
     /// Puts a definition into a line of definitions, at the place `at`; the splice is put in behind the definition before it, or in
     /// front of the first.
-    AddDef { line: u32, at: u32, splice: Text },
+    AddDef {
+        line: u32,
+        at: u32,
+        splice: Text,
+    },
     /// Takes the definition at the place `at` out of a line of definitions, with the bytes from the end of the definition before
     /// it; the first with those up to the start of the next.
-    DropDef { line: u32, at: u32 },
+    DropDef {
+        line: u32,
+        at: u32,
+    },
     /// Gives an alias another name, where it is defined and where it is mentioned.
     Rename {
         kind: Kind,

@@ -1,26 +1,18 @@
 //! The editor: a policy, and a journal of its edits.
-ghost use Rattle.std.specs.Prelude.{◌≡◌, ◌≢◌, ◌+◌, ◌-◌, ◌<◌, ◌≤◌, ◌∷◌, [], ◌++◌, length, insert, remove, reverse, Some, Ok, Err, IfOk, IfErr, OnOk, OnErr, MatchResult, slice_index_or, slice_get, IsTrue, vec_len, true, false, List, ℕ, take};
+ghost use Rattle.std.specs.Prelude.{◌≡◌, ◌⊎◌, ◌<◌, ◌∷◌, [], ◌++◌, length, reverse, Some, None, Ok, Err, IfOk, IfErr, OnOk, OnErr, MatchResult, true, false, List, ℕ, take};
 ghost use Rattle.std.specs.List.{flat_map};
-ghost use Rattle.std.specs.Option.{option_copied};
-ghost use Rattle.sudoers_text.specs.Line.{join};
-ghost use Rattle.sudoers_text.specs.Ended.{has_unended_inside};
-ghost use Rattle.sudoers_text.specs.Cut.{StandAlone};
-ghost use Rattle.sudoers_tree.specs.declared.line.Line.{Line as LineOf};
 ghost use Rattle.sudoers_tree.specs.Policy.{texts};
-ghost use Rattle.sudoers_edit.specs.OneLine.{is_one_line, IsAlone, IsSound};
-ghost use Rattle.sudoers_edit.specs.Editing.{policy_or_refusal, moved};
-ghost use Rattle.sudoers_edit.specs.LastLine.{StaysCut};
+ghost use Rattle.sudoers_edit.specs.Editing.{run};
+ghost use Rattle.sudoers_edit.specs.Leading.{Lands};
 
 use crate::edit::{Edit, EditFault, Edits};
-use crate::reread::{reread, text_moved, text_with, text_without};
+use crate::landing::{Landed, is_sound};
+use crate::line_edits::{end_closed, end_opened, line_deleted, line_inserted, line_moved};
+use crate::reread::reread;
 use crate::text::Text;
 use std::alloc::{AllocError, Global};
 use std::marker::Model;
-use sudoers_text::{
-    LINE_LIMIT, TextFault, cut, ends_in_lf, lf_behind_last_line, lf_from_last_line,
-    line_alone_size, lines_of_join, lines_stand_alone,
-};
-use sudoers_tree::{Policy, policy_is_cut};
+use sudoers_tree::Policy;
 
 /// An accepted edit, with the edits that take it back.
 #[derive(Debug, Drop)]
@@ -51,7 +43,7 @@ impl Model for Editor {
 
 impl Editor {
     ghost use Rattle.sudoers_edit.specs.Editing.{step, inv, run, run_all, inv_run, first_of, edits_of, Refuses, StopsAt};
-    ghost use Rattle.sudoers_edit.specs.Leading.{Leads};
+    ghost use Rattle.sudoers_edit.specs.Undoing.{TakesLast};
 
     /// The policy, and an empty journal.
     pub fn new(policy: Policy) -> Editor
@@ -92,161 +84,45 @@ impl Editor {
         // The journal grows by the edit with what takes it back.
         ensures journal { OnOk result (self.new.journal
             ≡ self.old.journal ++ record { edit = edit.now; inverse = inv edit.now self.old.lines } ∷ []) }
+        // That is exactly what leads back to the lines before.
+        ensures back { OnOk result (run (inv edit.now self.old.lines) self.new.lines ≡ Some self.old.lines) }
         // It still leads back to the same lines.
         ensures begun { first_of self.new ≡ first_of self.old }
         // A refusal is the definition's, or want of memory, and changes neither lines nor journal.
         ensures refused { IfErr result (λ fault. Refuses fault (step edit.now self.old.lines)) }
         ensures unchanged { OnErr result (self.new ≡ self.old) }
     {
-        match edit {
-            Edit::Insert { at, text } => self.insert(*at, text.as_slice()),
-            Edit::Delete { at } => self.delete(*at),
-            Edit::Move { from, to } => self.move_line(*from, *to),
-            Edit::EndLine => self.end_line(),
-            Edit::OpenEnd => self.open_end(),
-            _ => Err(EditFault::NoAlias),
-        }
-    }
-
-    fn insert(&mut self, at: u32, text: &[u8]) -> Result<(), EditFault>
-        ensures step { OnOk result (step (Edit.Insert at text.now) self.old.lines ≡ Ok self.new.lines) }
-        ensures journal { OnOk result (self.new.journal
-            ≡ self.old.journal ++ record { edit = Edit.Insert at text.now; inverse = inv (Edit.Insert at text.now) self.old.lines } ∷ []) }
-        ensures begun { first_of self.new ≡ first_of self.old }
-        ensures refused { IfErr result (λ fault. Refuses fault (step (Edit.Insert at text.now) self.old.lines)) }
-        ensures unchanged { OnErr result (self.new ≡ self.old) }
-    {
-        let alloc = self.policy.allocator();
-        let place = at as usize;
-        if place > self.policy.len() {
-            return Err(EditFault::NoLine);
-        }
-        if !is_one_line(alloc, text)? {
-            return Err(EditFault::NotOneLine);
-        }
-        if leaves_unended(&self.policy, place, text) {
-            return Err(EditFault::OpenLine);
-        }
-        let whole = text_with(alloc, self.policy.lines(), place, text)?;
-        let inverse = Edits::one(alloc, Edit::Delete { at })?;
-        let text = Text::from_slice(alloc, text)?;
-        is_sound(&self.policy);
-        let edit = Edit::Insert { at, text };
-        self.settle(alloc, whole.as_slice(), Entry { edit, inverse })
-    }
-
-    fn delete(&mut self, at: u32) -> Result<(), EditFault>
-        ensures step { OnOk result (step (Edit.Delete at) self.old.lines ≡ Ok self.new.lines) }
-        ensures journal { OnOk result (self.new.journal
-            ≡ self.old.journal ++ record { edit = Edit.Delete at; inverse = inv (Edit.Delete at) self.old.lines } ∷ []) }
-        ensures begun { first_of self.new ≡ first_of self.old }
-        ensures refused { IfErr result (λ fault. Refuses fault (step (Edit.Delete at) self.old.lines)) }
-        ensures unchanged { OnErr result (self.new ≡ self.old) }
-    {
-        let alloc = self.policy.allocator();
-        let place = at as usize;
-        let Some(line) = self.policy.line(place) else {
-            return Err(EditFault::NoLine);
-        };
-        let text = Text::from_slice(alloc, line)?;
-        let whole = text_without(alloc, self.policy.lines(), place)?;
-        let inverse = Edits::one(alloc, Edit::Insert { at, text })?;
-        is_sound(&self.policy);
-        let edit = Edit::Delete { at };
-        self.settle(alloc, whole.as_slice(), Entry { edit, inverse })
-    }
-
-    fn move_line(&mut self, from: u32, to: u32) -> Result<(), EditFault>
-        ensures step { OnOk result (step (Edit.Move from to) self.old.lines ≡ Ok self.new.lines) }
-        ensures journal { OnOk result (self.new.journal
-            ≡ self.old.journal ++ record { edit = Edit.Move from to; inverse = inv (Edit.Move from to) self.old.lines } ∷ []) }
-        ensures begun { first_of self.new ≡ first_of self.old }
-        ensures refused { IfErr result (λ fault. Refuses fault (step (Edit.Move from to) self.old.lines)) }
-        ensures unchanged { OnErr result (self.new ≡ self.old) }
-    {
-        let alloc = self.policy.allocator();
-        let (place, target) = (from as usize, to as usize);
-        let count = self.policy.len();
-        if place >= count || target >= count {
-            return Err(EditFault::NoLine);
-        }
-        if move_leaves_unended(&self.policy, place, target) {
-            return Err(EditFault::OpenLine);
-        }
-        let whole = text_moved(alloc, self.policy.lines(), place, target)?;
-        let back = Edit::Move { from: to, to: from };
-        let inverse = Edits::one(alloc, back)?;
-        is_sound(&self.policy);
-        let edit = Edit::Move { from, to };
-        self.settle(alloc, whole.as_slice(), Entry { edit, inverse })
-    }
-
-    fn end_line(&mut self) -> Result<(), EditFault>
-        ensures step { OnOk result (step Edit.EndLine self.old.lines ≡ Ok self.new.lines) }
-        ensures journal { OnOk result (self.new.journal
-            ≡ self.old.journal ++ record { edit = Edit.EndLine; inverse = inv Edit.EndLine self.old.lines } ∷ []) }
-        ensures begun { first_of self.new ≡ first_of self.old }
-        ensures refused { IfErr result (λ fault. Refuses fault (step Edit.EndLine self.old.lines)) }
-        ensures unchanged { OnErr result (self.new ≡ self.old) }
-    {
-        let alloc = self.policy.allocator();
-        let Some(last) = last_line(&self.policy) else {
-            return Err(EditFault::EndAsIs);
-        };
-        if ends_in_lf(last) {
-            return Err(EditFault::EndAsIs);
-        }
-        if last.len() >= LINE_LIMIT {
-            return Err(EditFault::TooLarge);
-        }
-        let mut whole = self.policy.text()?;
-        whole.push(b'\n')?;
-        let inverse = Edits::one(alloc, Edit::OpenEnd)?;
-        is_sound(&self.policy);
-        stays_cut();
-        let edit = Edit::EndLine;
-        self.settle(alloc, whole.as_slice(), Entry { edit, inverse })
-    }
-
-    fn open_end(&mut self) -> Result<(), EditFault>
-        ensures step { OnOk result (step Edit.OpenEnd self.old.lines ≡ Ok self.new.lines) }
-        ensures journal { OnOk result (self.new.journal
-            ≡ self.old.journal ++ record { edit = Edit.OpenEnd; inverse = inv Edit.OpenEnd self.old.lines } ∷ []) }
-        ensures begun { first_of self.new ≡ first_of self.old }
-        ensures refused { IfErr result (λ fault. Refuses fault (step Edit.OpenEnd self.old.lines)) }
-        ensures unchanged { OnErr result (self.new ≡ self.old) }
-    {
-        let alloc = self.policy.allocator();
-        let Some(last) = last_line(&self.policy) else {
-            return Err(EditFault::EndAsIs);
-        };
-        if last.len() < 2 || !ends_in_lf(last) {
-            return Err(EditFault::EndAsIs);
-        }
-        let mut whole = self.policy.text()?;
-        let _ = whole.pop();
-        let inverse = Edits::one(alloc, Edit::EndLine)?;
-        is_sound(&self.policy);
-        stays_cut();
-        let edit = Edit::OpenEnd;
-        self.settle(alloc, whole.as_slice(), Entry { edit, inverse })
-    }
-
-    /// Reads the text to which an edit leads; where it is a policy, this comes in the place of the present one, and the edit into
-    /// the journal.
-    fn settle(&mut self, alloc: Global, whole: &[u8], entry: Entry) -> Result<(), EditFault>
-        requires { Leads entry self.old.lines whole.now }
-        ensures step { OnOk result (step entry.edit self.old.lines ≡ Ok self.new.lines) }
-        ensures journal { OnOk result (self.new.journal ≡ self.old.journal ++ entry ∷ []) }
-        ensures begun { first_of self.new ≡ first_of self.old }
-        ensures refused { IfErr result (λ fault. Refuses fault (step entry.edit self.old.lines)) }
-        ensures unchanged { OnErr result (self.new ≡ self.old) }
-    {
-        reads_lines();
+        let landed = landed(&self.policy, edit)?;
+        let edit = edit.copied(self.policy.allocator())?;
         self.journal.reserve(1)?;
-        self.policy = reread(alloc, whole)?;
-        self.journal.push(entry).unwrap();
+        self.policy = landed.policy;
+        let inverse = landed.inverse;
+        self.journal.push(Entry { edit, inverse }).unwrap();
         Ok(())
+    }
+
+    /// Takes back the last edit that stands, whole, and tells that; where none stands it tells so.
+    ///
+    /// # Errors
+    ///
+    /// Want of memory alone; the editor is then as it was.
+    pub fn undo(&mut self) -> Result<bool, EditFault>
+        // The lines and the journal are those before the last edit of it.
+        ensures taken { result ≡ Ok true → TakesLast self.old self.new }
+        // Nothing is taken back exactly where there is nothing.
+        ensures none { result ≡ Ok false → (self.old.journal ≡ []) × (self.new ≡ self.old) }
+        ensures refused { IfErr result (λ fault. fault ≡ EditFault.NoMemory) }
+        ensures unchanged { OnErr result (self.new ≡ self.old) }
+        // What stands still leads back to the same lines.
+        ensures begun { first_of self.new ≡ first_of self.old }
+    {
+        let Some(entry) = self.journal.last() else {
+            return Ok(false);
+        };
+        let policy = after_all(&self.policy, entry.inverse.as_slice())?;
+        self.policy = policy;
+        let _ = self.journal.pop();
+        Ok(true)
     }
 
     /// Makes the edits in order.
@@ -291,88 +167,41 @@ impl Editor {
     }
 }
 
-/// Whether a line without LF would stand before another once the text stands at a place.
-fn leaves_unended(policy: &Policy, at: usize, text: &[u8]) -> bool
-    requires { at ≤ length policy.now }
-    ensures { result ≡ has_unended_inside (insert (texts policy.now) at text.now) }
+/// The policy to which edits lead, one after another.
+fn after_all(policy: &Policy, edits: &[Edit]) -> Result<Policy, EditFault>
+    ensures { MatchResult result (λ new. run edits.now (texts policy.now) ≡ Some (texts new))
+        (λ fault. (fault ≡ EditFault.NoMemory) ⊎ (run edits.now (texts policy.now) ≡ None)) }
+{
+    let Some((first, rest)) = edits.split_first() else {
+        return copied(policy);
+    };
+    let mut after = landed(policy, first)?.policy;
+    for edit in rest {
+        after = landed(&after, edit)?.policy;
+    }
+    Ok(after)
+}
+
+/// A copy of a policy.
+fn copied(policy: &Policy) -> Result<Policy, EditFault>
+    ensures { MatchResult result (λ new. texts new ≡ texts policy.now) (λ fault. fault ≡ EditFault.NoMemory) }
 {
     is_sound(policy);
-    if at < policy.len() {
-        !ends_in_lf(text)
-    } else if at > 0 {
-        match policy.line(at - 1) {
-            Some(last) => !ends_in_lf(last),
-            None => false,
-        }
-    } else {
-        false
-    }
-}
-
-/// Whether a line without LF would stand before another once the line `from` stands at `to`.
-fn move_leaves_unended(policy: &Policy, from: usize, to: usize) -> bool
-    requires from { from < length policy.now }
-    requires to { to < length policy.now }
-    ensures { result ≡ has_unended_inside (moved from to (texts policy.now)) }
-{
-    is_sound(policy);
-    if from == to {
-        return false;
-    }
-    let last = policy.len() - 1;
-    let before = if to < last { from } else { last };
-    match policy.line(before) {
-        Some(line) => !ends_in_lf(line),
-        None => false,
-    }
-}
-
-/// The last line, where there is one.
-fn last_line(policy: &Policy) -> Option<&[u8]>
-    ensures { option_copied result ≡ slice_get (texts policy.now) (length (texts policy.now) - 1) }
-{
-    Some(policy.lines().last()?.text.as_slice())
-}
-
-/// A law: what the lines of a policy are.
-fn is_sound(policy: &Policy)
-    ensures { IsSound (texts policy.now) }
-{
     policy.is_policy();
-    policy_is_cut();
-    lines_stand_alone();
+    reread(policy.allocator(), policy.text()?.as_slice())
 }
 
-/// A law: lines that are each the one line of a text, all but the last ending in LF, are those of the policy that their join is.
-fn reads_lines()
-    ensures { (lines : List (List ℕ)) (policy : List LineOf) → StandAlone lines → has_unended_inside lines ≡ false
-        → policy_or_refusal (join lines) ≡ Ok policy → texts policy ≡ lines }
+/// What comes of an edit.
+fn landed(policy: &Policy, edit: &Edit) -> Result<Landed, EditFault>
+    ensures { Lands edit.now (texts policy.now) result }
 {
-    policy_is_cut();
-    lines_of_join();
-}
-
-/// A law: the lines of a policy stay its lines where LF is put behind the last or taken from it, if that is a policy.
-fn stays_cut()
-    ensures { StaysCut }
-{
-    policy_is_cut();
-    lines_stand_alone();
-    line_alone_size();
-    lf_behind_last_line();
-    lf_from_last_line();
-}
-
-/// Whether a text is exactly one logical line.
-fn is_one_line(alloc: Global, text: &[u8]) -> Result<bool, AllocError>
-    ensures is { IfOk result (λ is. is ≡ is_one_line text.now) }
-    ensures alone { IfOk result (λ is. is ≡ true → IsAlone text.now) }
-{
-    lines_stand_alone();
-    match cut(alloc, text) {
-        Ok(lines) => Ok(lines.len() == 1),
-        Err(TextFault::NoMemory) => Err(AllocError),
-        Err(_) => Ok(false),
+    match edit {
+        Edit::Insert { at, text } => line_inserted(policy, *at, text.as_slice()),
+        Edit::Delete { at } => line_deleted(policy, *at),
+        Edit::Move { from, to } => line_moved(policy, *from, *to),
+        Edit::EndLine => end_closed(policy),
+        Edit::OpenEnd => end_opened(policy),
+        _ => Err(EditFault::NoMemory),
     }
 }
 

@@ -1,14 +1,21 @@
 //! The editor of a sudoers policy: its edits, the journal that takes them back, and the script that spells them.
 #![tactic(auto)]
 
+mod alike;
 mod draft;
 mod edit;
 mod editor;
+mod landing;
+mod line_edits;
+mod one_more;
 mod physical;
+mod pruning;
 mod reread;
 mod script;
 mod script_line;
 mod spelling;
+mod splice;
+mod splice_edits;
 mod text;
 
 pub use edit::{Edit, EditFault, Edits};

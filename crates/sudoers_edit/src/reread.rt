@@ -2,7 +2,9 @@
 ghost use Rattle.std.specs.Prelude.{◌≡◌, ◌-◌, ◌<◌, ◌≤◌, ◌++◌, List, ℕ, length, insert, remove, take, drop, Ok, IfOk, OnOk, MatchResult};
 ghost use Rattle.sudoers_text.specs.Line.{join};
 ghost use Rattle.sudoers_tree.specs.Policy.{texts};
-ghost use Rattle.sudoers_edit.specs.Editing.{policy_or_refusal, moved, Refuses};
+ghost use Rattle.sudoers_edit.specs.Landing.{policy_or_refusal, replaced};
+ghost use Rattle.sudoers_edit.specs.LineEdits.{moved};
+ghost use Rattle.sudoers_edit.specs.Editing.{Refuses};
 
 use crate::edit::EditFault;
 use std::alloc::{AllocError, Global};
@@ -48,6 +50,23 @@ pub fn text_without(alloc: Global, lines: &[Line], at: usize) -> Result<Vec<u8>,
     let mut text = Vec::new(alloc);
     append_lines(front, &mut text)?;
     append_lines(back, &mut text)?;
+    Ok(text)
+}
+
+/// The text of lines of which the one at a place is another.
+pub fn text_replaced(
+    alloc: Global,
+    lines: &[Line],
+    at: usize,
+    line: &[u8],
+) -> Result<Vec<u8>, AllocError>
+    requires { at < length lines.now }
+    ensures { IfOk result (λ text. text.items ≡ join (replaced at line.now (texts lines.now))) }
+{
+    let mut text = Vec::new(alloc);
+    append_lines(&lines[..at], &mut text)?;
+    text.extend_from_slice(line)?;
+    append_lines(&lines[at + 1..], &mut text)?;
     Ok(text)
 }
 

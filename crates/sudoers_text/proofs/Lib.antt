@@ -12,6 +12,7 @@ pub mod Outcomes
 pub mod Found
 pub mod LogicalLine
 pub mod Alone
+pub mod WholeAlone
 pub mod LastLine
 pub mod Examples
 pub mod Runs

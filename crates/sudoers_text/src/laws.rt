@@ -90,3 +90,14 @@ pub fn whole_line_is()
     ensures tells { (text : List ℕ) → is_logical_line text ≡ true → IsLogicalLine text }
     ensures told { (text : List ℕ) → IsLogicalLine text → is_logical_line text ≡ true }
 {}
+
+/// A line is the one line of a text exactly where it is one logical line, and within the limit.
+pub fn line_alone_is_whole()
+    ensures whole { (line : List ℕ) → cut_of line ≡ Ok (line ∷ []) → is_logical_line line ≡ true }
+    ensures alone { (line : List ℕ) → is_logical_line line ≡ true → length line ≤ line_limit
+        → cut_of line ≡ Ok (line ∷ []) }
+{
+    cut_is();
+    one_outcome();
+    whole_line_is();
+}

@@ -2,6 +2,7 @@ pub mod Columns
 pub mod Entries
 pub mod Joined
 pub mod Taken
+pub mod SaidLines
 pub mod Sound
 pub mod Outcomes
 pub mod OneOutcome

@@ -1,14 +1,16 @@
 //! Laws of policies. Each is the contract of a function that does nothing.
 
-ghost use Rattle.std.specs.Prelude.{◌≡◌, ℕ, List, Result, Ok};
+ghost use Rattle.std.specs.Prelude.{◌≡◌, ℕ, List, Result, Ok, Some};
+ghost use Rattle.std.specs.List.{AllByRecursion};
 ghost use Rattle.sudoers_text.specs.Cut.{cut_of};
 ghost use Rattle.sudoers_tree.specs.declared.line.Line.{Line as LineOf};
 ghost use Rattle.sudoers_tree.specs.declared.fault.ReadFault.{ReadFault as FaultOf};
 ghost use Rattle.sudoers_tree.specs.Policy.{texts};
 ghost use Rattle.sudoers_tree.specs.Reading.{read_of, IsOutcome};
+ghost use Rattle.sudoers_tree.specs.Single.{said};
 
 use sudoers_line::{no_fault, one_fault, one_reading, outcome_is};
-use sudoers_text::{cut_is, one_outcome as one_cut};
+use sudoers_text::{cut_is, line_alone_is_whole, lines_stand_alone, one_outcome as one_cut};
 
 /// A text has an outcome: the policy that it is, or its first fault.
 pub fn read_is()
@@ -38,4 +40,18 @@ pub fn policy_is_cut()
     read_is();
     cut_is();
     one_cut();
+}
+
+/// What is kept of each line of a policy is what its text says alone.
+pub fn lines_are_said()
+    ensures { (text : List ℕ) (lines : List LineOf) → read_of text ≡ Ok lines
+        → AllByRecursion (λ (line : LineOf). said line.text ≡ Some line.node) lines }
+{
+    read_is();
+    policy_is_cut();
+    lines_stand_alone();
+    line_alone_is_whole();
+    outcome_is();
+    one_reading();
+    no_fault();
 }

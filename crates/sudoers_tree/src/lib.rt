@@ -18,7 +18,7 @@ mod single;
 pub use fault::ReadFault;
 pub use index::ALIAS_LIMIT;
 pub use kind::{LineKind, kind_word};
-pub use laws::{one_outcome, policy_is_cut, read_is};
+pub use laws::{lines_are_said, one_outcome, policy_is_cut, read_is};
 pub use line::Line;
 pub use outline::{OutlinedLine, outline_policy};
 pub use place::{Place, Span};

@@ -1,0 +1,41 @@
+-- Lists that are alike, in parts.
+use Rattle.std.proofs.Common.{◌≡◌, ℕ, zero, suc, ◌+◌, ◌-◌, ◌<◌, ◌≤◌, Bool, true, false, ◌&&◌, add-one, List, [], ◌∷◌, length, take, drop, remove, slice_index_or, refl, sym, ap, ◌∙◌, arith}
+use Rattle.sudoers_edit.specs.Alike.{are_alike}
+
+and_assoc : (a b c : Bool) → (a && (b && c)) ≡ ((a && b) && c)
+and_assoc true b c = refl
+and_assoc false b c = refl
+
+-- past the end nothing is taken out
+pub remove_past : {X : Type 0} (xs : List X) (at : ℕ) → length xs ≤ at → remove xs at ≡ xs
+remove_past [] zero past = refl
+remove_past [] (suc at) past = refl
+remove_past (x ∷ xs) zero past = absurd (omega (arith, past))
+remove_past (x ∷ xs) (suc at) past = ap (λ z. x ∷ z) (remove_past xs at (omega (arith, past)))
+
+-- without an item the list is still longer
+pub without_longer : {X : Type 0} (alike : X → X → Bool) (xs ys : List X) (at : ℕ) → at < length xs → length ys < at → false ≡ are_alike alike (remove xs at) ys
+without_longer alike [] ys at within past = absurd (omega (arith, within))
+without_longer alike (x ∷ xs) ys zero within past = absurd (omega (arith, past))
+without_longer alike (x ∷ xs) [] (suc at) within past = refl
+without_longer alike (x ∷ xs) (y ∷ ys) (suc at) within past =
+    falsely (alike x y) (are_alike alike (remove xs at) ys) (without_longer alike xs ys at (omega (arith, within)) (omega (arith, past)))
+  where
+    falsely : (a b : Bool) → false ≡ b → false ≡ (a && b)
+    falsely true b is = is
+    falsely false b is = refl
+
+-- without an item, in two parts
+pub without_parts : {X : Type 0} (alike : X → X → Bool) (xs ys : List X) (at : ℕ) → at < length xs → at ≤ length ys
+    → (are_alike alike (take at xs) (take at ys) && are_alike alike (drop (suc at) xs) (drop at ys)) ≡ are_alike alike (remove xs at) ys
+without_parts alike [] ys at within inside = absurd (omega (arith, within))
+without_parts alike (x ∷ xs) ys zero within inside = refl
+without_parts alike (x ∷ xs) [] (suc at) within inside = absurd (omega (arith, inside))
+without_parts alike (x ∷ xs) (y ∷ ys) (suc at) within inside =
+    sym (and_assoc (alike x y) (are_alike alike (take at xs) (take at ys)) (are_alike alike (drop (suc at) xs) (drop at ys)))
+    ∙ ap (λ z. alike x y && z) (without_parts alike xs ys at (omega (arith, within)) (omega (arith, inside)))
+
+pub without_two : {X : Type 0} (alike : X → X → Bool) (xs ys : List X) (at : ℕ) (a b : Bool) → at < length xs → at ≤ length ys
+    → a ≡ are_alike alike (take at xs) (take at ys) → b ≡ are_alike alike (drop (at + 1) xs) (drop at ys) → (a && b) ≡ are_alike alike (remove xs at) ys
+without_two alike xs ys at a b within inside front back =
+    rw (front, back) (ap (λ n. are_alike alike (take at xs) (take at ys) && are_alike alike (drop n xs) (drop at ys)) (add-one at) ∙ without_parts alike xs ys at within inside)

@@ -1,0 +1,54 @@
+-- Edits of whole lines, and of the end of the last.
+use Rattle.std.specs.Prelude.{ℕ, Bool, false, ◌&&◌, ◌==◌, nat_lt, if◌then◌else◌, List, [], ◌∷◌, ◌++◌, length, insert, remove, slice_index_or, Option, Some, None, Result, Ok, Err}
+use Rattle.std.specs.Option.{option_map}
+use Rattle.sudoers_text.specs.Ended.{ends_in_lf}
+use Rattle.sudoers_edit.specs.OneLine.{is_one_line}
+use Rattle.sudoers_edit.specs.Landing.{lines_or_refusal, is_too_long}
+use Rattle.sudoers_edit.specs.declared.edit.EditFault.{EditFault}
+use Rattle.sudoers_edit.specs.declared.edit.EditFault.TheVariants.{NoLine, NotOneLine, EndAsIs, TooLarge}
+
+-- the lines with a text of one line before the line at a place
+abbrev pub with_line : ℕ → List ℕ → List (List ℕ) → Result (List (List ℕ)) EditFault
+with_line at text lines =
+    if nat_lt (length lines) at then Err NoLine
+    else (if is_one_line text then lines_or_refusal (insert lines at text) else Err NotOneLine)
+
+-- the lines without the one at a place
+abbrev pub without_line : ℕ → List (List ℕ) → Result (List (List ℕ)) EditFault
+without_line at lines = if nat_lt at (length lines) then lines_or_refusal (remove lines at) else Err NoLine
+
+-- the lines with the line `from` taken out and put where it stands at `to`
+abbrev pub moved : ℕ → ℕ → List (List ℕ) → List (List ℕ)
+moved from to lines = insert (remove lines from) to (slice_index_or lines from [])
+
+abbrev pub with_move : ℕ → ℕ → List (List ℕ) → Result (List (List ℕ)) EditFault
+with_move from to lines =
+    if nat_lt from (length lines) && nat_lt to (length lines) then lines_or_refusal (moved from to lines) else Err NoLine
+
+-- the lines with another last line, where there is one and it can be changed
+abbrev pub with_last : (List ℕ → Option (List ℕ)) → List (List ℕ) → Option (List (List ℕ))
+with_last change [] = None
+with_last change (line ∷ []) = option_map (λ new. new ∷ []) (change line)
+with_last change (line ∷ next ∷ lines) = option_map (λ new. line ∷ new) (with_last change (next ∷ lines))
+
+-- the line with LF behind it, where it does not end in LF
+abbrev pub with_end : List ℕ → Option (List ℕ)
+with_end line = if ends_in_lf line then None else Some (line ++ 10 ∷ [])
+
+-- the line without the LF that it ends in, where something stands before that
+abbrev pub without_lf : List ℕ → Option (List ℕ)
+without_lf [] = None
+without_lf (b ∷ []) = None
+without_lf (b ∷ c ∷ []) = if c == 10 then Some (b ∷ []) else None
+without_lf (b ∷ c ∷ d ∷ line) = option_map (λ new. b ∷ new) (without_lf (c ∷ d ∷ line))
+
+-- the last line is past the limit
+abbrev pub is_last_too_long : List (List ℕ) → Bool
+is_last_too_long [] = false
+is_last_too_long (line ∷ []) = is_too_long line
+is_last_too_long (line ∷ next ∷ lines) = is_last_too_long (next ∷ lines)
+
+-- these lines, of which the last was changed, if they can be a policy's; else its end is as it should be
+abbrev pub ended_or_refusal : Option (List (List ℕ)) → Result (List (List ℕ)) EditFault
+ended_or_refusal None = Err EndAsIs
+ended_or_refusal (Some lines) = if is_last_too_long lines then Err TooLarge else lines_or_refusal lines

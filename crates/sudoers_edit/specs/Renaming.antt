@@ -1,0 +1,89 @@
+-- An alias given another name, where it is defined and where it is mentioned.
+use Rattle.std.specs.Prelude.{ℕ, ◌+◌, ◌-◌, Bool, true, false, not, ◌&&◌, ◌||◌, nat_lt, if◌then◌else◌, List, [], ◌∷◌, ◌++◌, length, take, drop, map, Result, Ok, Err}
+use Rattle.std.specs.List.{flat_map, list_any}
+use Rattle.std.specs.Str.{bytes_eq}
+use Rattle.sudoers_text.specs.Line.{join}
+use Rattle.sudoers_text.specs.Word.{is_name, is_reserved}
+use Rattle.sudoers_line.specs.declared.fault.Why.TheVariants.{UnexpectedToken}
+use Rattle.sudoers_line.specs.declared.node.Def.{Def}
+use Rattle.sudoers_line.specs.declared.node.Kind.{Kind}
+use Rattle.sudoers_line.specs.declared.node.Member.{Member}
+use Rattle.sudoers_line.specs.declared.node.Node.{Node}
+use Rattle.sudoers_line.specs.declared.node.Node.TheVariants as node
+use Rattle.sudoers_tree.specs.declared.fault.ReadFault.TheVariants.{Syntax}
+use Rattle.sudoers_tree.specs.declared.line.Line.{Line}
+use Rattle.sudoers_tree.specs.declared.place.Span.{Span}
+use Rattle.sudoers_tree.specs.Definition.{is_kind, place_of}
+use Rattle.sudoers_tree.specs.Fault.{is_some}
+use Rattle.sudoers_tree.specs.Mention.{members_in, mentions, spans_of}
+use Rattle.sudoers_tree.specs.Policy.{texts}
+use Rattle.sudoers_edit.specs.Alike.{are_alike}
+use Rattle.sudoers_edit.specs.Landing.{refuse_if, is_too_long, policy_or_refusal, policy_of}
+use Rattle.sudoers_edit.specs.declared.edit.EditFault.{EditFault}
+use Rattle.sudoers_edit.specs.declared.edit.EditFault.TheVariants.{NoAlias, BadName, NameTaken, TooLarge, NotPolicy}
+
+-- WHERE THE NAME STANDS
+
+-- where it is mentioned by one of these members: at which bytes of the line
+abbrev pub starts_among : List ℕ → List Member → List ℕ
+starts_among name members = map (λ (s : Span). s.start) (spans_of 0 name members)
+
+-- where it stands in a definition: as the name that is defined, and in the members
+abbrev pub starts_in_def : List ℕ → Def → List ℕ
+starts_in_def name d = (if bytes_eq name d.name then d.start ∷ [] else []) ++ starts_among name d.members
+
+-- where it stands in what a line says, as an alias of this kind
+abbrev pub starts_in : Kind → List ℕ → Node → List ℕ
+starts_in k name (node.Alias j defs) = if is_kind k j then flat_map (starts_in_def name) defs else []
+starts_in k name (node.Spec users groups) = starts_among name (members_in k (node.Spec users groups))
+starts_in k name (node.Defaults scope params) = starts_among name (members_in k (node.Defaults scope params))
+starts_in k name node.Blank = []
+starts_in k name node.Comment = []
+starts_in k name (node.Include dir path) = []
+
+-- ANOTHER NAME
+
+-- the line from a byte on, with other bytes where at these places so many stand
+abbrev pub put_at : ℕ → ℕ → List ℕ → List ℕ → List ℕ → List ℕ
+put_at from size fresh [] line = drop from line
+put_at from size fresh (start ∷ starts) line = take (start - from) (drop from line) ++ fresh ++ put_at (start + size) size fresh starts line
+
+abbrev pub renamed_line : Kind → List ℕ → List ℕ → Line → List ℕ
+renamed_line k name fresh line = put_at 0 (length name) fresh (starts_in k name line.node) line.text
+
+-- the lines of a policy with another name for an alias
+abbrev pub renamed : Kind → List ℕ → List ℕ → List Line → List (List ℕ)
+renamed k name fresh policy = map (renamed_line k name fresh) policy
+
+-- what is told where the way back would not lead back
+abbrev pub no_way_back : EditFault
+no_way_back = NotPolicy (Syntax 1 1 UnexpectedToken)
+
+-- these lines, where they are those of the policy that was read
+abbrev pub if_lines : List (List ℕ) → Result (List Line) EditFault → Result (List (List ℕ)) EditFault
+if_lines lines (Ok policy) = if are_alike bytes_eq (texts policy) lines then Ok lines else Err no_way_back
+if_lines lines (Err fault) = Err fault
+
+abbrev pub is_taken : Kind → List ℕ → List Line → Bool
+is_taken k fresh policy = is_some (place_of k fresh policy) || nat_lt 0 (length (mentions k fresh policy))
+
+-- the lines with another name for an alias, if they can be a policy's
+unfoldable pub rename_once : Kind → List ℕ → List ℕ → List Line → Result (List (List ℕ)) EditFault
+rename_once k name fresh policy =
+    refuse_if (not (is_some (place_of k name policy))) NoAlias (
+    refuse_if (not (is_name fresh) || is_reserved fresh) BadName (
+    refuse_if (is_taken k fresh policy) NameTaken (
+    refuse_if (list_any is_too_long (renamed k name fresh policy)) TooLarge (
+    if_lines (renamed k name fresh policy) (policy_or_refusal (join (renamed k name fresh policy)))))))
+
+abbrev pub is_lines : List (List ℕ) → Result (List (List ℕ)) EditFault → Bool
+is_lines lines (Ok others) = are_alike bytes_eq others lines
+is_lines lines (Err fault) = false
+
+-- the renamed lines, if the old name given back leads to the lines before
+abbrev pub if_restored : Kind → List ℕ → List ℕ → List (List ℕ) → Result (List (List ℕ)) EditFault → Result (List (List ℕ)) EditFault
+if_restored k name fresh lines (Ok new) = if is_lines lines (rename_once k fresh name (policy_of new)) then Ok new else Err no_way_back
+if_restored k name fresh lines (Err fault) = Err fault
+
+unfoldable pub rename : Kind → List ℕ → List ℕ → List Line → Result (List (List ℕ)) EditFault
+rename k name fresh policy = if_restored k name fresh (texts policy) (rename_once k name fresh policy)

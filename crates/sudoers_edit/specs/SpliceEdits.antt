@@ -1,0 +1,116 @@
+-- Members and definitions put in and taken out. The lines of the policy come with what they say.
+use Rattle.std.specs.Prelude.{ℕ, ◌+◌, Bool, not, ◌&&◌, ◌==◌, nat_lt, nat_le, List, [], length, Option, Some, None, Result, option_and_then, slice_get, unwrap_or}
+use Rattle.std.specs.Option.{option_map}
+use Rattle.sudoers_line.specs.declared.node.Def.{Def}
+use Rattle.sudoers_line.specs.declared.node.Kind.{Kind}
+use Rattle.sudoers_line.specs.declared.node.Node.{Node}
+use Rattle.sudoers_line.specs.declared.node.Node.TheVariants as node
+use Rattle.sudoers_tree.specs.declared.line.Line.{Line}
+use Rattle.sudoers_tree.specs.declared.place.Place.{Place}
+use Rattle.sudoers_tree.specs.Definition.{place_of}
+use Rattle.sudoers_tree.specs.Policy.{texts}
+use Rattle.sudoers_tree.specs.Single.{said}
+use Rattle.sudoers_edit.specs.Landing.{refuse_if, or_refuse, changed_or_refusal}
+use Rattle.sudoers_edit.specs.Splice.{Extent, member_extents, def_extents, seam, owned_stop, slice, line_without, line_with, is_member_more, is_def_more}
+use Rattle.sudoers_edit.specs.declared.edit.EditFault.{EditFault}
+use Rattle.sudoers_edit.specs.declared.edit.EditFault.TheVariants.{NoLine, NoAlias, NoPlace, OnlyOne, BadSplice}
+
+-- where one more may be put in, among these: at which byte
+abbrev pub place_to_add : ℕ → List Extent → (ℕ → Result (List (List ℕ)) EditFault) → Result (List (List ℕ)) EditFault
+place_to_add at extents next = refuse_if (nat_lt (length extents) at) NoPlace (or_refuse (seam at extents) BadSplice next)
+
+-- which bytes go with one that may be taken out, of these
+abbrev pub place_to_drop : ℕ → List Extent → (ℕ → ℕ → Result (List (List ℕ)) EditFault) → Result (List (List ℕ)) EditFault
+place_to_drop at extents next =
+    refuse_if (nat_le (length extents) at) NoPlace (refuse_if (length extents == 1) OnlyOne (
+    or_refuse (seam at extents) BadSplice (λ from. or_refuse (owned_stop at extents) BadSplice (λ to. next from to))))
+
+-- the bytes from one place to another are in the line
+abbrev pub lie_in : ℕ → ℕ → List ℕ → Bool
+lie_in from to line = nat_le from to && nat_le to (length line)
+
+-- the policy's lines with another at this place, if that reads as it should
+abbrev pub if_spliced : Bool → ℕ → List ℕ → List Line → Result (List (List ℕ)) EditFault
+if_spliced reads at line policy = refuse_if (not reads) BadSplice (changed_or_refusal at line (texts policy))
+
+-- DEFINITIONS
+
+-- the definitions of a line that makes them
+abbrev pub defs_of : Node → Option (List Def)
+defs_of (node.Alias k defs) = Some defs
+defs_of node.Blank = None
+defs_of node.Comment = None
+defs_of (node.Include dir path) = None
+defs_of (node.Defaults scope params) = None
+defs_of (node.Spec users groups) = None
+
+abbrev pub def_put : ℕ → ℕ → ℕ → List ℕ → Line → List Line → Result (List (List ℕ)) EditFault
+def_put at from n splice line policy =
+    if_spliced (lie_in from from line.text
+    && is_def_more at from (from + length splice) (said (line_with from splice line.text)) (Some line.node))
+    n (line_with from splice line.text) policy
+
+abbrev pub def_cut : ℕ → ℕ → ℕ → ℕ → Line → List Line → Result (List (List ℕ)) EditFault
+def_cut at from to n line policy =
+    if_spliced (lie_in from to line.text && is_def_more at from to (Some line.node) (said (line_without from to line.text)))
+    n (line_without from to line.text) policy
+
+-- the lines with a definition more in the line `n`
+unfoldable pub add_def : ℕ → ℕ → List ℕ → List Line → Result (List (List ℕ)) EditFault
+add_def n at splice policy =
+    or_refuse (slice_get policy n) NoLine (λ line. or_refuse (defs_of line.node) NoAlias (λ defs.
+    place_to_add at (def_extents defs) (λ from. def_put at from n splice line policy)))
+
+-- the lines without a definition of the line `n`
+unfoldable pub drop_def : ℕ → ℕ → List Line → Result (List (List ℕ)) EditFault
+drop_def n at policy =
+    or_refuse (slice_get policy n) NoLine (λ line. or_refuse (defs_of line.node) NoAlias (λ defs.
+    place_to_drop at (def_extents defs) (λ from to. def_cut at from to n line policy)))
+
+-- MEMBERS
+
+-- the line and the definition at a place
+abbrev pub with_def : Option Place → List Line → (Place → Line → Def → Result (List (List ℕ)) EditFault) → Result (List (List ℕ)) EditFault
+with_def place policy next =
+    or_refuse place NoAlias (λ at. or_refuse (slice_get policy at.line) NoAlias (λ line.
+    or_refuse (defs_of line.node) NoAlias (λ defs. or_refuse (slice_get defs at.def) NoAlias (λ d. next at line d))))
+
+abbrev pub member_put : ℕ → ℕ → Place → List ℕ → Line → List Line → Result (List (List ℕ)) EditFault
+member_put at from place splice line policy =
+    if_spliced (lie_in from from line.text
+    && is_member_more place.def at from (from + length splice) (said (line_with from splice line.text)) (Some line.node))
+    place.line (line_with from splice line.text) policy
+
+abbrev pub member_cut : ℕ → ℕ → ℕ → Place → Line → List Line → Result (List (List ℕ)) EditFault
+member_cut at from to place line policy =
+    if_spliced (lie_in from to line.text
+    && is_member_more place.def at from to (Some line.node) (said (line_without from to line.text)))
+    place.line (line_without from to line.text) policy
+
+-- the lines with a member more in the list of an alias
+unfoldable pub add_member : Kind → List ℕ → ℕ → List ℕ → List Line → Result (List (List ℕ)) EditFault
+add_member k name at splice policy =
+    with_def (place_of k name policy) policy (λ place line d.
+    place_to_add at (member_extents d.members) (λ from. member_put at from place splice line policy))
+
+-- the lines without a member of the list of an alias
+unfoldable pub drop_member : Kind → List ℕ → ℕ → List Line → Result (List (List ℕ)) EditFault
+drop_member k name at policy =
+    with_def (place_of k name policy) policy (λ place line d.
+    place_to_drop at (member_extents d.members) (λ from to. member_cut at from to place line policy))
+
+-- WHAT IS TAKEN OUT
+
+-- the bytes that the one at a place owns
+abbrev pub owned : ℕ → List Extent → List ℕ → List ℕ
+owned at extents line = slice (unwrap_or (seam at extents) 0) (unwrap_or (owned_stop at extents) 0) line
+
+unfoldable pub owned_def : ℕ → ℕ → List Line → List ℕ
+owned_def n at policy =
+    unwrap_or (option_and_then (λ (line : Line). option_map (λ defs. owned at (def_extents defs) line.text) (defs_of line.node)) (slice_get policy n)) []
+
+unfoldable pub owned_member : Kind → List ℕ → ℕ → List Line → List ℕ
+owned_member k name at policy =
+    unwrap_or (option_and_then (λ (place : Place). option_and_then (λ (line : Line). option_and_then (λ defs.
+    option_map (λ (d : Def). owned at (member_extents d.members) line.text) (slice_get defs place.def)) (defs_of line.node))
+    (slice_get policy place.line)) (place_of k name policy)) []

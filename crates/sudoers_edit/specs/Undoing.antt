@@ -1,0 +1,12 @@
+-- An edit taken back.
+use Rattle.std.specs.Prelude.{◌≡◌, List, [], ◌∷◌, ◌++◌, Some, Ok}
+use Rattle.sudoers_edit.specs.declared.editor.Entry.{Entry}
+use Rattle.sudoers_edit.specs.Editing.{Desk, step, inv, run}
+
+-- The last edit of the journal is taken back, whole: the lines and the journal are those just before it.
+pub record TakesLast (old new : Desk) : Type 0 where
+  pub last : Entry
+  pub journal : old.journal ≡ new.journal ++ last ∷ []
+  pub forth : step last.edit new.lines ≡ Ok old.lines
+  pub inverse_is : last.inverse ≡ inv last.edit new.lines
+  pub back : run last.inverse old.lines ≡ Some new.lines

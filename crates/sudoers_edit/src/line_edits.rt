@@ -1,0 +1,185 @@
+//! Edits of whole lines, and of the end of the last.
+ghost use Rattle.std.specs.Prelude.{◌≡◌, ◌-◌, ◌<◌, ◌≤◌, length, insert, slice_get, true, List, ℕ, IfOk};
+ghost use Rattle.std.specs.Option.{option_copied};
+ghost use Rattle.sudoers_text.specs.Ended.{has_unended_inside};
+ghost use Rattle.sudoers_tree.specs.Policy.{texts};
+ghost use Rattle.sudoers_edit.specs.OneLine.{is_one_line, IsAlone};
+ghost use Rattle.sudoers_edit.specs.LineEdits.{moved};
+ghost use Rattle.sudoers_edit.specs.LastLine.{StaysCut};
+ghost use Rattle.sudoers_edit.specs.Leading.{Lands};
+
+use crate::edit::{Edit, EditFault, Edits};
+use crate::landing::{Landed, is_sound, land};
+use crate::reread::{text_moved, text_with, text_without};
+use crate::text::Text;
+use std::alloc::{AllocError, Global};
+use sudoers_text::{
+    LINE_LIMIT, TextFault, cut, ends_in_lf, lf_behind_last_line, lf_from_last_line,
+    line_alone_size, lines_stand_alone,
+};
+use sudoers_tree::{Policy, policy_is_cut};
+
+/// A line put in.
+pub fn line_inserted(policy: &Policy, at: u32, text: &[u8]) -> Result<Landed, EditFault>
+    ensures { Lands (Edit.Insert at text.now) (texts policy.now) result }
+{
+    let alloc = policy.allocator();
+    let place = at as usize;
+    if place > policy.len() {
+        return Err(EditFault::NoLine);
+    }
+    if !is_one_line(alloc, text)? {
+        return Err(EditFault::NotOneLine);
+    }
+    if leaves_unended(policy, place, text) {
+        return Err(EditFault::OpenLine);
+    }
+    let whole = text_with(alloc, policy.lines(), place, text)?;
+    let inverse = Edits::one(alloc, Edit::Delete { at })?;
+    is_sound(policy);
+    land(alloc, whole.as_slice(), inverse)
+}
+
+/// A line taken out.
+pub fn line_deleted(policy: &Policy, at: u32) -> Result<Landed, EditFault>
+    ensures { Lands (Edit.Delete at) (texts policy.now) result }
+{
+    let alloc = policy.allocator();
+    let place = at as usize;
+    let Some(line) = policy.line(place) else {
+        return Err(EditFault::NoLine);
+    };
+    let text = Text::from_slice(alloc, line)?;
+    let whole = text_without(alloc, policy.lines(), place)?;
+    let inverse = Edits::one(alloc, Edit::Insert { at, text })?;
+    is_sound(policy);
+    land(alloc, whole.as_slice(), inverse)
+}
+
+/// A line that stands elsewhere.
+pub fn line_moved(policy: &Policy, from: u32, to: u32) -> Result<Landed, EditFault>
+    ensures { Lands (Edit.Move from to) (texts policy.now) result }
+{
+    let alloc = policy.allocator();
+    let (place, target) = (from as usize, to as usize);
+    let count = policy.len();
+    if place >= count || target >= count {
+        return Err(EditFault::NoLine);
+    }
+    if move_leaves_unended(policy, place, target) {
+        return Err(EditFault::OpenLine);
+    }
+    let whole = text_moved(alloc, policy.lines(), place, target)?;
+    let back = Edit::Move { from: to, to: from };
+    let inverse = Edits::one(alloc, back)?;
+    is_sound(policy);
+    land(alloc, whole.as_slice(), inverse)
+}
+
+/// LF put behind the last line.
+pub fn end_closed(policy: &Policy) -> Result<Landed, EditFault>
+    ensures { Lands Edit.EndLine (texts policy.now) result }
+{
+    let alloc = policy.allocator();
+    let Some(last) = last_line(policy) else {
+        return Err(EditFault::EndAsIs);
+    };
+    if ends_in_lf(last) {
+        return Err(EditFault::EndAsIs);
+    }
+    if last.len() >= LINE_LIMIT {
+        return Err(EditFault::TooLarge);
+    }
+    let mut whole = policy.text()?;
+    whole.push(b'\n')?;
+    let inverse = Edits::one(alloc, Edit::OpenEnd)?;
+    is_sound(policy);
+    stays_cut();
+    land(alloc, whole.as_slice(), inverse)
+}
+
+/// The LF at the end of the last line taken away.
+pub fn end_opened(policy: &Policy) -> Result<Landed, EditFault>
+    ensures { Lands Edit.OpenEnd (texts policy.now) result }
+{
+    let alloc = policy.allocator();
+    let Some(last) = last_line(policy) else {
+        return Err(EditFault::EndAsIs);
+    };
+    if last.len() < 2 || !ends_in_lf(last) {
+        return Err(EditFault::EndAsIs);
+    }
+    let mut whole = policy.text()?;
+    let _ = whole.pop();
+    let inverse = Edits::one(alloc, Edit::EndLine)?;
+    is_sound(policy);
+    stays_cut();
+    land(alloc, whole.as_slice(), inverse)
+}
+
+/// Whether a line without LF would stand before another once the text stands at a place.
+fn leaves_unended(policy: &Policy, at: usize, text: &[u8]) -> bool
+    requires { at ≤ length policy.now }
+    ensures { result ≡ has_unended_inside (insert (texts policy.now) at text.now) }
+{
+    is_sound(policy);
+    if at < policy.len() {
+        !ends_in_lf(text)
+    } else if at > 0 {
+        match policy.line(at - 1) {
+            Some(last) => !ends_in_lf(last),
+            None => false,
+        }
+    } else {
+        false
+    }
+}
+
+/// Whether a line without LF would stand before another once the line `from` stands at `to`.
+fn move_leaves_unended(policy: &Policy, from: usize, to: usize) -> bool
+    requires from { from < length policy.now }
+    requires to { to < length policy.now }
+    ensures { result ≡ has_unended_inside (moved from to (texts policy.now)) }
+{
+    is_sound(policy);
+    if from == to {
+        return false;
+    }
+    let last = policy.len() - 1;
+    let before = if to < last { from } else { last };
+    match policy.line(before) {
+        Some(line) => !ends_in_lf(line),
+        None => false,
+    }
+}
+
+/// The last line, where there is one.
+fn last_line(policy: &Policy) -> Option<&[u8]>
+    ensures { option_copied result ≡ slice_get (texts policy.now) (length (texts policy.now) - 1) }
+{
+    Some(policy.lines().last()?.text.as_slice())
+}
+
+/// A law: the lines of a policy stay its lines where LF is put behind the last or taken from it, if that is a policy.
+fn stays_cut()
+    ensures { StaysCut }
+{
+    policy_is_cut();
+    lines_stand_alone();
+    line_alone_size();
+    lf_behind_last_line();
+    lf_from_last_line();
+}
+
+/// Whether a text is exactly one logical line.
+fn is_one_line(alloc: Global, text: &[u8]) -> Result<bool, AllocError>
+    ensures is { IfOk result (λ is. is ≡ is_one_line text.now) }
+    ensures alone { IfOk result (λ is. is ≡ true → IsAlone text.now) }
+{
+    lines_stand_alone();
+    match cut(alloc, text) {
+        Ok(lines) => Ok(lines.len() == 1),
+        Err(TextFault::NoMemory) => Err(AllocError),
+        Err(_) => Ok(false),
+    }
+}
