@@ -531,7 +531,7 @@ too_many_full text e =
 -- BYTES
 
 -- the text of lines
-text-join : (ks : List (List ℕ)) → text_of ks ≡ join ks
+pub text-join : (ks : List (List ℕ)) → text_of ks ≡ join ks
 text-join [] = refl
 text-join (k ∷ ks) = ap (λ (z : List ℕ). k ++ z) (text-join ks)
 
