@@ -1,12 +1,11 @@
 -- Two lists of edits have two spellings, however many they are.
-use Rattle.std.proofs.Common.{◌≡◌, ℕ, Bool, true, false, List, [], ◌∷◌, ◌++◌, ◌==◌, refl, sym, ap, subst, ◌∙◌, arith, inl, inr, append_assoc}
+use Rattle.std.proofs.Common.{◌≡◌, ℕ, true, false, List, [], ◌∷◌, ◌++◌, ◌==◌, refl, sym, ap, subst, ◌∙◌, arith, inl, inr, append_assoc}
 use Rattle.std.specs.List.{flat_map, list_any}
 use Rattle.std.proofs.lemmas.Bool.{false≢true, cases_Bool}
 use Rattle.sudoers_text.specs.Ended.{ends_in_lf}
 use Rattle.sudoers_edit.specs.Physical.{physical_lines}
-use Rattle.sudoers_edit.specs.Script.{payload, payload_line, text_lines, spell, spelling, IsSpellable, AreSpellable}
+use Rattle.sudoers_edit.specs.Script.{payload, payload_line, text_lines, spelling, IsSpellable, AreSpellable}
 use Rattle.sudoers_edit.specs.ScriptReading.{with_text, sense, without_end}
-use Rattle.sudoers_edit.specs.declared.draft.Draft.{Draft}
 use Rattle.sudoers_edit.specs.declared.edit.Edit.{Edit}
 use Rattle.sudoers_edit.specs.declared.edit.Edit.TheVariants.{Insert, Delete, Move, AddMember, DropMember, AddDef, DropDef, Rename, EndLine, OpenEnd, Prune}
 use Rattle.sudoers_edit.specs.declared.script_line.Said.{Said}

@@ -5,7 +5,7 @@ use Rattle.std.specs.List.{flat_map}
 use Rattle.std.proofs.lemmas.Bool.{true≢false, cases_Bool, lt-leb, or_parts}
 use Rattle.sudoers_text.specs.Ended.{ends_in_lf, has_unended_inside}
 use Rattle.sudoers_edit.specs.Physical.{physical_lines}
-use Rattle.sudoers_edit.specs.Script.{payload, payload_line, text_lines, spell, spelling, IsSpellable, AreSpellable, edit_limit}
+use Rattle.sudoers_edit.specs.Script.{payload, payload_line, text_lines, spelling, IsSpellable, AreSpellable, edit_limit}
 use Rattle.sudoers_edit.specs.ScriptReading.{Between, Begun, Going, Rest, before, with_room, with_text, command_line, first_line, later_line, edits_from, sense, text_in, reading}
 use Rattle.sudoers_edit.specs.declared.draft.Draft.{Draft}
 use Rattle.sudoers_edit.specs.declared.edit.Edit.{Edit}
@@ -14,7 +14,7 @@ use Rattle.sudoers_edit.specs.declared.script_line.Said.TheVariants as says
 use Rattle.sudoers_edit.specs.declared.script.ScriptFault.{ScriptFault}
 use Rattle.sudoers_edit.proofs.PhysicalLemmas.{IsLine, AreLines, join, lines-each, unended_lacks}
 use Rattle.sudoers_edit.proofs.ReadingLemmas.{IsNoText, later_line-command}
-use Rattle.sudoers_edit.proofs.WordLemmas.{line_of, said_of, by_text, IsTexted, texted, spell-line, lines-command, sense-command, lines-more, sense-more, lines-last, sense-last, text-last}
+use Rattle.sudoers_edit.proofs.WordLemmas.{line_of, said_of, by_text, texted, spell-line, lines-command, sense-command, lines-more, sense-more, lines-last, sense-last, text-last}
 
 -- with room for one command more
 room : (count : ℕ) (r : Result (List Edit) ScriptFault) → count < 65536 → with_room count r ≡ r

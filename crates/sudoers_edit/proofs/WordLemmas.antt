@@ -1,9 +1,9 @@
 -- The words of a line, and what a line says.
-use Rattle.std.proofs.Common.{◌≡◌, ◌⊎◌, ℕ, zero, suc, ◌+◌, ◌<◌, ◌≤◌, Bool, true, false, ◌==◌, List, [], ◌∷◌, ◌++◌, length, take, drop, slice_index, ◌-◌, refl, sym, ap, ◌∙◌, arith, inl, inr, ◌^◌, subst, append_assoc}
+use Rattle.std.proofs.Common.{◌≡◌, ℕ, zero, suc, ◌+◌, ◌<◌, ◌≤◌, Bool, true, false, ◌==◌, List, [], ◌∷◌, ◌++◌, length, take, drop, slice_index, ◌-◌, refl, sym, ap, ◌∙◌, arith, inl, inr, ◌^◌, subst, append_assoc}
 use Rattle.std.proofs.lemmas.List.{take_all, drop_all, length-append}
-use Rattle.std.proofs.lemmas.Bool.{false≢true, true≢false, cases_Bool, eqb-true, or_parts, and_parts}
+use Rattle.std.proofs.lemmas.Bool.{false≢true, cases_Bool, eqb-true, or_parts, and_parts}
 use Rattle.memchr.specs.Find.{NoneBefore, Nowhere, Passes, is_byte}
-use Rattle.std.specs.Prelude.{codes, not, ◌||◌, Option, Some, None, Result, Ok, Err, if◌then◌else◌}
+use Rattle.std.specs.Prelude.{codes, not, ◌||◌, Option, Some, None, Ok, if◌then◌else◌}
 use Rattle.std.specs.List.{list_any}
 use Rattle.std.specs.Option.{ok_or}
 use Rattle.std.specs.Str.{bytes_eq}
@@ -19,11 +19,10 @@ use Rattle.sudoers_edit.specs.declared.edit.Edit.{Edit}
 use Rattle.sudoers_edit.specs.declared.edit.Edit.TheVariants.{Insert, Delete, Move, AddMember, DropMember, AddDef, DropDef, Rename, EndLine, OpenEnd, Prune}
 use Rattle.sudoers_edit.specs.declared.script_line.Command.{Command}
 use Rattle.sudoers_edit.specs.declared.script_line.Command.TheVariants as by
-use Rattle.sudoers_edit.specs.declared.script_line.Flaw.{Flaw}
 use Rattle.sudoers_edit.specs.declared.script_line.Flaw.TheVariants as flaw
 use Rattle.sudoers_edit.specs.declared.script_line.Said.{Said}
 use Rattle.sudoers_edit.specs.declared.script_line.Said.TheVariants as says
-use Rattle.sudoers_edit.specs.Script.{number, kind_word, command_words, spaced, text_lines, payload, spell, is_word, is_named, IsNumbered, IsSpellable}
+use Rattle.sudoers_edit.specs.Script.{number, kind_word, command_words, spaced, text_lines, payload, spell, is_word, IsSpellable}
 use Rattle.sudoers_edit.specs.ScriptReading.{words, place_of_word, kinds, commands, one_place, both_places, two_places, of_kind, alias_and_word, said_or, alone, said_by, said_if, said_by_words, with_text, without_end, sense}
 use Rattle.sudoers_edit.specs.ScriptStanding.{words_behind}
 use Rattle.sudoers_edit.proofs.NumberLemmas.{place_spelled, number_read, number_lacks}

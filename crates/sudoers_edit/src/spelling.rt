@@ -71,12 +71,7 @@ fn append_place(alloc: Global, out: &mut Vec<u8>, at: u32) -> Result<(), AllocEr
 }
 
 /// Appends a word and a number.
-fn append_placed(
-    alloc: Global,
-    out: &mut Vec<u8>,
-    word: &[u8],
-    at: u32,
-) -> Result<(), AllocError>
+fn append_placed(alloc: Global, out: &mut Vec<u8>, word: &[u8], at: u32) -> Result<(), AllocError>
     ensures { OnOk result (out.new.items ≡ out.old.items ++ spaced (word.now ∷ number at ∷ [])) }
 {
     out.extend_from_slice(word)?;
@@ -110,12 +105,7 @@ fn word_of_kind(kind: Kind) -> &'static [u8]
 }
 
 /// Appends a word, a kind and a name.
-fn append_alias(
-    out: &mut Vec<u8>,
-    word: &[u8],
-    kind: Kind,
-    name: &[u8],
-) -> Result<(), AllocError>
+fn append_alias(out: &mut Vec<u8>, word: &[u8], kind: Kind, name: &[u8]) -> Result<(), AllocError>
     ensures { OnOk result (out.new.items ≡ out.old.items ++ spaced (word.now ∷ kind_word kind ∷ name.now ∷ [])) }
 {
     out.extend_from_slice(word)?;
@@ -139,12 +129,7 @@ fn append_member(
 }
 
 /// Appends the command of a renaming.
-fn append_rename(
-    out: &mut Vec<u8>,
-    kind: Kind,
-    name: &[u8],
-    fresh: &[u8],
-) -> Result<(), AllocError>
+fn append_rename(out: &mut Vec<u8>, kind: Kind, name: &[u8], fresh: &[u8]) -> Result<(), AllocError>
     ensures { OnOk result (out.new.items ≡ out.old.items ++ spaced (command_words (Rename kind name.now fresh.now))) }
 {
     append_alias(out, b"rename", kind, name)?;
