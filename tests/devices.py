@@ -249,14 +249,11 @@ def check_memory(stand, all_cases, given):
 # ---- standard input --------------------------------------------------------------
 
 
-def fail_reads(stand, case):
-    """Each read fails in turn; each read is interrupted in turn."""
-    for piece in (0, 7):
-        how = f"reads of {piece or 'any'} bytes, "
-        stand.until_none_is_met(case, how + "failed read", "fail_read", lambda _: fault("Read"), short_read=piece)
-        stand.until_none_is_met(
-            case, how + "interrupted read", "interrupt_read", lambda _: case.wanted, short_read=piece
-        )
+def fail_reads(stand, case, piece):
+    """Each read, of at most so many bytes, fails in turn; each read is interrupted in turn."""
+    how = f"reads of {piece or 'any'} bytes, "
+    stand.until_none_is_met(case, how + "failed read", "fail_read", lambda _: fault("Read"), short_read=piece)
+    stand.until_none_is_met(case, how + "interrupted read", "interrupt_read", lambda _: case.wanted, short_read=piece)
 
 
 def interrupt_for_ever(stand, case):
@@ -333,11 +330,13 @@ def inputs_at_the_limit():
 def check_reads(stand, read, some, given):
     """All that can go wrong with standard input: the most with some of the cases."""
     for case in read:
-        fail_reads(stand, case)
+        for piece in (0, 7):
+            fail_reads(stand, case, piece)
     for case in some:
         interrupt_for_ever(stand, case)
         interrupt_up_to_the_last_read(stand, case)
     for case, input_given in given:
+        fail_reads(stand, case, 1)
         last_allowed_read(stand, case, input_given)
         endless_input(stand, input_given)
     for case in inputs_at_the_limit():
@@ -367,7 +366,7 @@ def fail_writes(stand, case, piece):
 def check_writes(stand, written):
     """All that can go wrong with standard output."""
     for case in [case for case in written if case.wanted.stdout]:
-        for piece in (0, 3):
+        for piece in (0, 1, 3):
             fail_writes(stand, case, piece)
             how = f"writes of {piece or 'any'} bytes, "
             for setting in ("interrupt_write", "empty_write"):

@@ -10,6 +10,9 @@ mod OneSpelling
 mod PhysicalLemmas
 mod PolicyLemmas
 mod ReadingLemmas
+mod ReplaceLemmas
+mod ReplacedLemmas
 mod ScriptLemmas
 mod SpellingLemmas
+mod SpliceLemmas
 mod WordLemmas

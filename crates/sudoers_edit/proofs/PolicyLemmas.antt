@@ -37,6 +37,9 @@ policy_read true r policy is = cc
 policy_read false (Ok lines) policy is = let same : lines ≡ policy = cc in ap (λ (ls : List Line). Ok ls) same
 policy_read false (Err fault) policy is = cc
 
+pub read_so : (text : List ℕ) (policy : List Line) → policy_or_refusal text ≡ Ok policy → read_of text ≡ Ok policy
+read_so text policy is = policy_read (nat_lt text_limit (length text)) (read_of text) policy is
+
 -- the lines of a text that is read as a policy
 pub read_cut : CutLaw → (text : List ℕ) (policy : List Line) → policy_or_refusal text ≡ Ok policy → cut_of text ≡ Ok (texts policy)
 read_cut law text policy is = law text policy (policy_read (nat_lt text_limit (length text)) (read_of text) policy is)

@@ -1,5 +1,5 @@
 -- Whether the lines to which an edit leads are those of a policy, and why not.
-use Rattle.std.specs.Prelude.{◌≡◌, ℕ, Bool, false, true, nat_lt, if◌then◌else◌, List, [], ◌∷◌, ◌++◌, ◌+◌, length, take, drop, Option, Some, None, Result, Ok, Err}
+use Rattle.std.specs.Prelude.{◌≡◌, ℕ, zero, suc, Bool, false, true, nat_lt, if◌then◌else◌, List, [], ◌∷◌, ◌++◌, ◌+◌, length, take, drop, Option, Some, None, Result, Ok, Err}
 use Rattle.std.specs.List.{list_any}
 use Rattle.std.specs.Result.{result_unwrap_or}
 use Rattle.std.specs.Str.{bytes_eq}
@@ -45,7 +45,9 @@ is_too_long line = nat_lt line_limit (length line)
 
 -- the lines, of which the one at a place is another
 abbrev pub replaced : ℕ → List ℕ → List (List ℕ) → List (List ℕ)
-replaced at line lines = take at lines ++ line ∷ drop (1 + at) lines
+replaced at line [] = []
+replaced zero line (old ∷ lines) = line ∷ lines
+replaced (suc at) line (old ∷ lines) = old ∷ replaced at line lines
 
 -- the lines with one changed, if they can be a policy's
 abbrev pub changed_or_refusal : ℕ → List ℕ → List (List ℕ) → Result (List (List ℕ)) EditFault

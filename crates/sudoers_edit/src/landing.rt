@@ -42,7 +42,7 @@ pub fn is_sound(policy: &Policy)
 }
 
 /// A law: lines that are each the one line of a text, all but the last ending in LF, are those of the policy that their join is.
-fn reads_lines()
+pub fn reads_lines()
     ensures { (lines : List (List ℕ)) (policy : List LineOf) → StandAlone lines → has_unended_inside lines ≡ false
         → policy_or_refusal (join lines) ≡ Ok policy → texts policy ≡ lines }
 {

@@ -63,10 +63,12 @@ pub fn text_replaced(
     requires { at < length lines.now }
     ensures { IfOk result (λ text. text.items ≡ join (replaced at line.now (texts lines.now))) }
 {
+    let (front, _) = lines.split_at(at);
+    let (_, back) = lines.split_at(at + 1);
     let mut text = Vec::new(alloc);
-    append_lines(&lines[..at], &mut text)?;
+    append_lines(front, &mut text)?;
     text.extend_from_slice(line)?;
-    append_lines(&lines[at + 1..], &mut text)?;
+    append_lines(back, &mut text)?;
     Ok(text)
 }
 

@@ -1,25 +1,29 @@
 //! Members and definitions put in and taken out.
-ghost use Rattle.std.specs.Prelude.{◌≡◌, ◌≤◌, ◌<◌, length, List, ℕ, IfOk};
+ghost use Rattle.std.specs.Prelude.{◌≡◌, ◌≤◌, ◌<◌, length, List, ℕ, IfOk, MatchResult};
 ghost use Rattle.sudoers_text.specs.Ended.{has_unended_inside};
 ghost use Rattle.sudoers_tree.specs.Policy.{texts};
 ghost use Rattle.sudoers_edit.specs.declared.edit.Edit.{Edit as AnEdit};
-ghost use Rattle.sudoers_edit.specs.Landing.{replaced};
-ghost use Rattle.sudoers_edit.specs.Leading.{Lands, Replaces};
+ghost use Rattle.sudoers_edit.specs.Editing.{Refuses};
+ghost use Rattle.sudoers_edit.specs.Landing.{replaced, changed_or_refusal};
+ghost use Rattle.sudoers_edit.specs.Leading.{Lands, Replaces, PutIn, CutOut, IsKnown};
+ghost use Rattle.sudoers_edit.specs.SpliceEdits.{put_in as with_more, cut_out as with_less};
+ghost use Rattle.sudoers_tree.specs.declared.line.Line.{Line as LineOf};
 
 use crate::edit::{Edit, EditFault, Edits};
-use crate::landing::{Landed, is_sound, land};
-use crate::one_more::OneMore;
+use crate::landing::{Landed, is_sound, land, reads_lines};
+use crate::one_more::{Among, OneMore};
 use crate::reread::text_replaced;
-use crate::splice::{line_with, line_without, owned_stop, seam};
+use crate::splice::{line_with, line_without, place_to_add, place_to_drop};
 use crate::text::Text;
 use std::alloc::Global;
-use sudoers_text::{LINE_LIMIT, ends_in_lf, line_alone_is_whole};
+use sudoers_text::{LINE_LIMIT, ends_in_lf, line_alone_is_whole, line_alone_size};
 use sudoers_tree::{Kind, Line, Node, Policy, lines_are_said, read_line};
 
 /// A definition put into a line.
 pub fn def_added(policy: &Policy, line: u32, at: u32, splice: &[u8]) -> Result<Landed, EditFault>
     ensures { Lands (Edit.AddDef line at splice.now) (texts policy.now) result }
 {
+    is_known(policy);
     let alloc = policy.allocator();
     let (number, place) = (line as usize, at as usize);
     let Some(old) = policy.lines().get(number) else {
@@ -28,28 +32,8 @@ pub fn def_added(policy: &Policy, line: u32, at: u32, splice: &[u8]) -> Result<L
     let Node::Alias { defs, .. } = &old.node else {
         return Err(EditFault::NoAlias);
     };
-    if place > defs.len() {
-        return Err(EditFault::NoPlace);
-    }
-    let Some(from) = seam(defs.as_slice(), place) else {
-        return Err(EditFault::BadSplice);
-    };
-    if from > old.text.len() {
-        return Err(EditFault::BadSplice);
-    }
-    let text = line_with(alloc, old.text.as_slice(), from, splice)?;
-    let to = from + splice.len();
-    let Some(new) = read_line(alloc, text.as_slice())? else {
-        return Err(EditFault::BadSplice);
-    };
-    let more = OneMore {
-        at: place,
-        from,
-        to,
-    };
-    if !more.is_def(&new, &old.node) {
-        return Err(EditFault::BadSplice);
-    }
+    let from = place_to_add(defs.as_slice(), place)?;
+    let text = put_in(alloc, Among::Definitions, place, from, splice, old)?;
     let inverse = Edits::one(alloc, Edit::DropDef { line, at })?;
     line_replaced(policy, number, text.as_slice(), inverse)
 }
@@ -58,6 +42,7 @@ pub fn def_added(policy: &Policy, line: u32, at: u32, splice: &[u8]) -> Result<L
 pub fn def_dropped(policy: &Policy, line: u32, at: u32) -> Result<Landed, EditFault>
     ensures { Lands (Edit.DropDef line at) (texts policy.now) result }
 {
+    is_known(policy);
     let alloc = policy.allocator();
     let (number, place) = (line as usize, at as usize);
     let Some(old) = policy.lines().get(number) else {
@@ -66,18 +51,56 @@ pub fn def_dropped(policy: &Policy, line: u32, at: u32) -> Result<Landed, EditFa
     let Node::Alias { defs, .. } = &old.node else {
         return Err(EditFault::NoAlias);
     };
-    if place >= defs.len() {
-        return Err(EditFault::NoPlace);
+    let (from, to) = place_to_drop(defs.as_slice(), place)?;
+    let text = cut_out(alloc, Among::Definitions, place, from, to, old)?;
+    let splice = Text::from_slice(alloc, &old.text.as_slice()[from..to])?;
+    let inverse = Edits::one(alloc, Edit::AddDef { line, at, splice })?;
+    line_replaced(policy, number, text.as_slice(), inverse)
+}
+
+/// A line with one more, which stands at a place and has these bytes.
+fn put_in(
+    alloc: Global,
+    among: Among,
+    at: usize,
+    from: usize,
+    splice: &[u8],
+    old: &Line,
+) -> Result<Vec<u8>, EditFault>
+    ensures put { IfOk result (λ text. PutIn among at from splice.now old.now text.items) }
+    ensures outcome { (n : ℕ) (policy : List LineOf) → MatchResult result
+        (λ text. with_more among at from n splice.now old.now policy ≡ changed_or_refusal n text.items (texts policy))
+        (λ fault. Refuses fault (with_more among at from n splice.now old.now policy)) }
+{
+    if from > old.text.len() {
+        return Err(EditFault::BadSplice);
     }
-    if defs.len() == 1 {
-        return Err(EditFault::OnlyOne);
-    }
-    let (Some(from), Some(to)) = (
-        seam(defs.as_slice(), place),
-        owned_stop(defs.as_slice(), place),
-    ) else {
+    let text = line_with(alloc, old.text.as_slice(), from, splice)?;
+    let Some(new) = read_line(alloc, text.as_slice())? else {
         return Err(EditFault::BadSplice);
     };
+    let to = from + splice.len();
+    let one = OneMore { at, from, to };
+    if !one.is_more(among, &new, &old.node) {
+        return Err(EditFault::BadSplice);
+    }
+    Ok(text)
+}
+
+/// A line without one that stands at a place and has these bytes.
+fn cut_out(
+    alloc: Global,
+    among: Among,
+    at: usize,
+    from: usize,
+    to: usize,
+    old: &Line,
+) -> Result<Vec<u8>, EditFault>
+    ensures cut { IfOk result (λ text. CutOut among at from to old.now text.items) }
+    ensures outcome { (n : ℕ) (policy : List LineOf) → MatchResult result
+        (λ text. with_less among at from to n old.now policy ≡ changed_or_refusal n text.items (texts policy))
+        (λ fault. Refuses fault (with_less among at from to n old.now policy)) }
+{
     if from > to || to > old.text.len() {
         return Err(EditFault::BadSplice);
     }
@@ -85,17 +108,11 @@ pub fn def_dropped(policy: &Policy, line: u32, at: u32) -> Result<Landed, EditFa
     let Some(new) = read_line(alloc, text.as_slice())? else {
         return Err(EditFault::BadSplice);
     };
-    let more = OneMore {
-        at: place,
-        from,
-        to,
-    };
-    if !more.is_def(&old.node, &new) {
+    let one = OneMore { at, from, to };
+    if !one.is_more(among, &old.node, &new) {
         return Err(EditFault::BadSplice);
     }
-    let splice = Text::from_slice(alloc, &old.text.as_slice()[from..to])?;
-    let inverse = Edits::one(alloc, Edit::AddDef { line, at, splice })?;
-    line_replaced(policy, number, text.as_slice(), inverse)
+    Ok(text)
 }
 
 /// A line changed that reads as it should.
@@ -110,13 +127,36 @@ fn line_replaced(
 {
     let alloc = policy.allocator();
     is_sound(policy);
+    reads_lines();
     line_alone_is_whole();
     if text.len() > LINE_LIMIT {
         return Err(EditFault::TooLarge);
     }
-    if at + 1 < policy.len() && !ends_in_lf(text) {
+    if leaves_open(policy, at, text) {
         return Err(EditFault::OpenLine);
     }
     let whole = text_replaced(alloc, policy.lines(), at, text)?;
     land(alloc, whole.as_slice(), inverse)
+}
+
+/// Whether a line without LF would stand before another once the text stands in the place of a line.
+fn leaves_open(policy: &Policy, at: usize, text: &[u8]) -> bool
+    requires { at < length policy.now }
+    ensures { result ≡ has_unended_inside (replaced at text.now (texts policy.now)) }
+{
+    is_sound(policy);
+    if ends_in_lf(text) {
+        return false;
+    }
+    policy.len() - at > 1
+}
+
+/// A law: the lines of a policy are known from what they say.
+fn is_known(policy: &Policy)
+    ensures { IsKnown policy.now }
+{
+    is_sound(policy);
+    policy.is_policy();
+    lines_are_said();
+    line_alone_size();
 }

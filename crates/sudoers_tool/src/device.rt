@@ -89,13 +89,6 @@ impl<T> Counted<T> {
             ends: 0,
         }
     }
-
-    /// The device.
-    pub fn device(&self) -> &T
-        ensures { result.now ≡ self.now.device }
-    {
-        &self.device
-    }
 }
 
 impl<R: Read> Read for Counted<R> {

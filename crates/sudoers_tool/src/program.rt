@@ -202,6 +202,3 @@ fn output(alloc: Global, inverse: &Edits, policy: &Policy) -> Result<Vec<u8>, La
     out.extend_from_slice(policy.text()?.as_slice())?;
     Ok(out)
 }
-
-#[cfg(test)]
-mod tests;

@@ -204,6 +204,3 @@ fn line_word(kind: LineKind) -> &'static [u8]
         LineKind::Spec => b"spec",
     }
 }
-
-#[cfg(test)]
-mod tests;
