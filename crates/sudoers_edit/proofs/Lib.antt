@@ -16,3 +16,4 @@ mod ScriptLemmas
 mod SpellingLemmas
 mod SpliceLemmas
 mod WordLemmas
+mod WritingLemmas

@@ -94,6 +94,10 @@ IsNumbered (AddDef line at splice) = (line + 1 ≤ 2 ^ 32) × (at + 1 ≤ 2 ^ 32
 IsNumbered (DropDef line at) = (line + 1 ≤ 2 ^ 32) × (at + 1 ≤ 2 ^ 32)
 IsNumbered _ = Unit {0}
 
+abbrev pub AreNumbered : List Edit → Type 0
+AreNumbered [] = Unit {0}
+AreNumbered (edit ∷ edits) = IsNumbered edit × AreNumbered edits
+
 abbrev pub IsSpellable : Edit → Type 0
 IsSpellable edit = IsNumbered edit × (is_named edit ≡ true)
 
@@ -101,8 +105,8 @@ abbrev pub AreSpellable : List Edit → Type 0
 AreSpellable [] = Unit {0}
 AreSpellable (edit ∷ edits) = IsSpellable edit × AreSpellable edits
 
--- the text of edits of which so many stand before the first with a name that is no word; or the line that this one
--- would have, counted from 1; or too many edits, if it is not among those that a script may have
+-- Of these edits so many stand before the first with a name that is no word. If that one is among those that a script may
+-- have, it has no spelling, and its line is the one behind their lines, counted from 1; else only the count can be too large.
 abbrev pub written_by : ℕ → List Edit → Result (List ℕ) ScriptFault
 written_by named edits =
     if nat_lt named edit_limit && nat_lt named (length edits)

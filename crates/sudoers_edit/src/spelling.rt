@@ -3,7 +3,7 @@ ghost use Rattle.std.specs.Prelude.{◌≡◌, ◌⊎◌, ◌+◌, ◌≤◌, �
 ghost use Rattle.sudoers_text.specs.Ended.{ends_in_lf as has_lf};
 ghost use Rattle.sudoers_text.specs.Line.{join};
 ghost use Rattle.sudoers_edit.specs.Physical.{physical_lines};
-ghost use Rattle.sudoers_edit.specs.Script.{number, kind_word, command_words, spaced, text_lines, payload, payload_line, spell, spelling, is_named as has_names, writing, edit_limit, AreSpellable, IsFront, IsDeadLine, WantsText, IsFullBefore};
+ghost use Rattle.sudoers_edit.specs.Script.{number, kind_word, command_words, spaced, text_lines, payload, payload_line, spell, spelling, is_named as has_names, writing, edit_limit, AreNumbered, AreSpellable, IsFront, IsDeadLine, WantsText, IsFullBefore};
 ghost use Rattle.sudoers_edit.specs.ScriptReading.{reading, Tells, IsToldAt};
 ghost use Rattle.sudoers_edit.specs.declared.edit.Edit.{Edit as AnEdit};
 ghost use Rattle.sudoers_edit.specs.declared.edit.Edit.TheVariants.{Rename};
@@ -237,6 +237,12 @@ pub fn spelling_is_read()
 pub fn read_is_spelling()
     ensures { (text : List ℕ) (edits : List AnEdit) → reading text ≡ Ok edits → (text ≡ spelling edits)
         × (length edits ≤ edit_limit) × AreSpellable edits }
+{}
+
+/// What is written, where numbers fit, is read as the list that it was written of; and what is read as a list is written of it.
+pub fn written_is_read()
+    ensures read { (edits : List AnEdit) (text : List ℕ) → AreNumbered edits → writing edits ≡ Ok text → reading text ≡ Ok edits }
+    ensures written { (edits : List AnEdit) (text : List ℕ) → reading text ≡ Ok edits → writing edits ≡ Ok text }
 {}
 
 /// Two lists of edits have two spellings.
