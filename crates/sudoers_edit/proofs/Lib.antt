@@ -1,5 +1,7 @@
 mod AlikeLemmas
 mod ChangedLemmas
+mod BackLemmas
+mod DefLemmas
 mod EditLemmas
 mod FrontLemmas
 mod HistoryLemmas
@@ -15,5 +17,6 @@ mod ReplacedLemmas
 mod ScriptLemmas
 mod SpellingLemmas
 mod SpliceLemmas
+mod WayBackLemmas
 mod WordLemmas
 mod WritingLemmas

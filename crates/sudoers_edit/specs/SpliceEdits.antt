@@ -68,22 +68,24 @@ defs_of (node.Include dir path) = None
 defs_of (node.Defaults scope params) = None
 defs_of (node.Spec users groups) = None
 
+-- the line of this number and its definitions
+abbrev pub with_defs : ℕ → List Line → (Line → List Def → Result Lines EditFault) → Result Lines EditFault
+with_defs n policy next = or_refuse (slice_get policy n) NoLine (λ line. or_refuse (defs_of line.node) NoAlias (next line))
+
 -- the lines with a definition more in the line `n`
 unfoldable pub add_def : ℕ → ℕ → List ℕ → List Line → Result Lines EditFault
 add_def n at splice policy =
-    or_refuse (slice_get policy n) NoLine (λ line. or_refuse (defs_of line.node) NoAlias (λ defs.
-    place_to_add at (def_extents defs) (λ from. put_in among.Definitions at from n splice line policy)))
+    with_defs n policy (λ line defs. place_to_add at (def_extents defs) (λ from. put_in among.Definitions at from n splice line policy))
 
 -- the lines without a definition of the line `n`
 unfoldable pub drop_def : ℕ → ℕ → List Line → Result Lines EditFault
 drop_def n at policy =
-    or_refuse (slice_get policy n) NoLine (λ line. or_refuse (defs_of line.node) NoAlias (λ defs.
-    place_to_drop at (def_extents defs) (λ from to. cut_out among.Definitions at from to n line policy)))
+    with_defs n policy (λ line defs. place_to_drop at (def_extents defs) (λ from to. cut_out among.Definitions at from to n line policy))
 
 -- MEMBERS
 
 -- the line and the definition at a place
-abbrev pub with_def : {X : Type 0} → Option Place → List Line → (Place → Line → Def → Result X EditFault) → Result X EditFault
+abbrev pub with_def : Option Place → List Line → (Place → Line → Def → Result Lines EditFault) → Result Lines EditFault
 with_def place policy next =
     or_refuse place NoAlias (λ at. or_refuse (slice_get policy at.line) NoAlias (λ line.
     or_refuse (defs_of line.node) NoAlias (λ defs. or_refuse (slice_get defs at.def) NoAlias (λ d. next at line d))))

@@ -1,13 +1,15 @@
 //! Members and definitions put in and taken out.
-ghost use Rattle.std.specs.Prelude.{◌≡◌, ◌≤◌, ◌<◌, length, List, ℕ, IfOk, MatchResult};
+ghost use Rattle.std.specs.Prelude.{◌≡◌, ◌≤◌, ◌<◌, length, slice_get, Some, Result, Err, List, ℕ, IfOk, MatchResult};
 ghost use Rattle.sudoers_text.specs.Ended.{has_unended_inside};
 ghost use Rattle.sudoers_tree.specs.Policy.{texts};
 ghost use Rattle.sudoers_edit.specs.declared.edit.Edit.{Edit as AnEdit};
 ghost use Rattle.sudoers_edit.specs.Editing.{Refuses};
 ghost use Rattle.sudoers_edit.specs.Landing.{replaced, changed_or_refusal};
 ghost use Rattle.sudoers_edit.specs.Leading.{Lands, Replaces, PutIn, CutOut, IsKnown};
-ghost use Rattle.sudoers_edit.specs.SpliceEdits.{put_in as with_more, cut_out as with_less};
+ghost use Rattle.sudoers_edit.specs.SpliceEdits.{Lines, put_in as with_more, cut_out as with_less, with_defs, defs_of};
 ghost use Rattle.sudoers_tree.specs.declared.line.Line.{Line as LineOf};
+ghost use Rattle.sudoers_line.specs.declared.node.Def.{Def as DefOf};
+ghost use Rattle.sudoers_edit.specs.declared.edit.EditFault.{EditFault as Refusal};
 
 use crate::edit::{Edit, EditFault, Edits};
 use crate::landing::{Landed, is_sound, land, reads_lines};
@@ -17,7 +19,7 @@ use crate::splice::{line_with, line_without, place_to_add, place_to_drop};
 use crate::text::Text;
 use std::alloc::Global;
 use sudoers_text::{LINE_LIMIT, ends_in_lf, line_alone_is_whole, line_alone_size};
-use sudoers_tree::{Kind, Line, Node, Policy, lines_are_said, read_line};
+use sudoers_tree::{Def, Kind, Line, Node, Policy, lines_are_said, read_line};
 
 /// A definition put into a line.
 pub fn def_added(policy: &Policy, line: u32, at: u32, splice: &[u8]) -> Result<Landed, EditFault>
@@ -25,17 +27,20 @@ pub fn def_added(policy: &Policy, line: u32, at: u32, splice: &[u8]) -> Result<L
 {
     is_known(policy);
     let alloc = policy.allocator();
-    let (number, place) = (line as usize, at as usize);
-    let Some(old) = policy.lines().get(number) else {
-        return Err(EditFault::NoLine);
+    let (old, defs) = match defs_at(policy, line as usize) {
+        Ok(found) => found,
+        Err(fault) => return Err(fault),
     };
-    let Node::Alias { defs, .. } = &old.node else {
-        return Err(EditFault::NoAlias);
+    let from = match place_to_add(defs, at as usize) {
+        Ok(from) => from,
+        Err(fault) => return Err(fault),
     };
-    let from = place_to_add(defs.as_slice(), place)?;
-    let text = put_in(alloc, Among::Definitions, place, from, splice, old)?;
+    let text = match put_in(alloc, Among::Definitions, at as usize, from, splice, old) {
+        Ok(text) => text,
+        Err(fault) => return Err(fault),
+    };
     let inverse = Edits::one(alloc, Edit::DropDef { line, at })?;
-    line_replaced(policy, number, text.as_slice(), inverse)
+    line_replaced(policy, line as usize, text.as_slice(), inverse)
 }
 
 /// A definition taken out of a line.
@@ -44,18 +49,38 @@ pub fn def_dropped(policy: &Policy, line: u32, at: u32) -> Result<Landed, EditFa
 {
     is_known(policy);
     let alloc = policy.allocator();
-    let (number, place) = (line as usize, at as usize);
-    let Some(old) = policy.lines().get(number) else {
-        return Err(EditFault::NoLine);
+    let (old, defs) = match defs_at(policy, line as usize) {
+        Ok(found) => found,
+        Err(fault) => return Err(fault),
     };
-    let Node::Alias { defs, .. } = &old.node else {
-        return Err(EditFault::NoAlias);
+    let (from, to) = match place_to_drop(defs, at as usize) {
+        Ok(bytes) => bytes,
+        Err(fault) => return Err(fault),
     };
-    let (from, to) = place_to_drop(defs.as_slice(), place)?;
-    let text = cut_out(alloc, Among::Definitions, place, from, to, old)?;
+    let text = match cut_out(alloc, Among::Definitions, at as usize, from, to, old) {
+        Ok(text) => text,
+        Err(fault) => return Err(fault),
+    };
     let splice = Text::from_slice(alloc, &old.text.as_slice()[from..to])?;
     let inverse = Edits::one(alloc, Edit::AddDef { line, at, splice })?;
-    line_replaced(policy, number, text.as_slice(), inverse)
+    line_replaced(policy, line as usize, text.as_slice(), inverse)
+}
+
+/// The line of a number, and its definitions.
+fn defs_at(policy: &Policy, number: usize) -> Result<(&Line, &[Def]), EditFault>
+    ensures outcome { (next : LineOf → List DefOf → Result Lines Refusal) → MatchResult result
+        (λ found. with_defs number policy.now next ≡ next found.0.now found.1.now)
+        (λ fault. with_defs number policy.now next ≡ Err fault) }
+    ensures found { IfOk result (λ found. (slice_get policy.now number ≡ Some found.0.now)
+        × (defs_of found.0.now.node ≡ Some found.1.now)) }
+{
+    let Some(line) = policy.lines().get(number) else {
+        return Err(EditFault::NoLine);
+    };
+    match &line.node {
+        Node::Alias { defs, .. } => Ok((line, defs.as_slice())),
+        _ => Err(EditFault::NoAlias),
+    }
 }
 
 /// A line with one more, which stands at a place and has these bytes.
