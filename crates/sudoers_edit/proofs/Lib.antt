@@ -21,3 +21,4 @@ mod SpellingLemmas
 mod SpliceLemmas
 mod WayBackLemmas
 mod WordLemmas
+mod WritingLemmas
