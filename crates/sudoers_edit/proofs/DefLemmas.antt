@@ -9,7 +9,8 @@ use Rattle.sudoers_edit.specs.declared.edit.EditFault.{EditFault}
 use Rattle.sudoers_edit.specs.declared.one_more.Among.TheVariants as among
 use Rattle.sudoers_edit.specs.Splice.{Extent, def_extents, seam, owned_stop, slice}
 use Rattle.sudoers_edit.specs.SpliceEdits.{Lines, defs_of, add_def, drop_def, put_in, cut_out, owned_def}
-use Rattle.sudoers_edit.specs.Landing.{changed_or_refusal, replaced}
+use Rattle.sudoers_edit.specs.Landing.{changed_or_refusal}
+use Rattle.sudoers_tree.specs.Changed.{replaced}
 use Rattle.sudoers_edit.specs.Editing.{step, run}
 use Rattle.sudoers_edit.specs.Leading.{IsKnown, PutIn, CutOut, Replaces}
 use Rattle.sudoers_edit.proofs.EditLemmas.{run_one}

@@ -15,7 +15,8 @@ use Rattle.sudoers_edit.specs.declared.one_more.Among.TheVariants as among
 use Rattle.sudoers_edit.specs.Alike.{are_alike, is_same_def}
 use Rattle.sudoers_edit.specs.Splice.{Extent, member_extents, extents_in, changed_at, less_member, seam, owned_stop, slice, is_member_more}
 use Rattle.sudoers_edit.specs.SpliceEdits.{Lines, defs_of, with_def, place_to_add, place_to_drop, add_member, drop_member, put_in, cut_out, owned_member}
-use Rattle.sudoers_edit.specs.Landing.{changed_or_refusal, replaced}
+use Rattle.sudoers_edit.specs.Landing.{changed_or_refusal}
+use Rattle.sudoers_tree.specs.Changed.{replaced}
 use Rattle.sudoers_edit.specs.Editing.{step, run}
 use Rattle.sudoers_edit.specs.Leading.{IsKnown, IsDefAt, PutIn, CutOut, Replaces}
 use Rattle.sudoers_edit.proofs.EditLemmas.{run_one}

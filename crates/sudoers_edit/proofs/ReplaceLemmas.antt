@@ -11,7 +11,8 @@ use Rattle.sudoers_tree.specs.Policy.{texts}
 use Rattle.sudoers_edit.specs.OneLine.{IsAlone, IsSound}
 use Rattle.sudoers_edit.specs.declared.edit.Edit.{Edit}
 use Rattle.sudoers_edit.specs.declared.edit.EditFault.TheVariants.{TooLarge, OpenLine}
-use Rattle.sudoers_edit.specs.Landing.{replaced, changed_or_refusal, lines_or_refusal, policy_or_refusal}
+use Rattle.sudoers_edit.specs.Landing.{changed_or_refusal, lines_or_refusal, policy_or_refusal}
+use Rattle.sudoers_tree.specs.Changed.{replaced}
 use Rattle.sudoers_edit.specs.Editing.{step}
 use Rattle.sudoers_edit.specs.Leading.{Leads, Replaces}
 use Rattle.sudoers_edit.proofs.EditLemmas.{ReadsLaw}

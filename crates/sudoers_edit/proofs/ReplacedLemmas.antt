@@ -14,19 +14,11 @@ use Rattle.sudoers_tree.specs.Policy.{texts}
 use Rattle.sudoers_tree.specs.Reading.{read_of}
 use Rattle.sudoers_tree.specs.Single.{said}
 use Rattle.sudoers_edit.specs.OneLine.{IsAlone, IsSound}
-use Rattle.sudoers_edit.specs.Landing.{replaced, is_too_long, changed_or_refusal, lines_or_refusal, policy_of}
+use Rattle.sudoers_edit.specs.Landing.{is_too_long, changed_or_refusal, lines_or_refusal, policy_of}
+use Rattle.sudoers_tree.specs.Changed.{replaced}
 use Rattle.sudoers_edit.proofs.EditLemmas.{settled}
 
 -- TEXTS
-
-pub join_replaced : (lines : List Line) (at : ℕ) (t : List ℕ) → at < length lines
-    → (join (texts (take at lines)) ++ t) ++ join (texts (drop (suc at) lines)) ≡ join (replaced at t (texts lines))
-join_replaced [] at t within = absurd (omega (arith, within))
-join_replaced (l ∷ lines) zero t within = refl
-join_replaced (l ∷ lines) (suc at) t within =
-    ap (λ z. z ++ join (texts (drop (suc at) lines))) (append_assoc l.text (join (texts (take at lines))) t)
-    ∙ append_assoc l.text (join (texts (take at lines)) ++ t) (join (texts (drop (suc at) lines)))
-    ∙ ap (λ z. l.text ++ z) (join_replaced lines at t (omega (arith, within)))
 
 pub each_replaced : (ls : List (List ℕ)) (at : ℕ) (t : List ℕ) → StandAlone ls → IsAlone t → StandAlone (replaced at t ls)
 each_replaced [] at t each alone = tt

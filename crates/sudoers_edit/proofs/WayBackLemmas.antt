@@ -16,7 +16,8 @@ use Rattle.sudoers_edit.specs.Splice.{slice, line_without, line_with}
 use Rattle.sudoers_edit.specs.SpliceEdits.{Lines, is_one_more, put_in, cut_out}
 use Rattle.sudoers_edit.specs.declared.edit.EditFault.{EditFault}
 use Rattle.sudoers_edit.specs.declared.one_more.Among.{Among}
-use Rattle.sudoers_edit.specs.Landing.{replaced, changed_or_refusal}
+use Rattle.sudoers_edit.specs.Landing.{changed_or_refusal}
+use Rattle.sudoers_tree.specs.Changed.{replaced}
 use Rattle.sudoers_edit.specs.Leading.{IsKnown, PutIn, CutOut}
 use Rattle.sudoers_edit.proofs.BackLemmas.{puts, cuts}
 use Rattle.sudoers_edit.proofs.ReplacedLemmas.{AllSaid, Swapped, swapped}

@@ -8,6 +8,7 @@ use Rattle.sudoers_text.specs.Ended.{has_unended_inside}
 use Rattle.sudoers_text.specs.Fault.{text_limit, line_limit}
 use Rattle.sudoers_tree.specs.declared.line.Line.{Line}
 use Rattle.sudoers_tree.specs.declared.fault.ReadFault.{ReadFault}
+use Rattle.sudoers_tree.specs.Changed.{replaced}
 use Rattle.sudoers_tree.specs.Policy.{texts}
 use Rattle.sudoers_tree.specs.Reading.{read_of}
 use Rattle.sudoers_edit.specs.declared.edit.EditFault.{EditFault}
@@ -42,12 +43,6 @@ lines_or_refusal lines =
 
 abbrev pub is_too_long : List ℕ → Bool
 is_too_long line = nat_lt line_limit (length line)
-
--- the lines, of which the one at a place is another
-abbrev pub replaced : ℕ → List ℕ → List (List ℕ) → List (List ℕ)
-replaced at line [] = []
-replaced zero line (old ∷ lines) = line ∷ lines
-replaced (suc at) line (old ∷ lines) = old ∷ replaced at line lines
 
 -- the lines with one changed, if they can be a policy's
 abbrev pub changed_or_refusal : ℕ → List ℕ → List (List ℕ) → Result (List (List ℕ)) EditFault

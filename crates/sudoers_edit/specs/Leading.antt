@@ -10,7 +10,8 @@ use Rattle.sudoers_tree.specs.Policy.{texts}
 use Rattle.sudoers_edit.specs.declared.edit.Edit.{Edit}
 use Rattle.sudoers_edit.specs.declared.edit.EditFault.{EditFault}
 use Rattle.sudoers_edit.specs.declared.landing.Landed.{Landed}
-use Rattle.sudoers_edit.specs.Landing.{policy_or_refusal, lines_or_refusal, replaced, changed_or_refusal}
+use Rattle.sudoers_edit.specs.Landing.{policy_or_refusal, lines_or_refusal, changed_or_refusal}
+use Rattle.sudoers_tree.specs.Changed.{replaced}
 use Rattle.sudoers_edit.specs.declared.one_more.Among.{Among}
 use Rattle.std.specs.List.{AllByRecursion}
 use Rattle.sudoers_text.specs.Fault.{line_limit}

@@ -10,14 +10,14 @@ ghost use Rattle.sudoers_edit.specs.Leading.{Lands};
 
 use crate::edit::{Edit, EditFault, Edits};
 use crate::landing::{Landed, is_sound, land};
-use crate::reread::{text_moved, text_with, text_without};
+use crate::reread::text_moved;
 use crate::text::Text;
 use std::alloc::{AllocError, Global};
 use sudoers_text::{
     LINE_LIMIT, TextFault, cut, ends_in_lf, lf_behind_last_line, lf_from_last_line,
     line_alone_size, lines_stand_alone,
 };
-use sudoers_tree::{Policy, policy_is_cut};
+use sudoers_tree::{Policy, policy_is_cut, text_with, text_without};
 
 /// A line put in.
 pub fn line_inserted(policy: &Policy, at: u32, text: &[u8]) -> Result<Landed, EditFault>

@@ -1,15 +1,15 @@
 //! The texts that edits lead to, read anew.
-ghost use Rattle.std.specs.Prelude.{◌≡◌, ◌-◌, ◌<◌, ◌≤◌, ◌++◌, List, ℕ, length, insert, remove, take, drop, Ok, IfOk, OnOk, MatchResult};
+ghost use Rattle.std.specs.Prelude.{◌≡◌, ◌-◌, ◌<◌, ◌≤◌, ◌++◌, List, ℕ, length, take, drop, Ok, IfOk, MatchResult};
 ghost use Rattle.sudoers_text.specs.Line.{join};
 ghost use Rattle.sudoers_tree.specs.Policy.{texts};
-ghost use Rattle.sudoers_edit.specs.Landing.{policy_or_refusal, replaced};
+ghost use Rattle.sudoers_edit.specs.Landing.{policy_or_refusal};
 ghost use Rattle.sudoers_edit.specs.LineEdits.{moved};
 ghost use Rattle.sudoers_edit.specs.Editing.{Refuses};
 
 use crate::edit::EditFault;
 use std::alloc::{AllocError, Global};
 use sudoers_text::TEXT_LIMIT;
-use sudoers_tree::{Line, Policy};
+use sudoers_tree::{Line, Policy, append_texts};
 
 /// The policy that a text is.
 pub fn reread(alloc: Global, text: &[u8]) -> Result<Policy, EditFault>
@@ -20,56 +20,6 @@ pub fn reread(alloc: Global, text: &[u8]) -> Result<Policy, EditFault>
         return Err(EditFault::TooLarge);
     }
     Ok(Policy::read(alloc, text)?)
-}
-
-/// The text of lines with one more, before the line `at` or behind the last.
-pub fn text_with(
-    alloc: Global,
-    lines: &[Line],
-    at: usize,
-    line: &[u8],
-) -> Result<Vec<u8>, AllocError>
-    requires { at ≤ length lines.now }
-    ensures { IfOk result (λ text. text.items ≡ join (insert (texts lines.now) at line.now)) }
-{
-    let (front, back) = lines.split_at(at);
-    let mut text = Vec::new(alloc);
-    append_lines(front, &mut text)?;
-    text.extend_from_slice(line)?;
-    append_lines(back, &mut text)?;
-    Ok(text)
-}
-
-/// The text of lines without the line `at`.
-pub fn text_without(alloc: Global, lines: &[Line], at: usize) -> Result<Vec<u8>, AllocError>
-    requires { at < length lines.now }
-    ensures { IfOk result (λ text. text.items ≡ join (remove (texts lines.now) at)) }
-{
-    let (front, _) = lines.split_at(at);
-    let (_, back) = lines.split_at(at + 1);
-    let mut text = Vec::new(alloc);
-    append_lines(front, &mut text)?;
-    append_lines(back, &mut text)?;
-    Ok(text)
-}
-
-/// The text of lines of which the one at a place is another.
-pub fn text_replaced(
-    alloc: Global,
-    lines: &[Line],
-    at: usize,
-    line: &[u8],
-) -> Result<Vec<u8>, AllocError>
-    requires { at < length lines.now }
-    ensures { IfOk result (λ text. text.items ≡ join (replaced at line.now (texts lines.now))) }
-{
-    let (front, _) = lines.split_at(at);
-    let (_, back) = lines.split_at(at + 1);
-    let mut text = Vec::new(alloc);
-    append_lines(front, &mut text)?;
-    text.extend_from_slice(line)?;
-    append_lines(back, &mut text)?;
-    Ok(text)
 }
 
 /// The text of lines of which the line `from` stands at `to`.
@@ -104,18 +54,9 @@ fn text_exchanged(
         ++ (join (texts (take (middle - start) (drop start lines.now))) ++ join (texts (drop end lines.now))))) }
 {
     let mut text = Vec::new(alloc);
-    append_lines(&lines[..start], &mut text)?;
-    append_lines(&lines[middle..end], &mut text)?;
-    append_lines(&lines[start..middle], &mut text)?;
-    append_lines(&lines[end..], &mut text)?;
+    append_texts(&lines[..start], &mut text)?;
+    append_texts(&lines[middle..end], &mut text)?;
+    append_texts(&lines[start..middle], &mut text)?;
+    append_texts(&lines[end..], &mut text)?;
     Ok(text)
-}
-
-fn append_lines(lines: &[Line], text: &mut Vec<u8>) -> Result<(), AllocError>
-    ensures { OnOk result (text.new.items ≡ text.old.items ++ join (texts lines.now)) }
-{
-    for line in lines {
-        text.extend_from_slice(line.text.as_slice())?;
-    }
-    Ok(())
 }

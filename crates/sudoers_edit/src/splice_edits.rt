@@ -4,7 +4,8 @@ ghost use Rattle.sudoers_text.specs.Ended.{has_unended_inside};
 ghost use Rattle.sudoers_tree.specs.Policy.{texts};
 ghost use Rattle.sudoers_edit.specs.declared.edit.Edit.{Edit as AnEdit};
 ghost use Rattle.sudoers_edit.specs.Editing.{Refuses};
-ghost use Rattle.sudoers_edit.specs.Landing.{replaced, changed_or_refusal};
+ghost use Rattle.sudoers_edit.specs.Landing.{changed_or_refusal};
+ghost use Rattle.sudoers_tree.specs.Changed.{replaced};
 ghost use Rattle.sudoers_edit.specs.Leading.{Lands, Replaces, PutIn, CutOut, IsKnown, IsDefAt};
 ghost use Rattle.sudoers_edit.specs.SpliceEdits.{Lines, put_in as with_more, cut_out as with_less, with_defs, with_def, defs_of};
 ghost use Rattle.sudoers_tree.specs.declared.line.Line.{Line as LineOf};
@@ -16,12 +17,11 @@ ghost use Rattle.sudoers_edit.specs.declared.edit.EditFault.{EditFault as Refusa
 use crate::edit::{Edit, EditFault, Edits};
 use crate::landing::{Landed, is_sound, land, reads_lines};
 use crate::one_more::{Among, OneMore};
-use crate::reread::text_replaced;
 use crate::splice::{line_with, line_without, place_to_add, place_to_drop};
 use crate::text::Text;
 use std::alloc::{AllocError, Global};
 use sudoers_text::{LINE_LIMIT, ends_in_lf, line_alone_is_whole, line_alone_size};
-use sudoers_tree::{Def, Kind, Line, Node, Place, Policy, lines_are_said, read_line};
+use sudoers_tree::{Def, Kind, Line, Node, Place, Policy, lines_are_said, read_line, text_replaced};
 
 /// A definition put into a line.
 pub fn def_added(policy: &Policy, line: u32, at: u32, splice: &[u8]) -> Result<Landed, EditFault>

@@ -9,3 +9,4 @@ pub mod OneOutcome
 pub mod AtPlaces
 pub mod ReadText
 pub mod Outlined
+pub mod ChangedText

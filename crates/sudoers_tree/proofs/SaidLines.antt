@@ -36,6 +36,6 @@ pub all_said : WholeLaw → LinesLaw → OneReading → NoFault → (lines : Lis
 all_said whole outcomes reading none [] alone says = tt
 all_said whole outcomes reading none (line ∷ lines) alone says = (
   said_of line.text line.node (whole line.text alone.0)
-  (read_outcome reading none line.text line.node (outcome_of line.text) says.0 (outcomes line.text)),
+      (read_outcome reading none line.text line.node (outcome_of line.text) says.0 (outcomes line.text)),
   all_said whole outcomes reading none lines alone.1 says.1,
 )

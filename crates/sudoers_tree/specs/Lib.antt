@@ -10,3 +10,4 @@ pub mod Single
 pub mod Index
 pub mod Outline
 pub mod Outlining
+pub mod Changed

@@ -1,6 +1,7 @@
 //! A sudoers policy: its lines with what they say, and the definitions and mentions of its aliases.
 #![tactic(auto)]
 
+mod changed;
 mod fault;
 mod index;
 mod kind;
@@ -15,6 +16,9 @@ mod position;
 mod reading;
 mod single;
 
+pub use changed::{
+    append_texts, lines_are_whole, text_replaced, text_with, text_without, whole_lines_are_read,
+};
 pub use fault::ReadFault;
 pub use index::ALIAS_LIMIT;
 pub use kind::{LineKind, kind_word};

@@ -1,6 +1,9 @@
 //! Policies.
 
-ghost use Rattle.std.specs.Prelude.{◌≡◌, ◌++◌, ◌⊎◌, List, ℕ, length, slice_get, Option, None, IfOk, IfErr, OnOk};
+ghost use Rattle.std.specs.Prelude.{◌≡◌, ◌<◌, ◌≤◌, ◌++◌, ◌⊎◌, List, ℕ, length, slice_get, insert, remove, false, Option, None, IfOk, IfErr, OnOk, OnErr};
+ghost use Rattle.sudoers_text.specs.Ended.{has_unended_inside};
+ghost use Rattle.sudoers_text.specs.Whole.{IsLogicalLine};
+ghost use Rattle.sudoers_tree.specs.Changed.{replaced as with_another};
 ghost use Rattle.std.specs.Option.{option_map, option_copied};
 ghost use Rattle.sudoers_text.specs.Line.{join};
 ghost use Rattle.sudoers_text.specs.Fault.{text_limit};
@@ -13,6 +16,9 @@ ghost use Rattle.sudoers_tree.specs.Policy.{IsPolicy, texts};
 ghost use Rattle.sudoers_tree.specs.Fault.{IsFaultOf};
 ghost use Rattle.sudoers_tree.specs.Reading.{read_of, ReadGives};
 
+use crate::changed::{
+    lines_are_whole, text_replaced, text_with, text_without, whole_lines_are_read,
+};
 use crate::fault::ReadFault;
 use crate::index::Index;
 use crate::kind::LineKind;
@@ -102,6 +108,66 @@ impl Policy {
             text.extend_from_slice(line.text.as_slice())?;
         }
         Ok(text)
+    }
+
+    /// Puts a line before the line at a place, or behind the last.
+    ///
+    /// # Errors
+    ///
+    /// Those of reading the changed text; the policy is then as it was.
+    pub fn with_line(&mut self, at: usize, line: &[u8]) -> Result<(), ReadFault>
+        requires at { at ≤ length self.old }
+        requires line { IsLogicalLine line.now }
+        requires ended { has_unended_inside (insert (texts self.old) at line.now) ≡ false }
+        ensures lines { OnOk result (texts self.new ≡ insert (texts self.old) at line.now) }
+        ensures fault { IfErr result (λ fault. (fault ≡ ReadFault.NoMemory) ⊎ IsFaultOf (join (insert (texts self.old) at line.now)) fault) }
+        ensures unchanged { OnErr result (self.new ≡ self.old) }
+    {
+        lines_are_whole(self);
+        whole_lines_are_read();
+        let text = text_with(self.alloc, self.lines.as_slice(), at, line)?;
+        *self = Policy::read(self.alloc, text.as_slice())?;
+        Ok(())
+    }
+
+    /// Takes the line at a place out.
+    ///
+    /// # Errors
+    ///
+    /// Those of reading the changed text; the policy is then as it was.
+    pub fn without_line(&mut self, at: usize) -> Result<(), ReadFault>
+        requires at { at < length self.old }
+        requires ended { has_unended_inside (remove (texts self.old) at) ≡ false }
+        ensures lines { OnOk result (texts self.new ≡ remove (texts self.old) at) }
+        ensures fault { IfErr result (λ fault. (fault ≡ ReadFault.NoMemory) ⊎ IsFaultOf (join (remove (texts self.old) at)) fault) }
+        ensures unchanged { OnErr result (self.new ≡ self.old) }
+    {
+        lines_are_whole(self);
+        whole_lines_are_read();
+        let text = text_without(self.alloc, self.lines.as_slice(), at)?;
+        *self = Policy::read(self.alloc, text.as_slice())?;
+        Ok(())
+    }
+
+    /// Puts another line in the place of one.
+    ///
+    /// # Errors
+    ///
+    /// Those of reading the changed text; the policy is then as it was.
+    #[tactic(auto, using(crate::proofs::ChangedText::whole_replaced))]
+    pub fn replaced(&mut self, at: usize, line: &[u8]) -> Result<(), ReadFault>
+        requires at { at < length self.old }
+        requires line { IsLogicalLine line.now }
+        requires ended { has_unended_inside (with_another at line.now (texts self.old)) ≡ false }
+        ensures lines { OnOk result (texts self.new ≡ with_another at line.now (texts self.old)) }
+        ensures fault { IfErr result (λ fault. (fault ≡ ReadFault.NoMemory) ⊎ IsFaultOf (join (with_another at line.now (texts self.old))) fault) }
+        ensures unchanged { OnErr result (self.new ≡ self.old) }
+    {
+        lines_are_whole(self);
+        whole_lines_are_read();
+        let text = text_replaced(self.alloc, self.lines.as_slice(), at, line)?;
+        *self = Policy::read(self.alloc, text.as_slice())?;
+        Ok(())
     }
 
     /// How many lines there are.

@@ -1,0 +1,54 @@
+-- The text of lines of which one is changed, by its parts; and the lines of it.
+use Rattle.std.proofs.Common.{◌≡◌, ℕ, zero, suc, ◌<◌, ◌≤◌, true, false, List, [], ◌∷◌, ◌++◌, length, take, drop, insert, remove, Result, Ok, refl, sym, ap, subst, ◌∙◌, arith, append_assoc}
+use Rattle.std.specs.List.{AllByRecursion}
+use Rattle.sudoers_text.specs.Line.{join, Cuts}
+use Rattle.sudoers_text.specs.Cut.{cut_of, StandAlone}
+use Rattle.sudoers_text.specs.Ended.{has_unended_inside}
+use Rattle.sudoers_text.specs.Fault.{IsOutcome}
+use Rattle.sudoers_text.specs.Whole.{IsLogicalLine, is_logical_line}
+use Rattle.sudoers_tree.specs.declared.line.Line.{Line}
+use Rattle.sudoers_tree.specs.Changed.{replaced}
+use Rattle.sudoers_tree.specs.Policy.{texts}
+
+-- the text with a line more, by its parts
+pub join_insert : (lines : List Line) (at : ℕ) (t : List ℕ) → at ≤ length lines
+    → join (texts (take at lines)) ++ (t ++ join (texts (drop at lines))) ≡ join (insert (texts lines) at t)
+join_insert lines zero t within = refl
+join_insert [] (suc n) t within = absurd (omega arith)
+join_insert (line ∷ lines) (suc n) t within =
+    append_assoc line.text (join (texts (take n lines))) (t ++ join (texts (drop n lines)))
+    ∙ ap (λ rest. line.text ++ rest) (join_insert lines n t (omega arith))
+
+-- the text with a line less
+pub join_remove : (lines : List Line) (at : ℕ) → at < length lines
+    → join (texts (take at lines)) ++ join (texts (drop (suc at) lines)) ≡ join (remove (texts lines) at)
+join_remove [] at within = absurd (omega arith)
+join_remove (line ∷ lines) zero within = refl
+join_remove (line ∷ lines) (suc n) within =
+    append_assoc line.text (join (texts (take n lines))) (join (texts (drop (suc n) lines)))
+    ∙ ap (λ rest. line.text ++ rest) (join_remove lines n (omega arith))
+
+-- the text with another line in the place of one
+pub join_replaced : (lines : List Line) (at : ℕ) (t : List ℕ) → at < length lines
+    → (join (texts (take at lines)) ++ t) ++ join (texts (drop (suc at) lines)) ≡ join (replaced at t (texts lines))
+join_replaced [] at t within = absurd (omega (arith, within))
+join_replaced (l ∷ lines) zero t within = refl
+join_replaced (l ∷ lines) (suc at) t within =
+    ap (λ z. z ++ join (texts (drop (suc at) lines))) (append_assoc l.text (join (texts (take at lines))) t)
+    ∙ append_assoc l.text (join (texts (take at lines)) ++ t) (join (texts (drop (suc at) lines)))
+    ∙ ap (λ z. l.text ++ z) (join_replaced lines at t (omega (arith, within)))
+
+-- LINES
+
+abbrev pub Whole : List (List ℕ) → Type 0
+Whole lines = AllByRecursion IsLogicalLine lines
+
+pub whole_alone : ((line : List ℕ) → cut_of line ≡ Ok (line ∷ []) → is_logical_line line ≡ true) → ((line : List ℕ) → is_logical_line line ≡ true → IsLogicalLine line)
+    → (lines : List (List ℕ)) → StandAlone lines → Whole lines
+whole_alone whole tells [] alone = tt
+whole_alone whole tells (line ∷ lines) alone = (tells line (whole line alone.0), whole_alone whole tells lines alone.1)
+
+pub whole_replaced : (lines : List (List ℕ)) (at : ℕ) (line : List ℕ) → Whole lines → IsLogicalLine line → Whole (replaced at line lines)
+whole_replaced [] at line all is = tt
+whole_replaced (l ∷ lines) zero line all is = (is, all.1)
+whole_replaced (l ∷ lines) (suc at) line all is = (all.0, whole_replaced lines at line all.1 is)

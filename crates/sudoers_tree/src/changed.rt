@@ -1,0 +1,100 @@
+//! The texts of policies of which a line is changed.
+ghost use Rattle.std.specs.Prelude.{◌≡◌, ◌<◌, ◌≤◌, ◌++◌, List, ℕ, length, insert, remove, false, Ok, IfOk, OnOk};
+ghost use Rattle.std.specs.List.{AllByRecursion};
+ghost use Rattle.sudoers_text.specs.Ended.{has_unended_inside};
+ghost use Rattle.sudoers_text.specs.Line.{join};
+ghost use Rattle.sudoers_text.specs.Whole.{IsLogicalLine};
+ghost use Rattle.sudoers_tree.specs.declared.line.Line.{Line as LineOf};
+ghost use Rattle.sudoers_tree.specs.Changed.{replaced};
+ghost use Rattle.sudoers_tree.specs.Policy.{texts};
+ghost use Rattle.sudoers_tree.specs.Reading.{read_of};
+
+use crate::laws::policy_is_cut;
+use crate::line::Line;
+use crate::policy::Policy;
+use std::alloc::{AllocError, Global};
+use sudoers_text::{
+    cut_is, line_alone_is_whole, lines_stand_alone, one_list, whole_line_is, whole_lines_of_join,
+};
+
+/// The text of lines with one more, before the line `at` or behind the last.
+pub fn text_with(
+    alloc: Global,
+    lines: &[Line],
+    at: usize,
+    line: &[u8],
+) -> Result<Vec<u8>, AllocError>
+    requires { at ≤ length lines.now }
+    ensures { IfOk result (λ text. text.items ≡ join (insert (texts lines.now) at line.now)) }
+{
+    let (front, back) = lines.split_at(at);
+    let mut text = Vec::new(alloc);
+    append_texts(front, &mut text)?;
+    text.extend_from_slice(line)?;
+    append_texts(back, &mut text)?;
+    Ok(text)
+}
+
+/// The text of lines without the line `at`.
+pub fn text_without(alloc: Global, lines: &[Line], at: usize) -> Result<Vec<u8>, AllocError>
+    requires { at < length lines.now }
+    ensures { IfOk result (λ text. text.items ≡ join (remove (texts lines.now) at)) }
+{
+    let (front, _) = lines.split_at(at);
+    let (_, back) = lines.split_at(at + 1);
+    let mut text = Vec::new(alloc);
+    append_texts(front, &mut text)?;
+    append_texts(back, &mut text)?;
+    Ok(text)
+}
+
+/// The text of lines of which the one at a place is another.
+pub fn text_replaced(
+    alloc: Global,
+    lines: &[Line],
+    at: usize,
+    line: &[u8],
+) -> Result<Vec<u8>, AllocError>
+    requires { at < length lines.now }
+    ensures { IfOk result (λ text. text.items ≡ join (replaced at line.now (texts lines.now))) }
+{
+    let (front, _) = lines.split_at(at);
+    let (_, back) = lines.split_at(at + 1);
+    let mut text = Vec::new(alloc);
+    append_texts(front, &mut text)?;
+    text.extend_from_slice(line)?;
+    append_texts(back, &mut text)?;
+    Ok(text)
+}
+
+/// Puts the texts of lines behind a text.
+pub fn append_texts(lines: &[Line], text: &mut Vec<u8>) -> Result<(), AllocError>
+    ensures { OnOk result (text.new.items ≡ text.old.items ++ join (texts lines.now)) }
+{
+    for line in lines {
+        text.extend_from_slice(line.text.as_slice())?;
+    }
+    Ok(())
+}
+
+/// A law: each line of a policy is one logical line.
+pub fn lines_are_whole(policy: &Policy)
+    ensures { AllByRecursion IsLogicalLine (texts policy.now) }
+{
+    policy.is_policy();
+    policy_is_cut();
+    lines_stand_alone();
+    line_alone_is_whole();
+    whole_line_is();
+}
+
+/// A law: lines that are each one logical line, all but the last ending in LF, are those of the policy that their join is.
+pub fn whole_lines_are_read()
+    ensures { (lines : List (List ℕ)) (policy : List LineOf) → AllByRecursion IsLogicalLine lines → has_unended_inside lines ≡ false
+        → read_of (join lines) ≡ Ok policy → texts policy ≡ lines }
+{
+    policy_is_cut();
+    cut_is();
+    one_list();
+    whole_lines_of_join();
+}
