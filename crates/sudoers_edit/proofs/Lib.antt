@@ -10,6 +10,7 @@ mod OneSpelling
 mod PhysicalLemmas
 mod PolicyLemmas
 mod ReadingLemmas
+mod RenameLemmas
 mod ReplaceLemmas
 mod ReplacedLemmas
 mod ScriptLemmas
