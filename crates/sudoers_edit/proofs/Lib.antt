@@ -9,6 +9,7 @@ mod NumberLemmas
 mod OneSpelling
 mod PhysicalLemmas
 mod PolicyLemmas
+mod PruneLemmas
 mod ReadingLemmas
 mod RenameLemmas
 mod ReplaceLemmas

@@ -61,9 +61,9 @@ put_past from to size fresh (start ∷ starts) line a b =
 put_from : (from start size most : ℕ) (fresh : List ℕ) (starts : List ℕ) (line : List ℕ) → from ≡ min (start + size) most → length line ≤ most
     → put_at from size fresh starts line ≡ put_at (start + size) size fresh starts line
 put_from from start size most fresh starts line is within = elim (leb_tells (start + size) most) [
-    | inl less ↦ ap (λ n. put_at n size fresh starts line) (same is less.1)
-    | inr more ↦ put_past from (start + size) size fresh starts line (omega (arith, is, more.1, within)) (omega (arith, more.1, within))
-  ]
+  | inl less ↦ ap (λ n. put_at n size fresh starts line) (same is less.1)
+  | inr more ↦ put_past from (start + size) size fresh starts line (omega (arith, is, more.1, within)) (omega (arith, more.1, within))
+]
   where
     same : from ≡ min (start + size) most → start + size ≤ most → from ≡ start + size
     same is less = omega (arith, is, less)

@@ -155,6 +155,6 @@ swapped law size before after at old t n sound read here says later same alone =
 pub open_or_last : (ls : List (List ℕ)) (at : ℕ) (t : List ℕ) (n : ℕ) → n ≡ length ls → at < length ls → has_unended_inside ls ≡ false → ends_in_lf t ≡ false
     → nat_lt 1 (n - at) ≡ has_unended_inside (replaced at t ls)
 open_or_last ls at t n size within h open_ = elim (leb_tells 2 (n - at)) [
-    | inl more ↦ more.0 ∙ sym (open_replaced ls at t (omega (arith, more.1, size, within)) open_)
-    | inr last ↦ last.0 ∙ sym (ended_replaced ls at t h (inr (omega (arith, last.1, size, within))))
-  ]
+  | inl more ↦ more.0 ∙ sym (open_replaced ls at t (omega (arith, more.1, size, within)) open_)
+  | inr last ↦ last.0 ∙ sym (ended_replaced ls at t h (inr (omega (arith, last.1, size, within))))
+]

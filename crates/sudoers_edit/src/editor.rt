@@ -6,9 +6,10 @@ ghost use Rattle.sudoers_edit.specs.Editing.{run};
 ghost use Rattle.sudoers_edit.specs.Leading.{Lands};
 
 use crate::edit::{Edit, EditFault, Edits};
-use crate::landing::{Landed, is_sound};
+use crate::landing::{Landed, copied};
 use crate::line_edits::{end_closed, end_opened, line_deleted, line_inserted, line_moved};
-use crate::reread::reread;
+use crate::pruning::pruned;
+use crate::renaming::alias_renamed;
 use crate::text::Text;
 use std::alloc::{AllocError, Global};
 use std::marker::Model;
@@ -182,15 +183,6 @@ fn after_all(policy: &Policy, edits: &[Edit]) -> Result<Policy, EditFault>
     Ok(after)
 }
 
-/// A copy of a policy.
-fn copied(policy: &Policy) -> Result<Policy, EditFault>
-    ensures { MatchResult result (λ new. texts new ≡ texts policy.now) (λ fault. fault ≡ EditFault.NoMemory) }
-{
-    is_sound(policy);
-    policy.is_policy();
-    reread(policy.allocator(), policy.text()?.as_slice())
-}
-
 /// What comes of an edit.
 fn landed(policy: &Policy, edit: &Edit) -> Result<Landed, EditFault>
     ensures { Lands edit.now (texts policy.now) result }
@@ -201,6 +193,10 @@ fn landed(policy: &Policy, edit: &Edit) -> Result<Landed, EditFault>
         Edit::Move { from, to } => line_moved(policy, *from, *to),
         Edit::EndLine => end_closed(policy),
         Edit::OpenEnd => end_opened(policy),
+        Edit::Rename { kind, name, fresh } => {
+            alias_renamed(policy, *kind, name.as_slice(), fresh.as_slice())
+        }
+        Edit::Prune => pruned(policy),
         _ => Err(EditFault::NoMemory),
     }
 }

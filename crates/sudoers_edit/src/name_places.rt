@@ -125,11 +125,7 @@ fn in_runas(name: &[u8], commands: &[CmdSpec], starts: &mut Vec<usize>) -> Resul
     Ok(())
 }
 
-fn in_commands(
-    name: &[u8],
-    commands: &[CmdSpec],
-    starts: &mut Vec<usize>,
-) -> Result<(), AllocError>
+fn in_commands(name: &[u8], commands: &[CmdSpec], starts: &mut Vec<usize>) -> Result<(), AllocError>
     ensures { OnOk result (starts.new.items ≡ starts.old.items
         ++ starts_among name.now (map (λ (c : CmdSpecOf). c.member) commands.now)) }
 {

@@ -41,12 +41,7 @@ pub fn alias_renamed(
     })
 }
 
-fn rename_back(
-    alloc: Global,
-    kind: Kind,
-    name: &[u8],
-    fresh: &[u8],
-) -> Result<Edits, AllocError>
+fn rename_back(alloc: Global, kind: Kind, name: &[u8], fresh: &[u8]) -> Result<Edits, AllocError>
     ensures { IfOk result (λ edits. edits ≡ Edit.Rename kind fresh.now name.now ∷ []) }
 {
     let back = Edit::Rename {
@@ -86,12 +81,7 @@ fn is_restored(
 }
 
 /// The policy with another name for an alias, whether or not a way leads back.
-fn renamed_once(
-    policy: &Policy,
-    kind: Kind,
-    name: &[u8],
-    fresh: &[u8],
-) -> Result<Policy, EditFault>
+fn renamed_once(policy: &Policy, kind: Kind, name: &[u8], fresh: &[u8]) -> Result<Policy, EditFault>
     ensures { MatchResult result (λ new. rename_once kind name.now fresh.now policy.now ≡ Ok (texts new))
         (λ fault. Refuses fault (rename_once kind name.now fresh.now policy.now)) }
 {
@@ -161,7 +151,13 @@ fn line_renamed(
     ensures { IfOk result (λ text. text ≡ renamed_line kind name.now fresh.now line.now) }
 {
     let starts = name_starts(alloc, kind, name, &line.node)?;
-    let text = with_others(alloc, line.text.as_slice(), starts.as_slice(), name.len(), fresh)?;
+    let text = with_others(
+        alloc,
+        line.text.as_slice(),
+        starts.as_slice(),
+        name.len(),
+        fresh,
+    )?;
     Ok(Text::from_vec(text))
 }
 

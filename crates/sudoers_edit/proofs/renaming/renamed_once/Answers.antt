@@ -44,7 +44,7 @@ returns-then-not-is_name c =
     inr (bad_name c.args.kind c.args.name.now fresh c.args.policy.now some (elim c.then-not-is_name.branch [
       | then-not-is_name-via-then-not-is_name w ↦ no_name (is_name fresh) (is_reserved fresh) (sym c.is_name.ensures ∙ w.if-not-is_name.true)
       | then-not-is_name-via-else-not-is_name+then-is_reserved w ↦
-      reserved (is_name fresh) (is_reserved fresh) (sym c.is_name.ensures ∙ w.if-not-is_name.false) (sym w.is_reserved.ensures ∙ w.if-is_reserved.true)
+          reserved (is_name fresh) (is_reserved fresh) (sym c.is_name.ensures ∙ w.if-not-is_name.false) (sym w.is_reserved.ensures ∙ w.if-is_reserved.true)
     ]))
 
 pub returns-then-branch : goal.returns-then-branch
