@@ -6,11 +6,13 @@ use Rattle.std.proofs.lemmas.Bool.{false≢true, cases_Bool, leb-true, leb-false
 use Rattle.sudoers_text.specs.Ended.{ends_in_lf, has_unended_inside}
 use Rattle.sudoers_text.specs.Line.{join as text_of}
 use Rattle.sudoers_edit.specs.Physical.{physical_lines}
-use Rattle.sudoers_edit.specs.Script.{spelling, AreNumbered, edit_limit, IsFront, IsDeadLine, WantsText, IsFullBefore}
-use Rattle.sudoers_edit.specs.ScriptReading.{Standing, Between, Begun, Going, Rest, before, with_room, command_line, first_line, later_line, edits_from, sense, text_in, reading, IsToldAt}
+use Rattle.sudoers_edit.specs.Script.{command_words, spaced, spelling, AreSpellable, edit_limit, IsFront, IsDeadLine, WantsText, IsFullBefore}
+use Rattle.sudoers_edit.specs.ScriptReading.{Standing, Between, Begun, Going, Rest, before, with_room, with_text, fault_of, command_line, first_line, later_line, edits_from, sense, text_in, reading, IsToldAt}
 use Rattle.sudoers_edit.specs.ScriptStanding.{behind}
+use Rattle.sudoers_edit.specs.declared.draft.Draft.{Draft}
 use Rattle.sudoers_edit.specs.declared.edit.Edit.{Edit}
-use Rattle.sudoers_edit.specs.declared.edit.Edit.TheVariants.{Insert, Delete, Move, EndLine, OpenEnd}
+use Rattle.sudoers_edit.specs.declared.script_line.Flaw.{Flaw}
+use Rattle.sudoers_edit.specs.declared.script_line.Flaw.TheVariants as flaw
 use Rattle.sudoers_edit.specs.declared.script_line.Said.{Said}
 use Rattle.sudoers_edit.specs.declared.script_line.Said.TheVariants as says
 use Rattle.sudoers_edit.specs.declared.script.ScriptFault.{ScriptFault}
@@ -18,27 +20,27 @@ use Rattle.sudoers_edit.specs.declared.script.ScriptFault.TheVariants as faults
 use Rattle.sudoers_edit.proofs.PhysicalLemmas.{IsLine, AreLines, join, lines-each, lines-ended, ended-push}
 use Rattle.sudoers_edit.proofs.ScriptLemmas.{opened, lines_spelled, read_spelling}
 use Rattle.sudoers_edit.proofs.SpellingLemmas.{spelling_read}
-use Rattle.sudoers_edit.proofs.WordLemmas.{command_of, Commands, Says, says_sense}
+use Rattle.sudoers_edit.proofs.WordLemmas.{Commands, Says, says_sense}
 
 -- ONE LINE
 
 -- what a line does, by where it stands
 abbrev step : Standing → ℕ → ℕ → List ℕ → Said → Rest → Result (List Edit) ScriptFault
 step Between line count text said rest = command_line rest line count said
-step (Begun at begun) line count text said rest = first_line rest line count at begun (text_in said text) said
-step (Going at so_far) line count text said rest = later_line rest line count at so_far (text_in said text) said
+step (Begun begun at) line count text said rest = first_line rest line count begun at (text_in said text) said
+step (Going begun so_far) line count text said rest = later_line rest line count begun so_far (text_in said text) said
 
 -- so it does before other lines
 edits-step : (text : List ℕ) (lines : List (List ℕ)) (line : ℕ) (standing : Standing) (count : ℕ) → edits_from (text ∷ lines) line standing count ≡ step standing line count text (sense text) (edits_from lines (line + 1))
 edits-step text lines line Between count = refl
-edits-step text lines line (Begun at begun) count = refl
-edits-step text lines line (Going at so_far) count = refl
+edits-step text lines line (Begun begun at) count = refl
+edits-step text lines line (Going begun so_far) count = refl
 
 -- A command whose text has to come stands on the line before this one.
 abbrev IsPlaced : Standing → ℕ → Type 0
 IsPlaced Between line = Unit {0}
-IsPlaced (Begun at begun) line = (begun + 1 ≡ line) × (0 < begun)
-IsPlaced (Going at so_far) line = Unit {0}
+IsPlaced (Begun begun at) line = (at + 1 ≡ line) × (0 < at)
+IsPlaced (Going begun so_far) line = Unit {0}
 
 -- The fault is told where this line is read.
 abbrev IsAt : ScriptFault → ℕ → Type 0
@@ -121,9 +123,13 @@ too_many result line count fits t gives =
 bad_word : (result : Rest → Result (List Edit) ScriptFault) (standing : Standing) (line count : ℕ) → ((rest : Rest) → result rest ≡ Err (faults.BadWord line)) → Fails result standing line count
 bad_word result standing line count gives = record { fault = faults.BadWord line; gives = gives; at = refl; alone = tt }
 
+-- the line of a command ends in LF
+command_ended : (edit : Edit) (text : List ℕ) → Commands edit text → ends_in_lf text ≡ true
+command_ended edit text told = ended_by text (spaced (command_words edit)) told.0
+
 -- the line of a command that is all of its edit
-plain_step : (edit : Edit) (text : List ℕ) (line count : ℕ) → Commands edit text → count ≤ 65536 → Goes (λ rest. with_room count (before edit (rest Between (count + 1)))) text Between line count ⊎ Fails (λ rest. with_room count (before edit (rest Between (count + 1)))) Between line count
-plain_step edit text line count told fits =
+whole_step : (edit : Edit) (text : List ℕ) (line count : ℕ) → Commands edit text → count ≤ 65536 → Goes (λ rest. with_room count (before edit (rest Between (count + 1)))) text Between line count ⊎ Fails (λ rest. with_room count (before edit (rest Between (count + 1)))) Between line count
+whole_step edit text line count told fits =
     elim (cases_Bool (nat_le 65536 count)) [
       | inl t ↦ inr (too_many _ line count fits t (λ rest. no_room count (before edit (rest Between (count + 1))) t))
       | inr f ↦ inl (record {
@@ -131,42 +137,39 @@ plain_step edit text line count told fits =
         then = Between;
         total = count + 1;
         gives = λ rest. has_room count (before edit (rest Between (count + 1))) f ∙ before_one edit (rest Between (count + 1));
-        ended = ended_by text (command_of edit) told.0;
+        ended = command_ended edit text told;
         placed = tt;
         fits = (let h : count < 65536 = leb-false 65536 count f in omega arith);
         sum = omega arith;
       })
     ]
 
+-- a line with a flaw
+flawed_step : (f : Flaw) (result : Rest → Result (List Edit) ScriptFault) (line count : ℕ) → ((rest : Rest) → result rest ≡ Err (fault_of f line)) → Fails result Between line count
+flawed_step flaw.Word result line count gives = bad_word result Between line count gives
+flawed_step flaw.Number result line count gives = record { fault = faults.BadNumber line; gives = gives; at = refl; alone = tt }
+
 -- a line where a command has to come
 command_step : (said : Said) (text : List ℕ) (line count : ℕ) → Says said text → 0 < line → count ≤ 65536 → Goes (λ rest. command_line rest line count said) text Between line count ⊎ Fails (λ rest. command_line rest line count said) Between line count
-command_step (says.Insert at) text line count told pos fits =
+command_step (says.Begin begun) text line count told pos fits =
     elim (cases_Bool (nat_le 65536 count)) [
-      | inl t ↦ inr (too_many _ line count fits t (λ rest. no_room count (rest (Begun at line) (count + 1)) t))
+      | inl t ↦ inr (too_many _ line count fits t (λ rest. no_room count (rest (Begun begun line) (count + 1)) t))
       | inr f ↦ inl (record {
         edits = [];
-        then = Begun at line;
+        then = Begun begun line;
         total = count + 1;
-        gives = λ rest. has_room count (rest (Begun at line) (count + 1)) f ∙ behind_none (rest (Begun at line) (count + 1));
-        ended = ended_by text (command_of (Insert at [])) told.0;
+        gives = λ rest. has_room count (rest (Begun begun line) (count + 1)) f ∙ behind_none (rest (Begun begun line) (count + 1));
+        ended = command_ended (with_text begun []) text told;
         placed = (refl, pos);
         fits = (let h : count < 65536 = leb-false 65536 count f in omega arith);
         sum = omega arith;
       })
     ]
-command_step (says.Delete at) text line count told pos fits = plain_step (Delete at) text line count told fits
-command_step (says.Move from to) text line count told pos fits = plain_step (Move from to) text line count told fits
-command_step says.EndLine text line count told pos fits = plain_step EndLine text line count told fits
-command_step says.OpenEnd text line count told pos fits = plain_step OpenEnd text line count told fits
-command_step says.BadNumber text line count told pos fits =
+command_step (says.Whole edit) text line count told pos fits = whole_step edit text line count told.0 fits
+command_step (says.Flawed f) text line count told pos fits =
     elim (cases_Bool (nat_le 65536 count)) [
-      | inl t ↦ inr (too_many _ line count fits t (λ rest. no_room count (Err (faults.BadNumber line)) t))
-      | inr f ↦ inr (record { fault = faults.BadNumber line; gives = λ rest. has_room count (Err (faults.BadNumber line)) f; at = refl; alone = tt })
-    ]
-command_step says.BadCommand text line count told pos fits =
-    elim (cases_Bool (nat_le 65536 count)) [
-      | inl t ↦ inr (too_many _ line count fits t (λ rest. no_room count (Err (faults.BadWord line)) t))
-      | inr f ↦ inr (bad_word _ Between line count (λ rest. has_room count (Err (faults.BadWord line)) f))
+      | inl t ↦ inr (too_many _ line count fits t (λ rest. no_room count (Err (fault_of f line)) t))
+      | inr g ↦ inr (flawed_step f _ line count (λ rest. has_room count (Err (fault_of f line)) g))
     ]
 command_step says.More text line count told pos fits = inr (bad_word _ Between line count (λ rest. refl))
 command_step says.Last text line count told pos fits = inr (bad_word _ Between line count (λ rest. refl))
@@ -174,115 +177,107 @@ command_step says.Unended text line count told pos fits = inr (bad_word _ Betwee
 command_step says.Other text line count told pos fits = inr (bad_word _ Between line count (λ rest. refl))
 
 -- no text behind a command
-no_payload : (result : Rest → Result (List Edit) ScriptFault) (line count at begun : ℕ) → (begun + 1 ≡ line) × (0 < begun) → ((rest : Rest) → result rest ≡ Err (faults.NoPayload begun)) → Fails result (Begun at begun) line count
-no_payload result line count at begun placed gives = record { fault = faults.NoPayload begun; gives = gives; at = placed; alone = refl }
+no_payload : (result : Rest → Result (List Edit) ScriptFault) (line count : ℕ) (begun : Draft) (at : ℕ) → (at + 1 ≡ line) × (0 < at) → ((rest : Rest) → result rest ≡ Err (faults.NoPayload at)) → Fails result (Begun begun at) line count
+no_payload result line count begun at placed gives = record { fault = faults.NoPayload at; gives = gives; at = placed; alone = refl }
 
--- a line right behind an insertion's command
-first_step : (said : Said) (text t : List ℕ) (line count at begun : ℕ) → Says said text → (begun + 1 ≡ line) × (0 < begun) → count ≤ 65536 → Goes (λ rest. first_line rest line count at begun t said) text (Begun at begun) line count ⊎ Fails (λ rest. first_line rest line count at begun t said) (Begun at begun) line count
-first_step says.More text t line count at begun told placed fits =
+-- a line right behind a command that wants a text
+first_step : (said : Said) (text t : List ℕ) (line count : ℕ) (begun : Draft) (at : ℕ) → Says said text → (at + 1 ≡ line) × (0 < at) → count ≤ 65536 → Goes (λ rest. first_line rest line count begun at t said) text (Begun begun at) line count ⊎ Fails (λ rest. first_line rest line count begun at t said) (Begun begun at) line count
+first_step says.More text t line count begun at told placed fits =
     inl (record {
       edits = [];
-      then = Going at t;
+      then = Going begun t;
       total = count;
-      gives = λ rest. behind_none (rest (Going at t) count);
+      gives = λ rest. behind_none (rest (Going begun t) count);
       ended = ended_bar text told.0 told.1 told.2;
       placed = tt;
       fits = fits;
       sum = omega arith;
     })
-first_step says.Last text t line count at begun told placed fits =
+first_step says.Last text t line count begun at told placed fits =
     inl (record {
-      edits = Insert at t ∷ [];
+      edits = with_text begun t ∷ [];
       then = Between;
       total = count;
-      gives = λ rest. before_one (Insert at t) (rest Between count);
+      gives = λ rest. before_one (with_text begun t) (rest Between count);
       ended = ended_by text (62 ∷ told.0) told.1;
       placed = tt;
       fits = fits;
       sum = omega arith;
     })
-first_step says.Unended text t line count at begun told placed fits = inr (bad_word _ (Begun at begun) line count (λ rest. refl))
-first_step (says.Insert _) text t line count at begun told placed fits = inr (no_payload _ line count at begun placed (λ rest. refl))
-first_step (says.Delete _) text t line count at begun told placed fits = inr (no_payload _ line count at begun placed (λ rest. refl))
-first_step (says.Move _ _) text t line count at begun told placed fits = inr (no_payload _ line count at begun placed (λ rest. refl))
-first_step says.EndLine text t line count at begun told placed fits = inr (no_payload _ line count at begun placed (λ rest. refl))
-first_step says.OpenEnd text t line count at begun told placed fits = inr (no_payload _ line count at begun placed (λ rest. refl))
-first_step says.BadNumber text t line count at begun told placed fits = inr (no_payload _ line count at begun placed (λ rest. refl))
-first_step says.BadCommand text t line count at begun told placed fits = inr (no_payload _ line count at begun placed (λ rest. refl))
-first_step says.Other text t line count at begun told placed fits = inr (no_payload _ line count at begun placed (λ rest. refl))
+first_step says.Unended text t line count begun at told placed fits = inr (bad_word _ (Begun begun at) line count (λ rest. refl))
+first_step (says.Begin _) text t line count begun at told placed fits = inr (no_payload _ line count begun at placed (λ rest. refl))
+first_step (says.Whole _) text t line count begun at told placed fits = inr (no_payload _ line count begun at placed (λ rest. refl))
+first_step (says.Flawed _) text t line count begun at told placed fits = inr (no_payload _ line count begun at placed (λ rest. refl))
+first_step says.Other text t line count begun at told placed fits = inr (no_payload _ line count begun at placed (λ rest. refl))
 
 -- what stands alone before a command does so behind a text
-going_alone : (fault : ScriptFault) (line count at : ℕ) (so_far : List ℕ) → Alone fault (edits_from [] line Between count) Between count → Alone fault (edits_from [] line (Going at so_far) count) (Going at so_far) count
-going_alone (faults.BadWord l) line count at so_far h = tt
-going_alone (faults.BadNumber l) line count at so_far h = tt
-going_alone (faults.NoPayload l) line count at so_far h = cc
-going_alone faults.TooMany line count at so_far h =
+going_alone : (fault : ScriptFault) (line count : ℕ) (begun : Draft) (so_far : List ℕ) → Alone fault (edits_from [] line Between count) Between count → Alone fault (edits_from [] line (Going begun so_far) count) (Going begun so_far) count
+going_alone (faults.BadWord l) line count begun so_far h = tt
+going_alone (faults.BadNumber l) line count begun so_far h = tt
+going_alone (faults.NoPayload l) line count begun so_far h = cc
+going_alone faults.TooMany line count begun so_far h =
     let none : h.0 ≡ [] = cc in
     let size : length h.0 ≡ 0 = ap length none in
-    (Insert at so_far ∷ [], refl, omega (arith, h.2))
-going_alone faults.NoMemory line count at so_far h = tt
+    (with_text begun so_far ∷ [], refl, omega (arith, h.2))
+going_alone faults.NoMemory line count begun so_far h = tt
 
--- a command behind an insertion's text
-going_step : (said : Said) (text : List ℕ) (line count at : ℕ) (so_far : List ℕ) → Goes (λ rest. command_line rest line count said) text Between line count ⊎ Fails (λ rest. command_line rest line count said) Between line count → Goes (λ rest. before (Insert at so_far) (command_line rest line count said)) text (Going at so_far) line count ⊎ Fails (λ rest. before (Insert at so_far) (command_line rest line count said)) (Going at so_far) line count
-going_step said text line count at so_far (inl g) =
+-- a command behind a text
+going_step : (said : Said) (text : List ℕ) (line count : ℕ) (begun : Draft) (so_far : List ℕ) → Goes (λ rest. command_line rest line count said) text Between line count ⊎ Fails (λ rest. command_line rest line count said) Between line count → Goes (λ rest. before (with_text begun so_far) (command_line rest line count said)) text (Going begun so_far) line count ⊎ Fails (λ rest. before (with_text begun so_far) (command_line rest line count said)) (Going begun so_far) line count
+going_step said text line count begun so_far (inl g) =
     inl (record {
-      edits = Insert at so_far ∷ g.edits;
+      edits = with_text begun so_far ∷ g.edits;
       then = g.then;
       total = g.total;
-      gives = λ rest. ap (before (Insert at so_far)) (g.gives rest) ∙ before-behind (Insert at so_far) g.edits (rest g.then g.total);
+      gives = λ rest. ap (before (with_text begun so_far)) (g.gives rest) ∙ before-behind (with_text begun so_far) g.edits (rest g.then g.total);
       ended = g.ended;
       placed = g.placed;
       fits = g.fits;
       sum = omega (arith, g.sum);
     })
-going_step said text line count at so_far (inr f) =
+going_step said text line count begun so_far (inr f) =
     inr (record {
       fault = f.fault;
-      gives = λ rest. ap (before (Insert at so_far)) (f.gives rest);
+      gives = λ rest. ap (before (with_text begun so_far)) (f.gives rest);
       at = f.at;
-      alone = going_alone f.fault line count at so_far f.alone;
+      alone = going_alone f.fault line count begun so_far f.alone;
     })
 
 -- a line behind a part of a text
-later_step : (said : Said) (text t : List ℕ) (line count at : ℕ) (so_far : List ℕ) → Says said text → 0 < line → count ≤ 65536 → Goes (λ rest. later_line rest line count at so_far t said) text (Going at so_far) line count ⊎ Fails (λ rest. later_line rest line count at so_far t said) (Going at so_far) line count
-later_step says.More text t line count at so_far told pos fits =
+later_step : (said : Said) (text t : List ℕ) (line count : ℕ) (begun : Draft) (so_far : List ℕ) → Says said text → 0 < line → count ≤ 65536 → Goes (λ rest. later_line rest line count begun so_far t said) text (Going begun so_far) line count ⊎ Fails (λ rest. later_line rest line count begun so_far t said) (Going begun so_far) line count
+later_step says.More text t line count begun so_far told pos fits =
     inl (record {
       edits = [];
-      then = Going at (so_far ++ t);
+      then = Going begun (so_far ++ t);
       total = count;
-      gives = λ rest. behind_none (rest (Going at (so_far ++ t)) count);
+      gives = λ rest. behind_none (rest (Going begun (so_far ++ t)) count);
       ended = ended_bar text told.0 told.1 told.2;
       placed = tt;
       fits = fits;
       sum = omega arith;
     })
-later_step says.Last text [] line count at so_far told pos fits = inr (bad_word _ (Going at so_far) line count (λ rest. refl))
-later_step says.Last text (b ∷ t) line count at so_far told pos fits =
+later_step says.Last text [] line count begun so_far told pos fits = inr (bad_word _ (Going begun so_far) line count (λ rest. refl))
+later_step says.Last text (b ∷ t) line count begun so_far told pos fits =
     inl (record {
-      edits = Insert at (so_far ++ b ∷ t) ∷ [];
+      edits = with_text begun (so_far ++ b ∷ t) ∷ [];
       then = Between;
       total = count;
-      gives = λ rest. before_one (Insert at (so_far ++ b ∷ t)) (rest Between count);
+      gives = λ rest. before_one (with_text begun (so_far ++ b ∷ t)) (rest Between count);
       ended = ended_by text (62 ∷ told.0) told.1;
       placed = tt;
       fits = fits;
       sum = omega arith;
     })
-later_step says.Unended text t line count at so_far told pos fits = inr (bad_word _ (Going at so_far) line count (λ rest. refl))
-later_step (says.Insert n) text t line count at so_far told pos fits = going_step (says.Insert n) text line count at so_far (command_step (says.Insert n) text line count told pos fits)
-later_step (says.Delete n) text t line count at so_far told pos fits = going_step (says.Delete n) text line count at so_far (command_step (says.Delete n) text line count told pos fits)
-later_step (says.Move from to) text t line count at so_far told pos fits = going_step (says.Move from to) text line count at so_far (command_step (says.Move from to) text line count told pos fits)
-later_step says.EndLine text t line count at so_far told pos fits = going_step says.EndLine text line count at so_far (command_step says.EndLine text line count told pos fits)
-later_step says.OpenEnd text t line count at so_far told pos fits = going_step says.OpenEnd text line count at so_far (command_step says.OpenEnd text line count told pos fits)
-later_step says.BadNumber text t line count at so_far told pos fits = going_step says.BadNumber text line count at so_far (command_step says.BadNumber text line count told pos fits)
-later_step says.BadCommand text t line count at so_far told pos fits = going_step says.BadCommand text line count at so_far (command_step says.BadCommand text line count told pos fits)
-later_step says.Other text t line count at so_far told pos fits = going_step says.Other text line count at so_far (command_step says.Other text line count told pos fits)
+later_step says.Unended text t line count begun so_far told pos fits = inr (bad_word _ (Going begun so_far) line count (λ rest. refl))
+later_step (says.Begin other) text t line count begun so_far told pos fits = going_step (says.Begin other) text line count begun so_far (command_step (says.Begin other) text line count told pos fits)
+later_step (says.Whole edit) text t line count begun so_far told pos fits = going_step (says.Whole edit) text line count begun so_far (command_step (says.Whole edit) text line count told pos fits)
+later_step (says.Flawed f) text t line count begun so_far told pos fits = going_step (says.Flawed f) text line count begun so_far (command_step (says.Flawed f) text line count told pos fits)
+later_step says.Other text t line count begun so_far told pos fits = going_step says.Other text line count begun so_far (command_step says.Other text line count told pos fits)
 
 -- after a line the reading goes on, or it stops there
 one_step : (standing : Standing) (text : List ℕ) (line count : ℕ) → 0 < line → IsPlaced standing line → count ≤ 65536 → Goes (step standing line count text (sense text)) text standing line count ⊎ Fails (step standing line count text (sense text)) standing line count
 one_step Between text line count pos placed fits = command_step (sense text) text line count (says_sense text) pos fits
-one_step (Begun at begun) text line count pos placed fits = first_step (sense text) text (text_in (sense text) text) line count at begun (says_sense text) placed fits
-one_step (Going at so_far) text line count pos placed fits = later_step (sense text) text (text_in (sense text) text) line count at so_far (says_sense text) pos fits
+one_step (Begun begun at) text line count pos placed fits = first_step (sense text) text (text_in (sense text) text) line count begun at (says_sense text) placed fits
+one_step (Going begun so_far) text line count pos placed fits = later_step (sense text) text (text_in (sense text) text) line count begun so_far (says_sense text) pos fits
 
 -- ALL LINES
 
@@ -323,17 +318,17 @@ record Ways (line : ℕ) (standing : Standing) (count : ℕ) : Type 0 where
 -- from anywhere a script can go on
 ways : (line : ℕ) (standing : Standing) (count : ℕ) → Ways line standing count
 ways line Between count = record { more = []; edits = []; each = tt; ended = tt; gives = refl }
-ways line (Begun at begun) count =
-    record { more = (62 ∷ 10 ∷ []) ∷ []; edits = Insert at [] ∷ []; each = ((refl, tt), tt); ended = (refl, tt); gives = refl }
-ways line (Going at so_far) count = record { more = []; edits = Insert at so_far ∷ []; each = tt; ended = tt; gives = refl }
+ways line (Begun begun at) count =
+    record { more = (62 ∷ 10 ∷ []) ∷ []; edits = with_text begun [] ∷ []; each = ((refl, tt), tt); ended = (refl, tt); gives = refl }
+ways line (Going begun so_far) count = record { more = []; edits = with_text begun so_far ∷ []; each = tt; ended = tt; gives = refl }
 
 -- at the end of the lines
 stops_end : (line : ℕ) (standing : Standing) (count : ℕ) (fault : ScriptFault) → IsPlaced standing line → edits_from [] line standing count ≡ Err fault → Stops [] line standing count fault
 stops_end line Between count fault placed e = cc
-stops_end line (Begun at begun) count fault placed e =
-    let same : faults.NoPayload begun ≡ fault = cc in
-    let w = ways line (Begun at begun) count in
-    subst (λ (f : ScriptFault). Stops [] line (Begun at begun) count f) same (record {
+stops_end line (Begun begun at) count fault placed e =
+    let same : faults.NoPayload at ≡ fault = cc in
+    let w = ways line (Begun begun at) count in
+    subst (λ (f : ScriptFault). Stops [] line (Begun begun at) count f) same (record {
       read = 0;
       more = w.more;
       edits = w.edits;
@@ -345,7 +340,7 @@ stops_end line (Begun at begun) count fault placed e =
       at = (omega (arith, placed.0), placed.1);
       alone = refl;
     })
-stops_end line (Going at so_far) count fault placed e = cc
+stops_end line (Going begun so_far) count fault placed e = cc
 
 -- at the first line
 stops_here : (text : List ℕ) (lines : List (List ℕ)) (line : ℕ) (standing : Standing) (count : ℕ) (f : Fails (step standing line count text (sense text)) standing line count) → Stops (text ∷ lines) line standing count f.fault
@@ -441,23 +436,23 @@ ended-front [] ls ended = tt
 ended-front (k ∷ ks) ls ended = (ended.0, ended-front ks ls ended.1)
 
 -- lines with LF that give edits are the lines of their spelling
-spelled_by : (ks : List (List ℕ)) (edits : List Edit) → AreLines ks → AreEnded ks → edits_from ks 1 Between 0 ≡ Ok edits → (ks ≡ physical_lines (spelling edits)) × (length edits ≤ edit_limit) × AreNumbered edits
+spelled_by : (ks : List (List ℕ)) (edits : List Edit) → AreLines ks → AreEnded ks → edits_from ks 1 Between 0 ≡ Ok edits → (ks ≡ physical_lines (spelling edits)) × (length edits ≤ edit_limit) × AreSpellable edits
 spelled_by ks edits each ended e =
     let s = lines_spelled ks each 1 Between 0 edits tt (omega arith) e in
-    (lines-joined ks each ended ∙ ap physical_lines s.text, omega (arith, s.few), s.numbered)
+    (lines-joined ks each ended ∙ ap physical_lines s.text, omega (arith, s.few), s.spellable)
 
 -- the lines before a fault are a front
 front_before : (text : List ℕ) (fault : ScriptFault) (s : Stops (physical_lines text) 1 Between 0 fault) → IsFront (take s.read (physical_lines text))
 front_before text fault s =
     let each = each-append (take s.read (physical_lines text)) s.more (lines-take s.read (physical_lines text) (lines-each text).0) s.each in
     let by = spelled_by (take s.read (physical_lines text) ++ s.more) s.edits each s.ended s.alive in
-    record { more = s.more; edits = s.edits; numbered = by.2; few = by.1; whole = by.0 }
+    record { more = s.more; edits = s.edits; spellable = by.2; few = by.1; whole = by.0 }
 
 -- and with its line they are none
 dead_behind : (lines : List (List ℕ)) (fault : ScriptFault) (s : Stops lines 1 Between 0 fault) → s.read < length lines → IsFront (take (suc s.read) lines) → ⊥
 dead_behind lines fault s h f =
     let told : edits_from (take (suc s.read) lines ++ f.more) 1 Between 0 ≡ Err fault = s.dead h f.more in
-    let spelled : edits_from (physical_lines (spelling f.edits)) 1 Between 0 ≡ Ok f.edits = spelling_read f.edits f.numbered f.few in
+    let spelled : edits_from (physical_lines (spelling f.edits)) 1 Between 0 ≡ Ok f.edits = spelling_read f.edits f.spellable f.few in
     let same : edits_from (take (suc s.read) lines ++ f.more) 1 Between 0 ≡ edits_from (physical_lines (spelling f.edits)) 1 Between 0 = ap (λ (ls : List (List ℕ)). edits_from ls 1 Between 0) f.whole in
     let no : Err fault ≡ Ok f.edits = sym told ∙ same ∙ spelled in
     cc
@@ -500,8 +495,8 @@ payload_wanted text line e =
       counted = s.at.1;
       within = (elim s.last [ inl h ↦ omega (arith, h, at) | inr h ↦ omega (arith, h.0, at) ]);
       front = subst (λ (n : ℕ). IsFront (take n (physical_lines text))) (sym at) (front_before text (faults.NoPayload line) s);
-      alone = λ edits numbered few h.
-          let spelled : edits_from (physical_lines (spelling edits)) 1 Between 0 ≡ Ok edits = spelling_read edits numbered few in
+      alone = λ edits spellable few h.
+          let spelled : edits_from (physical_lines (spelling edits)) 1 Between 0 ≡ Ok edits = spelling_read edits spellable few in
           let told : edits_from (take line (physical_lines text)) 1 Between 0 ≡ Err (faults.NoPayload line) = ap (λ (n : ℕ). edits_from (take n (physical_lines text)) 1 Between 0) at ∙ s.alone in
           let no : Ok edits ≡ Err (faults.NoPayload line) = sym spelled ∙ sym (ap (λ (ls : List (List ℕ)). edits_from ls 1 Between 0) h) ∙ told in
           cc;
@@ -525,7 +520,7 @@ too_many_full text e =
         dead_line text faults.TooMany (1 + s.read) s refl h,
         record {
           edits = s.alone.0;
-          numbered = by.2;
+          spellable = by.2;
           full = omega (arith, s.alone.2);
           whole = subst (λ (n : ℕ). take n (physical_lines text) ≡ physical_lines (spelling s.alone.0)) same by.0;
         },
@@ -536,7 +531,7 @@ too_many_full text e =
 -- BYTES
 
 -- the text of lines
-text-join : (ks : List (List ℕ)) → text_of ks ≡ join ks
+pub text-join : (ks : List (List ℕ)) → text_of ks ≡ join ks
 text-join [] = refl
 text-join (k ∷ ks) = ap (λ (z : List ℕ). k ++ z) (text-join ks)
 
@@ -546,10 +541,10 @@ join-append [] ls = refl
 join-append (k ∷ ks) ls = ap (λ (z : List ℕ). k ++ z) (join-append ks ls) ∙ sym (append_assoc k (join ks) (join ls))
 
 -- the bytes of a front begin a spelling
-pub front_bytes : (lines : List (List ℕ)) → IsFront lines → (more : List ℕ) × (edits : List Edit) × AreNumbered edits × (length edits ≤ edit_limit) × (text_of lines ++ more ≡ spelling edits)
+pub front_bytes : (lines : List (List ℕ)) → IsFront lines → (more : List ℕ) × (edits : List Edit) × AreSpellable edits × (length edits ≤ edit_limit) × (text_of lines ++ more ≡ spelling edits)
 front_bytes lines f =
     let text : join lines ++ join f.more ≡ spelling f.edits = sym (join-append lines f.more) ∙ ap join f.whole ∙ (lines-each (spelling f.edits)).2 in
-    (join f.more, f.edits, f.numbered, f.few, ap (λ (z : List ℕ). z ++ join f.more) (text-join lines) ∙ text)
+    (join f.more, f.edits, f.spellable, f.few, ap (λ (z : List ℕ). z ++ join f.more) (text-join lines) ∙ text)
 
 -- the last of lines ends in LF as their text does
 ended_joined : (k l : List ℕ) → (l ≡ [] → ⊥) → ends_in_lf (k ++ l) ≡ ends_in_lf l
@@ -583,15 +578,15 @@ take_ended (suc n) (k ∷ l ∷ ks) each inside (inr h) =
     (not_false (ends_in_lf k) p.0, take_ended n (l ∷ ks) each.1 p.1 (inr (sym (ended_joined k (join (l ∷ ks)) (joined_some l ks each.1.0)) ∙ h)))
 
 -- lines with LF whose bytes begin a spelling are a front
-pub front_lines : (text more : List ℕ) (n : ℕ) (edits : List Edit) → AreNumbered edits → length edits ≤ edit_limit → (n < length (physical_lines text)) ⊎ (ends_in_lf text ≡ true) → text_of (take n (physical_lines text)) ++ more ≡ spelling edits → IsFront (take n (physical_lines text))
-front_lines text more n edits numbered few h e =
+pub front_lines : (text more : List ℕ) (n : ℕ) (edits : List Edit) → AreSpellable edits → length edits ≤ edit_limit → (n < length (physical_lines text)) ⊎ (ends_in_lf text ≡ true) → text_of (take n (physical_lines text)) ++ more ≡ spelling edits → IsFront (take n (physical_lines text))
+front_lines text more n edits spellable few h e =
     let p = lines-each text in
     let last : (n < length (physical_lines text)) ⊎ (ends_in_lf (join (physical_lines text)) ≡ true) = elim h [ inl l ↦ inl l | inr t ↦ inr (ap ends_in_lf p.2 ∙ t) ] in
     let ended = take_ended n (physical_lines text) p.0 p.1 last in
     record {
       more = physical_lines more;
       edits = edits;
-      numbered = numbered;
+      spellable = spellable;
       few = few;
       whole =
           sym (lines-join (take n (physical_lines text)) more (lines-take n (physical_lines text) p.0) ended)
@@ -616,7 +611,7 @@ front_shorter m n ls h f =
     record {
       more = r.0 ++ f.more;
       edits = f.edits;
-      numbered = f.numbered;
+      spellable = f.spellable;
       few = f.few;
       whole = sym (append_assoc (take m ls) r.0 f.more) ∙ ap (λ (z : List (List ℕ)). z ++ f.more) (sym r.1) ∙ f.whole;
     }
@@ -648,7 +643,7 @@ told_at faults.NoMemory line h = h
 front_whole : (text : List ℕ) (edits : List Edit) → reading text ≡ Ok edits → IsFront (physical_lines text)
 front_whole text edits e =
     let r = read_spelling text edits e in
-    record { more = []; edits = edits; numbered = r.2; few = r.1; whole = append-nil (physical_lines text) ∙ ap physical_lines r.0 }
+    record { more = []; edits = edits; spellable = r.2; few = r.1; whole = append-nil (physical_lines text) ∙ ap physical_lines r.0 }
 
 -- a text with a dead line is refused there, whatever is read of it
 told_dead : (result : Result (List Edit) ScriptFault) (text : List ℕ) (line : ℕ) → reading text ≡ result → IsDeadLine line (physical_lines text) → IsToldAt line result

@@ -1,13 +1,17 @@
 mod AlikeLemmas
 mod ChangedLemmas
+mod BackLemmas
+mod DefLemmas
 mod EditLemmas
 mod FrontLemmas
 mod HistoryLemmas
 mod LastLemmas
+mod MemberLemmas
 mod MoreLemmas
 mod NumberLemmas
 mod OneSpelling
 mod PhysicalLemmas
+mod PlaceLemmas
 mod PolicyLemmas
 mod PruneLemmas
 mod ReadingLemmas
@@ -17,4 +21,6 @@ mod ReplacedLemmas
 mod ScriptLemmas
 mod SpellingLemmas
 mod SpliceLemmas
+mod WayBackLemmas
 mod WordLemmas
+mod WritingLemmas

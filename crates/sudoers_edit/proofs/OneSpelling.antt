@@ -1,18 +1,18 @@
 -- Two lists of edits have two spellings, however many they are.
-use Rattle.std.proofs.Common.{◌≡◌, ℕ, Bool, true, false, List, [], ◌∷◌, ◌++◌, ◌==◌, refl, sym, ap, subst, ◌∙◌, arith, inl, inr, append_assoc}
+use Rattle.std.proofs.Common.{◌≡◌, ℕ, true, false, List, [], ◌∷◌, ◌++◌, ◌==◌, refl, sym, ap, subst, ◌∙◌, arith, inl, inr, append_assoc}
 use Rattle.std.specs.List.{flat_map, list_any}
 use Rattle.std.proofs.lemmas.Bool.{false≢true, cases_Bool}
 use Rattle.sudoers_text.specs.Ended.{ends_in_lf}
 use Rattle.sudoers_edit.specs.Physical.{physical_lines}
-use Rattle.sudoers_edit.specs.Script.{payload, payload_line, spelling, IsNumbered, AreNumbered}
-use Rattle.sudoers_edit.specs.ScriptReading.{sense, without_end}
+use Rattle.sudoers_edit.specs.Script.{payload, payload_line, text_lines, spelling, IsSpellable, AreSpellable}
+use Rattle.sudoers_edit.specs.ScriptReading.{with_text, sense, without_end}
 use Rattle.sudoers_edit.specs.declared.edit.Edit.{Edit}
-use Rattle.sudoers_edit.specs.declared.edit.Edit.TheVariants.{Insert, Delete, Move, EndLine, OpenEnd}
+use Rattle.sudoers_edit.specs.declared.edit.Edit.TheVariants.{Insert, Delete, Move, AddMember, DropMember, AddDef, DropDef, Rename, EndLine, OpenEnd, Prune}
 use Rattle.sudoers_edit.specs.declared.script_line.Said.{Said}
 use Rattle.sudoers_edit.specs.declared.script_line.Said.TheVariants as says
 use Rattle.sudoers_edit.proofs.PhysicalLemmas.{IsLine, AreLines, join, lines-each, lines-ended, line-push, ended-push, unended_lacks, without_end-push}
-use Rattle.sudoers_edit.proofs.WordLemmas.{line_of, said_of, sense-command}
-use Rattle.sudoers_edit.proofs.SpellingLemmas.{lines_spelled_edit, rest_of}
+use Rattle.sudoers_edit.proofs.WordLemmas.{line_of, said_of, by_text, texted, sense-command}
+use Rattle.sudoers_edit.proofs.SpellingLemmas.{lines_spelled_edit}
 
 -- the lines of a text determine it
 same_text : (a b : List ℕ) → physical_lines a ≡ physical_lines b → a ≡ b
@@ -102,8 +102,14 @@ behind_spelled [] = tt
 behind_spelled (Insert at text ∷ edits) = (λ e. omega (arith, e), λ e. omega (arith, e))
 behind_spelled (Delete at ∷ edits) = (λ e. omega (arith, e), λ e. omega (arith, e))
 behind_spelled (Move from to ∷ edits) = (λ e. omega (arith, e), λ e. omega (arith, e))
+behind_spelled (AddMember kind name at splice ∷ edits) = (λ e. omega (arith, e), λ e. omega (arith, e))
+behind_spelled (DropMember kind name at ∷ edits) = (λ e. omega (arith, e), λ e. omega (arith, e))
+behind_spelled (AddDef line at splice ∷ edits) = (λ e. omega (arith, e), λ e. omega (arith, e))
+behind_spelled (DropDef line at ∷ edits) = (λ e. omega (arith, e), λ e. omega (arith, e))
+behind_spelled (Rename kind name fresh ∷ edits) = (λ e. omega (arith, e), λ e. omega (arith, e))
 behind_spelled (EndLine ∷ edits) = (λ e. omega (arith, e), λ e. omega (arith, e))
 behind_spelled (OpenEnd ∷ edits) = (λ e. omega (arith, e), λ e. omega (arith, e))
+behind_spelled (Prune ∷ edits) = (λ e. omega (arith, e), λ e. omega (arith, e))
 
 -- PAYLOADS
 
@@ -141,86 +147,76 @@ same_payload text word rest other r s e =
 
 -- EDITS
 
--- the text that an edit brings
-abbrev text_of : Edit → List ℕ
-text_of (Insert at text) = text
-text_of (Delete at) = []
-text_of (Move from to) = []
-text_of EndLine = []
-text_of OpenEnd = []
-
 -- the edit whose command says this and that brings this text
 abbrev edit_of : Said → List ℕ → Edit
-edit_of (says.Insert at) text = Insert at text
-edit_of (says.Delete at) text = Delete at
-edit_of (says.Move from to) text = Move from to
-edit_of says.EndLine text = EndLine
-edit_of _ text = OpenEnd
+edit_of (says.Begin begun) text = with_text begun text
+edit_of (says.Whole edit) text = edit
+edit_of _ text = Prune
 
--- it is that edit
-edit-said : (edit : Edit) → edit_of (said_of edit) (text_of edit) ≡ edit
-edit-said (Insert at text) = refl
-edit-said (Delete at) = refl
-edit-said (Move from to) = refl
-edit-said EndLine = refl
-edit-said OpenEnd = refl
+-- what stands behind a command that says this, if it brings this text
+abbrev rest_of : Said → List ℕ → List ℕ
+rest_of (says.Begin begun) text = payload text
+rest_of _ text = []
 
--- a command that says this wants a text
-abbrev wants_text : Said → Bool
-wants_text (says.Insert at) = true
-wants_text _ = false
+-- An edit by what its command says, and by its text.
+record IsMade (edit : Edit) : Type 0 where
+  text : List ℕ
+  made : edit ≡ edit_of (said_of edit) text
+  rest : text_lines edit ≡ rest_of (said_of edit) text
 
--- what stands behind a command that wants a text, or none
-abbrev payload_if : Bool → List ℕ → List ℕ
-payload_if true text = payload text
-payload_if false text = []
+-- each is made so
+made : (edit : Edit) → IsMade edit
+made edit =
+    by_text IsMade
+    (λ begun text.
+    let t = texted begun text in
+    record {
+      text = text;
+      made = ap (λ (x : Said). edit_of x text) (sym t.said);
+      rest = t.lines ∙ ap (λ (x : Said). rest_of x text) (sym t.said);
+    })
+    (λ e said lines. record {
+      text = [];
+      made = ap (λ (x : Said). edit_of x []) (sym said);
+      rest = lines ∙ ap (λ (x : Said). rest_of x []) (sym said);
+    })
+    edit
 
--- so it does behind an edit's
-rest-said : (edit : Edit) → rest_of edit ≡ payload_if (wants_text (said_of edit)) (text_of edit)
-rest-said (Insert at text) = refl
-rest-said (Delete at) = refl
-rest-said (Move from to) = refl
-rest-said EndLine = refl
-rest-said OpenEnd = refl
-
--- an edit that wants no text brings none
-no_text : (edit : Edit) → wants_text (said_of edit) ≡ false → text_of edit ≡ []
-no_text (Insert at text) h = cc
-no_text (Delete at) h = refl
-no_text (Move from to) h = refl
-no_text EndLine h = refl
-no_text OpenEnd h = refl
-
--- two commands that want a text or none, before spellings that are one text, have the same text, and the same behind it
-same_rest : (wants : Bool) (text word rest other : List ℕ) → (wants ≡ false → text ≡ []) → (wants ≡ false → word ≡ []) → IsBehind rest → IsBehind other
-    → payload_if wants text ++ rest ≡ payload_if wants word ++ other → (text ≡ word) × (rest ≡ other)
-same_rest true text word rest other none lacks r s e = same_payload text word rest other r s e
-same_rest false text word rest other none lacks r s e = (none refl ∙ sym (lacks refl), e)
+-- the same behind a command, before spellings that are one text, is of one edit, and the same is behind it
+same_rest : (said : Said) (text word rest other : List ℕ) → IsBehind rest → IsBehind other → rest_of said text ++ rest ≡ rest_of said word ++ other → (edit_of said text ≡ edit_of said word) × (rest ≡ other)
+same_rest (says.Begin begun) text word rest other r s e = let same = same_payload text word rest other r s e in (ap (with_text begun) same.0, same.1)
+same_rest (says.Whole edit) text word rest other r s e = (refl, e)
+same_rest (says.Flawed f) text word rest other r s e = (refl, e)
+same_rest says.More text word rest other r s e = (refl, e)
+same_rest says.Last text word rest other r s e = (refl, e)
+same_rest says.Unended text word rest other r s e = (refl, e)
+same_rest says.Other text word rest other r s e = (refl, e)
 
 -- two edits whose commands are one line, before the same bytes, are one, and the same is behind them
-same_edit : (edit other : Edit) (rest more : List ℕ) → said_of edit ≡ said_of other → IsBehind rest → IsBehind more → rest_of edit ++ rest ≡ rest_of other ++ more → (edit ≡ other) × (rest ≡ more)
+same_edit : (edit other : Edit) (rest more : List ℕ) → said_of edit ≡ said_of other → IsBehind rest → IsBehind more → text_lines edit ++ rest ≡ text_lines other ++ more → (edit ≡ other) × (rest ≡ more)
 same_edit edit other rest more said r s e =
-    let wants : wants_text (said_of other) ≡ wants_text (said_of edit) = ap wants_text (sym said) in
-    let whole : payload_if (wants_text (said_of edit)) (text_of edit) ++ rest ≡ payload_if (wants_text (said_of edit)) (text_of other) ++ more =
-    ap (λ (z : List ℕ). z ++ rest) (sym (rest-said edit)) ∙ e
-    ∙ ap (λ (z : List ℕ). z ++ more) (rest-said other ∙ ap (λ (b : Bool). payload_if b (text_of other)) wants) in
-    let same = same_rest (wants_text (said_of edit)) (text_of edit) (text_of other) rest more (no_text edit) (λ h. no_text other (wants ∙ h)) r s whole in
-    (sym (edit-said edit) ∙ ap (λ (x : Said). edit_of x (text_of edit)) said ∙ ap (edit_of (said_of other)) same.0 ∙ edit-said other, same.1)
+    let m = made edit in
+    let n = made other in
+    let whole : rest_of (said_of edit) m.text ++ rest ≡ rest_of (said_of edit) n.text ++ more =
+    ap (λ (z : List ℕ). z ++ rest) (sym m.rest) ∙ e
+    ∙ ap (λ (z : List ℕ). z ++ more) (n.rest ∙ ap (λ (x : Said). rest_of x n.text) (sym said)) in
+    let same = same_rest (said_of edit) m.text n.text rest more r s whole in
+    (m.made ∙ same.0 ∙ ap (λ (x : Said). edit_of x n.text) said ∙ sym n.made, same.1)
 
 -- a spelling of an edit has bytes
-spelled_some : (edit : Edit) (edits : List Edit) → IsNumbered edit → spelling (edit ∷ edits) ≡ [] → ⊥
+spelled_some : (edit : Edit) (edits : List Edit) → IsSpellable edit → spelling (edit ∷ edits) ≡ [] → ⊥
 spelled_some edit edits n e =
-    let no : line_of edit ∷ physical_lines (rest_of edit ++ spelling edits) ≡ [] = sym (lines_spelled_edit edit edits n) ∙ ap physical_lines e in
+    let no : line_of edit ∷ physical_lines (text_lines edit ++ spelling edits) ≡ [] = sym (lines_spelled_edit edit edits n) ∙ ap physical_lines e in
     cc
 
 -- THE LAW: two lists of edits have two spellings
-pub spelling_injective : (edits others : List Edit) → AreNumbered edits → AreNumbered others → spelling edits ≡ spelling others → edits ≡ others
+pub spelling_injective : (edits others : List Edit) → AreSpellable edits → AreSpellable others → spelling edits ≡ spelling others → edits ≡ others
 spelling_injective [] [] n m e = refl
 spelling_injective [] (other ∷ others) n m e = absurd (spelled_some other others m.0 (sym e))
 spelling_injective (edit ∷ edits) [] n m e = absurd (spelled_some edit edits n.0 e)
 spelling_injective (edit ∷ edits) (other ∷ others) n m e =
-    let rest : List ℕ = rest_of edit ++ spelling edits in
-    let more : List ℕ = rest_of other ++ spelling others in
+    let rest : List ℕ = text_lines edit ++ spelling edits in
+    let more : List ℕ = text_lines other ++ spelling others in
     let lines = same_lines (line_of edit) (line_of other) (spelling (edit ∷ edits)) (spelling (other ∷ others)) (physical_lines rest) (physical_lines more) (lines_spelled_edit edit edits n.0) (lines_spelled_edit other others m.0) e in
     let said : said_of edit ≡ said_of other = sym (sense-command edit n.0) ∙ ap sense lines.0 ∙ sense-command other m.0 in
     let same = same_edit edit other (spelling edits) (spelling others) said (behind_spelled edits) (behind_spelled others) (same_text rest more lines.1) in

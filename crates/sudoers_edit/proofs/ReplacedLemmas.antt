@@ -83,7 +83,7 @@ abbrev pub SaidLaw : Type 0
 SaidLaw = (text : List ℕ) (lines : List Line) → read_of text ≡ Ok lines → AllSaid lines
 
 -- the policy with another line at a place
-pub line_put : ℕ → Line → List Line → List Line
+unfoldable pub line_put : ℕ → Line → List Line → List Line
 line_put at line [] = []
 line_put zero line (old ∷ lines) = line ∷ lines
 line_put (suc at) line (old ∷ lines) = old ∷ line_put at line lines

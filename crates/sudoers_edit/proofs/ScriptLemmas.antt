@@ -1,45 +1,45 @@
 -- What is read as edits is their spelling.
-use Rattle.std.proofs.Common.{◌≡◌, ℕ, ◌+◌, ◌^◌, ◌<◌, ◌≤◌, true, false, List, [], ◌∷◌, ◌++◌, length, drop, refl, sym, ap, subst, ◌∙◌, arith, inl, inr, append_assoc, append-nil}
+use Rattle.std.proofs.Common.{◌≡◌, ℕ, ◌+◌, ◌<◌, ◌≤◌, true, false, List, [], ◌∷◌, ◌++◌, length, drop, refl, sym, ap, subst, ◌∙◌, arith, inl, inr, append_assoc, append-nil}
 use Rattle.std.specs.Prelude.{Result, Ok, Err, IfOk, nat_le, ◌==◌}
 use Rattle.std.specs.List.{flat_map}
 use Rattle.std.proofs.lemmas.Bool.{cases_Bool, leb-false, eqb-true}
 use Rattle.std.proofs.lemmas.Grind.{flat_map-append}
 use Rattle.sudoers_text.specs.Ended.{ends_in_lf}
 use Rattle.sudoers_edit.specs.Physical.{physical_lines}
-use Rattle.sudoers_edit.specs.Script.{payload, payload_line, spell, spelling, AreNumbered, edit_limit}
-use Rattle.sudoers_edit.specs.ScriptReading.{Standing, Between, Begun, Going, Rest, before, with_room, command_line, first_line, later_line, edits_from, sense, text_in, without_end, reading, Reads}
+use Rattle.sudoers_edit.specs.Script.{payload, payload_line, text_lines, spell, spelling, IsSpellable, AreSpellable, edit_limit}
+use Rattle.sudoers_edit.specs.ScriptReading.{Standing, Between, Begun, Going, Rest, before, with_room, with_text, fault_of, command_line, first_line, later_line, edits_from, sense, text_in, without_end, reading, Reads}
+use Rattle.sudoers_edit.specs.declared.draft.Draft.{Draft}
 use Rattle.sudoers_edit.specs.declared.edit.Edit.{Edit}
-use Rattle.sudoers_edit.specs.declared.edit.Edit.TheVariants.{Insert, Delete, Move, EndLine, OpenEnd}
 use Rattle.sudoers_edit.specs.declared.script_line.Said.{Said}
 use Rattle.sudoers_edit.specs.declared.script_line.Said.TheVariants as says
 use Rattle.sudoers_edit.specs.declared.script.ScriptFault.{ScriptFault}
 use Rattle.sudoers_edit.specs.declared.script.ScriptFault.TheVariants as faults
 use Rattle.sudoers_edit.proofs.PhysicalLemmas.{IsLine, AreLines, join, lines-each, lines-one, lines-append, lacks_line, lacks_unended, push_lacks}
-use Rattle.sudoers_edit.proofs.WordLemmas.{line_of, IsPlain, spell_plain, Commands, Says, says_sense, text-last}
+use Rattle.sudoers_edit.proofs.WordLemmas.{line_of, texted, spell_whole, spell_texted, Commands, Says, says_sense, text-last}
 
 -- what has been read of an edit that is open
 abbrev pub front : Standing → List ℕ
 front Between = []
-front (Begun at line) = line_of (Insert at [])
-front (Going at so_far) = spell (Insert at so_far)
+front (Begun begun at) = line_of (with_text begun [])
+front (Going begun so_far) = spell (with_text begun so_far)
 
--- an open insertion counts, and is no edit yet
+-- an edit that is open counts, and is none yet
 abbrev pub opened : Standing → ℕ
 opened Between = 0
-opened (Begun at line) = 1
-opened (Going at so_far) = 1
+opened (Begun begun at) = 1
+opened (Going begun so_far) = 1
 
--- Its number fits, and its text so far ends in LF.
+-- It has a spelling, and its text so far ends in LF.
 abbrev pub IsFair : Standing → Type 0
 IsFair Between = Unit {0}
-IsFair (Begun at line) = at + 1 ≤ 2 ^ 32
-IsFair (Going at so_far) = (at + 1 ≤ 2 ^ 32) × (ends_in_lf so_far ≡ true)
+IsFair (Begun begun at) = IsSpellable (with_text begun [])
+IsFair (Going begun so_far) = IsSpellable (with_text begun []) × (ends_in_lf so_far ≡ true)
 
 -- These lines, behind what has been read of the open edit, spell these edits.
 pub record Spells (standing : Standing) (lines : List (List ℕ)) (edits : List Edit) (count : ℕ) : Type 0 where
   pub text : front standing ++ join lines ≡ spelling edits
   pub few : length edits + count ≤ 65536 + opened standing
-  pub numbered : AreNumbered edits
+  pub spellable : AreSpellable edits
 
 -- what the lines behind give is spelled by them
 abbrev pub AreSpelled : Rest → List (List ℕ) → Type 0
@@ -104,46 +104,44 @@ ended_append (a ∷ []) [] h = cc
 ended_append (a ∷ []) (b ∷ bs) h = h
 ended_append (a ∷ b ∷ bs) t h = ended_append (b ∷ bs) t h
 
--- the spelling of an open insertion whose text grows by a line
-grown : (so_far l t : List ℕ) (at : ℕ) (lines : List (List ℕ)) → ends_in_lf so_far ≡ true → (t ≡ [] → ⊥) → l ≡ payload t → spell (Insert at so_far) ++ (l ++ join lines) ≡ spell (Insert at (so_far ++ t)) ++ join lines
-grown so_far l t at lines ended some e =
-    sym (append_assoc (spell (Insert at so_far)) l (join lines))
+-- the spelling of an open edit whose text grows by a line
+grown : (so_far l t : List ℕ) (begun : Draft) (lines : List (List ℕ)) → ends_in_lf so_far ≡ true → (t ≡ [] → ⊥) → l ≡ payload t → spell (with_text begun so_far) ++ (l ++ join lines) ≡ spell (with_text begun (so_far ++ t)) ++ join lines
+grown so_far l t begun lines ended some e =
+    sym (append_assoc (spell (with_text begun so_far)) l (join lines))
     ∙ ap (λ (z : List ℕ). z ++ join lines) (
-    ap (λ (z : List ℕ). (line_of (Insert at []) ++ payload so_far) ++ z) e
-    ∙ append_assoc (line_of (Insert at [])) (payload so_far) (payload t)
-    ∙ ap (λ (z : List ℕ). line_of (Insert at []) ++ z) (sym (payload-append so_far t ended some))
+    ap (λ (z : List ℕ). z ++ l) (spell_texted begun so_far)
+    ∙ ap (λ (z : List ℕ). (line_of (with_text begun []) ++ payload so_far) ++ z) e
+    ∙ append_assoc (line_of (with_text begun [])) (payload so_far) (payload t)
+    ∙ ap (λ (z : List ℕ). line_of (with_text begun []) ++ z) (sym (payload-append so_far t ended some))
+    ∙ sym (spell_texted begun (so_far ++ t))
     )
 
 -- COMMANDS
 
 -- the line of a command that is all of its edit, and the lines behind it, spell what they give
-plain_spelled : (edit : Edit) → IsPlain edit → (rest : Rest) (lines : List (List ℕ)) (l : List ℕ) (count : ℕ) (edits : List Edit) → Commands edit l → AreSpelled rest lines → with_room count (before edit (rest Between (count + 1))) ≡ Ok edits → Spells Between (l ∷ lines) edits count
-plain_spelled edit plain rest lines l count edits told behind e =
+whole_spelled : (edit : Edit) (rest : Rest) (lines : List (List ℕ)) (l : List ℕ) (count : ℕ) (edits : List Edit) → Commands edit l → text_lines edit ≡ [] → AreSpelled rest lines → with_room count (before edit (rest Between (count + 1))) ≡ Ok edits → Spells Between (l ∷ lines) edits count
+whole_spelled edit rest lines l count edits told whole behind e =
     let r = room_ok count (before edit (rest Between (count + 1))) edits e in
     let b = before_ok edit (rest Between (count + 1)) edits r.1 in
     let s = behind Between (count + 1) b.0 tt (omega (arith, r.0)) b.1 in
     subst (λ (es : List Edit). Spells Between (l ∷ lines) es count) (sym b.2) (record {
-      text = ap (λ (z : List ℕ). z ++ join lines) (told.0 ∙ spell_plain edit plain) ∙ ap (λ (z : List ℕ). spell edit ++ z) s.text;
+      text = ap (λ (z : List ℕ). z ++ join lines) (told.0 ∙ spell_whole edit whole) ∙ ap (λ (z : List ℕ). spell edit ++ z) s.text;
       few = omega (arith, s.few);
-      numbered = (told.1, s.numbered);
+      spellable = (told.1, s.spellable);
     })
 
 -- a line where a command has to come, and the lines behind it, spell what they give
 command_spelled : (rest : Rest) (lines : List (List ℕ)) (l : List ℕ) (line count : ℕ) (edits : List Edit) (said : Said) → Says said l → AreSpelled rest lines → count ≤ 65536 → command_line rest line count said ≡ Ok edits → Spells Between (l ∷ lines) edits count
-command_spelled rest lines l line count edits (says.Insert at) told behind fits e =
-    let r = room_ok count (rest (Begun at line) (count + 1)) edits e in
-    let s = behind (Begun at line) (count + 1) edits told.1 (omega (arith, r.0)) r.1 in
+command_spelled rest lines l line count edits (says.Begin begun) told behind fits e =
+    let r = room_ok count (rest (Begun begun line) (count + 1)) edits e in
+    let s = behind (Begun begun line) (count + 1) edits told.1 (omega (arith, r.0)) r.1 in
     record {
       text = ap (λ (z : List ℕ). z ++ join lines) told.0 ∙ s.text;
       few = omega (arith, s.few);
-      numbered = s.numbered;
+      spellable = s.spellable;
     }
-command_spelled rest lines l line count edits (says.Delete at) told behind fits e = plain_spelled (Delete at) tt rest lines l count edits told behind e
-command_spelled rest lines l line count edits (says.Move from to) told behind fits e = plain_spelled (Move from to) tt rest lines l count edits told behind e
-command_spelled rest lines l line count edits says.EndLine told behind fits e = plain_spelled EndLine tt rest lines l count edits told behind e
-command_spelled rest lines l line count edits says.OpenEnd told behind fits e = plain_spelled OpenEnd tt rest lines l count edits told behind e
-command_spelled rest lines l line count edits says.BadNumber told behind fits e = let r = (room_ok count (Err (faults.BadNumber line)) edits e).1 in cc
-command_spelled rest lines l line count edits says.BadCommand told behind fits e = let r = (room_ok count (Err (faults.BadWord line)) edits e).1 in cc
+command_spelled rest lines l line count edits (says.Whole edit) told behind fits e = whole_spelled edit rest lines l count edits told.0 told.1 behind e
+command_spelled rest lines l line count edits (says.Flawed f) told behind fits e = let r = (room_ok count (Err (fault_of f line)) edits e).1 in cc
 command_spelled rest lines l line count edits says.More told behind fits e = cc
 command_spelled rest lines l line count edits says.Last told behind fits e = cc
 command_spelled rest lines l line count edits says.Unended told behind fits e = cc
@@ -152,122 +150,112 @@ command_spelled rest lines l line count edits says.Other told behind fits e = cc
 -- THE FIRST LINE OF A TEXT
 
 -- the first line of a text, with its LF
-more_first : (lines : List (List ℕ)) (l t : List ℕ) (at begun count : ℕ) (edits : List Edit) → l ≡ 124 ∷ t → ends_in_lf t ≡ true → IsLine l → Spells (Going at t) lines edits count → Spells (Begun at begun) (l ∷ lines) edits count
-more_first lines l t at begun count edits e h is s =
+more_first : (lines : List (List ℕ)) (l t : List ℕ) (begun : Draft) (at count : ℕ) (edits : List Edit) → l ≡ 124 ∷ t → ends_in_lf t ≡ true → IsLine l → Spells (Going begun t) lines edits count → Spells (Begun begun at) (l ∷ lines) edits count
+more_first lines l t begun at count edits e h is s =
     let line : IsLine t = more_line t h (subst (λ (z : List ℕ). IsLine z) e is) in
     record {
       text =
-          sym (append_assoc (line_of (Insert at [])) l (join lines))
-          ∙ ap (λ (z : List ℕ). (line_of (Insert at []) ++ z) ++ join lines) (e ∙ sym (payload_ended t line h))
+          sym (append_assoc (line_of (with_text begun [])) l (join lines))
+          ∙ ap (λ (z : List ℕ). (line_of (with_text begun []) ++ z) ++ join lines) (e ∙ sym (payload_ended t line h))
+          ∙ ap (λ (z : List ℕ). z ++ join lines) (sym (spell_texted begun t))
           ∙ s.text;
       few = s.few;
-      numbered = s.numbered;
+      spellable = s.spellable;
     }
 
 -- a text of one line, without LF
-last_first : (lines : List (List ℕ)) (l t : List ℕ) (at begun count : ℕ) (more : List Edit) → l ≡ 62 ∷ t ++ 10 ∷ [] → IsLine l → at + 1 ≤ 2 ^ 32 → Spells Between lines more count → Spells (Begun at begun) (l ∷ lines) (Insert at t ∷ more) count
-last_first lines l t at begun count more e is n s =
+last_first : (lines : List (List ℕ)) (l t : List ℕ) (begun : Draft) (at count : ℕ) (more : List Edit) → l ≡ 62 ∷ t ++ 10 ∷ [] → IsLine l → IsSpellable (with_text begun []) → Spells Between lines more count → Spells (Begun begun at) (l ∷ lines) (with_text begun t ∷ more) count
+last_first lines l t begun at count more e is n s =
     let text : l ≡ payload t = e ∙ sym (payload_unended t (subst (λ (z : List ℕ). IsLine z) e is)) in
     record {
       text =
-          sym (append_assoc (line_of (Insert at [])) l (join lines))
-          ∙ ap (λ (z : List ℕ). (line_of (Insert at []) ++ z) ++ join lines) text
-          ∙ ap (λ (z : List ℕ). spell (Insert at t) ++ z) s.text;
+          sym (append_assoc (line_of (with_text begun [])) l (join lines))
+          ∙ ap (λ (z : List ℕ). (line_of (with_text begun []) ++ z) ++ join lines) text
+          ∙ ap (λ (z : List ℕ). z ++ join lines) (sym (spell_texted begun t))
+          ∙ ap (λ (z : List ℕ). spell (with_text begun t) ++ z) s.text;
       few = omega (arith, s.few);
-      numbered = (n, s.numbered);
+      spellable = ((texted begun t).spellable n, s.spellable);
     }
 
--- a line right behind an insertion's command, and the lines behind it, spell what they give
-first_spelled : (rest : Rest) (lines : List (List ℕ)) (l : List ℕ) (line count at begun : ℕ) (edits : List Edit) (said : Said) → Says said l → IsLine l → AreSpelled rest lines → at + 1 ≤ 2 ^ 32 → count ≤ 65536 → first_line rest line count at begun (text_in said l) said ≡ Ok edits → Spells (Begun at begun) (l ∷ lines) edits count
-first_spelled rest lines l line count at begun edits says.More told is behind n fits e =
+-- a line right behind a command that wants a text, and the lines behind it, spell what they give
+first_spelled : (rest : Rest) (lines : List (List ℕ)) (l : List ℕ) (line count : ℕ) (begun : Draft) (at : ℕ) (edits : List Edit) (said : Said) → Says said l → IsLine l → AreSpelled rest lines → IsSpellable (with_text begun []) → count ≤ 65536 → first_line rest line count begun at (text_in said l) said ≡ Ok edits → Spells (Begun begun at) (l ∷ lines) edits count
+first_spelled rest lines l line count begun at edits says.More told is behind n fits e =
     let same : drop 1 l ≡ told.0 = ap (drop 1) told.1 in
-    let read : rest (Going at told.0) count ≡ Ok edits = rw same at e in
-    more_first lines l told.0 at begun count edits told.1 told.2 is (behind (Going at told.0) count edits (n, told.2) fits read)
-first_spelled rest lines l line count at begun edits says.Last told is behind n fits e =
+    let read : rest (Going begun told.0) count ≡ Ok edits = rw same at e in
+    more_first lines l told.0 begun at count edits told.1 told.2 is (behind (Going begun told.0) count edits (n, told.2) fits read)
+first_spelled rest lines l line count begun at edits says.Last told is behind n fits e =
     let same : drop 1 (without_end l) ≡ told.0 = ap (λ (z : List ℕ). drop 1 (without_end z)) told.1 ∙ text-last told.0 in
-    let read : before (Insert at told.0) (rest Between count) ≡ Ok edits = ap (λ (z : List ℕ). before (Insert at z) (rest Between count)) (sym same) ∙ e in
-    let b = before_ok (Insert at told.0) (rest Between count) edits read in
-    subst (λ (es : List Edit). Spells (Begun at begun) (l ∷ lines) es count) (sym b.2)
-    (last_first lines l told.0 at begun count b.0 told.1 is n (behind Between count b.0 tt fits b.1))
-first_spelled rest lines l line count at begun edits (says.Insert _) told is behind n fits e = cc
-first_spelled rest lines l line count at begun edits (says.Delete _) told is behind n fits e = cc
-first_spelled rest lines l line count at begun edits (says.Move _ _) told is behind n fits e = cc
-first_spelled rest lines l line count at begun edits says.EndLine told is behind n fits e = cc
-first_spelled rest lines l line count at begun edits says.OpenEnd told is behind n fits e = cc
-first_spelled rest lines l line count at begun edits says.BadNumber told is behind n fits e = cc
-first_spelled rest lines l line count at begun edits says.BadCommand told is behind n fits e = cc
-first_spelled rest lines l line count at begun edits says.Unended told is behind n fits e = cc
-first_spelled rest lines l line count at begun edits says.Other told is behind n fits e = cc
+    let read : before (with_text begun told.0) (rest Between count) ≡ Ok edits = ap (λ (z : List ℕ). before (with_text begun z) (rest Between count)) (sym same) ∙ e in
+    let b = before_ok (with_text begun told.0) (rest Between count) edits read in
+    subst (λ (es : List Edit). Spells (Begun begun at) (l ∷ lines) es count) (sym b.2)
+    (last_first lines l told.0 begun at count b.0 told.1 is n (behind Between count b.0 tt fits b.1))
+first_spelled rest lines l line count begun at edits (says.Begin _) told is behind n fits e = cc
+first_spelled rest lines l line count begun at edits (says.Whole _) told is behind n fits e = cc
+first_spelled rest lines l line count begun at edits (says.Flawed _) told is behind n fits e = cc
+first_spelled rest lines l line count begun at edits says.Unended told is behind n fits e = cc
+first_spelled rest lines l line count begun at edits says.Other told is behind n fits e = cc
 
 -- A LATER LINE
 
 -- one line more of a text, with its LF
-more_later : (lines : List (List ℕ)) (l t : List ℕ) (at count : ℕ) (so_far : List ℕ) (edits : List Edit) → l ≡ 124 ∷ t → ends_in_lf t ≡ true → IsLine l → ends_in_lf so_far ≡ true → Spells (Going at (so_far ++ t)) lines edits count → Spells (Going at so_far) (l ∷ lines) edits count
-more_later lines l t at count so_far edits e h is ended s =
+more_later : (lines : List (List ℕ)) (l t : List ℕ) (begun : Draft) (count : ℕ) (so_far : List ℕ) (edits : List Edit) → l ≡ 124 ∷ t → ends_in_lf t ≡ true → IsLine l → ends_in_lf so_far ≡ true → Spells (Going begun (so_far ++ t)) lines edits count → Spells (Going begun so_far) (l ∷ lines) edits count
+more_later lines l t begun count so_far edits e h is ended s =
     let line : IsLine t = more_line t h (subst (λ (z : List ℕ). IsLine z) e is) in
     record {
-      text = grown so_far l t at lines ended (line_some t line) (e ∙ sym (payload_ended t line h)) ∙ s.text;
+      text = grown so_far l t begun lines ended (line_some t line) (e ∙ sym (payload_ended t line h)) ∙ s.text;
       few = s.few;
-      numbered = s.numbered;
+      spellable = s.spellable;
     }
 
 -- the last line of a text, without LF
-last_later : (lines : List (List ℕ)) (l t : List ℕ) (at count : ℕ) (so_far : List ℕ) (more : List Edit) → l ≡ 62 ∷ t ++ 10 ∷ [] → (t ≡ [] → ⊥) → IsLine l → at + 1 ≤ 2 ^ 32 → ends_in_lf so_far ≡ true → Spells Between lines more count → Spells (Going at so_far) (l ∷ lines) (Insert at (so_far ++ t) ∷ more) count
-last_later lines l t at count so_far more e some is n ended s =
+last_later : (lines : List (List ℕ)) (l t : List ℕ) (begun : Draft) (count : ℕ) (so_far : List ℕ) (more : List Edit) → l ≡ 62 ∷ t ++ 10 ∷ [] → (t ≡ [] → ⊥) → IsLine l → IsSpellable (with_text begun []) → ends_in_lf so_far ≡ true → Spells Between lines more count → Spells (Going begun so_far) (l ∷ lines) (with_text begun (so_far ++ t) ∷ more) count
+last_later lines l t begun count so_far more e some is n ended s =
     let text : l ≡ payload t = e ∙ sym (payload_unended t (subst (λ (z : List ℕ). IsLine z) e is)) in
     record {
-      text = grown so_far l t at lines ended some text ∙ ap (λ (z : List ℕ). spell (Insert at (so_far ++ t)) ++ z) s.text;
+      text = grown so_far l t begun lines ended some text ∙ ap (λ (z : List ℕ). spell (with_text begun (so_far ++ t)) ++ z) s.text;
       few = omega (arith, s.few);
-      numbered = (n, s.numbered);
+      spellable = ((texted begun (so_far ++ t)).spellable n, s.spellable);
     }
 
 -- a last line that gives edits is not empty
-later_last_ok : (rest : Rest) (line count at : ℕ) (so_far t : List ℕ) (edits : List Edit) → later_line rest line count at so_far t says.Last ≡ Ok edits → (t ≡ [] → ⊥) × (before (Insert at (so_far ++ t)) (rest Between count) ≡ Ok edits)
-later_last_ok rest line count at so_far [] edits e = cc
-later_last_ok rest line count at so_far (b ∷ t) edits e = (λ z. cc, e)
+later_last_ok : (rest : Rest) (line count : ℕ) (begun : Draft) (so_far t : List ℕ) (edits : List Edit) → later_line rest line count begun so_far t says.Last ≡ Ok edits → (t ≡ [] → ⊥) × (before (with_text begun (so_far ++ t)) (rest Between count) ≡ Ok edits)
+later_last_ok rest line count begun so_far [] edits e = cc
+later_last_ok rest line count begun so_far (b ∷ t) edits e = (λ z. cc, e)
 
 -- a line that is none of the text, behind it
-ends_later : (rest : Rest) (lines : List (List ℕ)) (l : List ℕ) (line count at : ℕ) (so_far : List ℕ) (edits : List Edit) (said : Said) → Says said l → AreSpelled rest lines → at + 1 ≤ 2 ^ 32 → count ≤ 65536 → before (Insert at so_far) (command_line rest line count said) ≡ Ok edits → Spells (Going at so_far) (l ∷ lines) edits count
-ends_later rest lines l line count at so_far edits said told behind n fits e =
-    let b = before_ok (Insert at so_far) (command_line rest line count said) edits e in
+ends_later : (rest : Rest) (lines : List (List ℕ)) (l : List ℕ) (line count : ℕ) (begun : Draft) (so_far : List ℕ) (edits : List Edit) (said : Said) → Says said l → AreSpelled rest lines → IsSpellable (with_text begun []) → count ≤ 65536 → before (with_text begun so_far) (command_line rest line count said) ≡ Ok edits → Spells (Going begun so_far) (l ∷ lines) edits count
+ends_later rest lines l line count begun so_far edits said told behind n fits e =
+    let b = before_ok (with_text begun so_far) (command_line rest line count said) edits e in
     let s = command_spelled rest lines l line count b.0 said told behind fits b.1 in
-    subst (λ (es : List Edit). Spells (Going at so_far) (l ∷ lines) es count) (sym b.2) (record {
-      text = ap (λ (z : List ℕ). spell (Insert at so_far) ++ z) s.text;
+    subst (λ (es : List Edit). Spells (Going begun so_far) (l ∷ lines) es count) (sym b.2) (record {
+      text = ap (λ (z : List ℕ). spell (with_text begun so_far) ++ z) s.text;
       few = omega (arith, s.few);
-      numbered = (n, s.numbered);
+      spellable = ((texted begun so_far).spellable n, s.spellable);
     })
 
 -- a line behind a part of a text, and the lines behind it, spell what they give
-later_spelled : (rest : Rest) (lines : List (List ℕ)) (l : List ℕ) (line count at : ℕ) (so_far : List ℕ) (edits : List Edit) (said : Said) → Says said l → IsLine l → AreSpelled rest lines → at + 1 ≤ 2 ^ 32 → ends_in_lf so_far ≡ true → count ≤ 65536 → later_line rest line count at so_far (text_in said l) said ≡ Ok edits → Spells (Going at so_far) (l ∷ lines) edits count
-later_spelled rest lines l line count at so_far edits says.More told is behind n ended fits e =
+later_spelled : (rest : Rest) (lines : List (List ℕ)) (l : List ℕ) (line count : ℕ) (begun : Draft) (so_far : List ℕ) (edits : List Edit) (said : Said) → Says said l → IsLine l → AreSpelled rest lines → IsSpellable (with_text begun []) → ends_in_lf so_far ≡ true → count ≤ 65536 → later_line rest line count begun so_far (text_in said l) said ≡ Ok edits → Spells (Going begun so_far) (l ∷ lines) edits count
+later_spelled rest lines l line count begun so_far edits says.More told is behind n ended fits e =
     let same : drop 1 l ≡ told.0 = ap (drop 1) told.1 in
-    let read : rest (Going at (so_far ++ told.0)) count ≡ Ok edits = rw same at e in
-    more_later lines l told.0 at count so_far edits told.1 told.2 is ended
-    (behind (Going at (so_far ++ told.0)) count edits (n, ended_append so_far told.0 told.2) fits read)
-later_spelled rest lines l line count at so_far edits says.Last told is behind n ended fits e =
+    let read : rest (Going begun (so_far ++ told.0)) count ≡ Ok edits = rw same at e in
+    more_later lines l told.0 begun count so_far edits told.1 told.2 is ended
+    (behind (Going begun (so_far ++ told.0)) count edits (n, ended_append so_far told.0 told.2) fits read)
+later_spelled rest lines l line count begun so_far edits says.Last told is behind n ended fits e =
     let same : drop 1 (without_end l) ≡ told.0 = ap (λ (z : List ℕ). drop 1 (without_end z)) told.1 ∙ text-last told.0 in
-    let read : later_line rest line count at so_far told.0 says.Last ≡ Ok edits = ap (λ (z : List ℕ). later_line rest line count at so_far z says.Last) (sym same) ∙ e in
-    let o = later_last_ok rest line count at so_far told.0 edits read in
-    let b = before_ok (Insert at (so_far ++ told.0)) (rest Between count) edits o.1 in
-    subst (λ (es : List Edit). Spells (Going at so_far) (l ∷ lines) es count) (sym b.2)
-    (last_later lines l told.0 at count so_far b.0 told.1 o.0 is n ended (behind Between count b.0 tt fits b.1))
-later_spelled rest lines l line count at so_far edits says.Unended told is behind n ended fits e = cc
-later_spelled rest lines l line count at so_far edits (says.Insert m) told is behind n ended fits e =
-    ends_later rest lines l line count at so_far edits (says.Insert m) told behind n fits e
-later_spelled rest lines l line count at so_far edits (says.Delete m) told is behind n ended fits e =
-    ends_later rest lines l line count at so_far edits (says.Delete m) told behind n fits e
-later_spelled rest lines l line count at so_far edits (says.Move from to) told is behind n ended fits e =
-    ends_later rest lines l line count at so_far edits (says.Move from to) told behind n fits e
-later_spelled rest lines l line count at so_far edits says.EndLine told is behind n ended fits e =
-    ends_later rest lines l line count at so_far edits says.EndLine told behind n fits e
-later_spelled rest lines l line count at so_far edits says.OpenEnd told is behind n ended fits e =
-    ends_later rest lines l line count at so_far edits says.OpenEnd told behind n fits e
-later_spelled rest lines l line count at so_far edits says.BadNumber told is behind n ended fits e =
-    ends_later rest lines l line count at so_far edits says.BadNumber told behind n fits e
-later_spelled rest lines l line count at so_far edits says.BadCommand told is behind n ended fits e =
-    ends_later rest lines l line count at so_far edits says.BadCommand told behind n fits e
-later_spelled rest lines l line count at so_far edits says.Other told is behind n ended fits e =
-    ends_later rest lines l line count at so_far edits says.Other told behind n fits e
+    let read : later_line rest line count begun so_far told.0 says.Last ≡ Ok edits = ap (λ (z : List ℕ). later_line rest line count begun so_far z says.Last) (sym same) ∙ e in
+    let o = later_last_ok rest line count begun so_far told.0 edits read in
+    let b = before_ok (with_text begun (so_far ++ told.0)) (rest Between count) edits o.1 in
+    subst (λ (es : List Edit). Spells (Going begun so_far) (l ∷ lines) es count) (sym b.2)
+    (last_later lines l told.0 begun count so_far b.0 told.1 o.0 is n ended (behind Between count b.0 tt fits b.1))
+later_spelled rest lines l line count begun so_far edits says.Unended told is behind n ended fits e = cc
+later_spelled rest lines l line count begun so_far edits (says.Begin other) told is behind n ended fits e =
+    ends_later rest lines l line count begun so_far edits (says.Begin other) told behind n fits e
+later_spelled rest lines l line count begun so_far edits (says.Whole edit) told is behind n ended fits e =
+    ends_later rest lines l line count begun so_far edits (says.Whole edit) told behind n fits e
+later_spelled rest lines l line count begun so_far edits (says.Flawed f) told is behind n ended fits e =
+    ends_later rest lines l line count begun so_far edits (says.Flawed f) told behind n fits e
+later_spelled rest lines l line count begun so_far edits says.Other told is behind n ended fits e =
+    ends_later rest lines l line count begun so_far edits says.Other told behind n fits e
 
 -- ALL LINES
 
@@ -275,20 +263,20 @@ later_spelled rest lines l line count at so_far edits says.Other told is behind 
 no_lines : (line : ℕ) (standing : Standing) (count : ℕ) (edits : List Edit) → IsFair standing → count ≤ 65536 → edits_from [] line standing count ≡ Ok edits → Spells standing [] edits count
 no_lines line Between count edits fair fits e =
     let same : [] ≡ edits = cc in
-    subst (λ (es : List Edit). Spells Between [] es count) same (record { text = refl; few = omega arith; numbered = tt })
-no_lines line (Begun at begun) count edits fair fits e = cc
-no_lines line (Going at so_far) count edits fair fits e =
-    let same : Insert at so_far ∷ [] ≡ edits = cc in
-    subst (λ (es : List Edit). Spells (Going at so_far) [] es count) same (record { text = refl; few = omega arith; numbered = (fair.0, tt) })
+    subst (λ (es : List Edit). Spells Between [] es count) same (record { text = refl; few = omega arith; spellable = tt })
+no_lines line (Begun begun at) count edits fair fits e = cc
+no_lines line (Going begun so_far) count edits fair fits e =
+    let same : with_text begun so_far ∷ [] ≡ edits = cc in
+    subst (λ (es : List Edit). Spells (Going begun so_far) [] es count) same (record { text = refl; few = omega arith; spellable = ((texted begun so_far).spellable fair.0, tt) })
 
 -- one line, by where it stands
 one_line : (l : List ℕ) (lines : List (List ℕ)) (line : ℕ) → IsLine l → AreSpelled (edits_from lines (line + 1)) lines → (standing : Standing) (count : ℕ) (edits : List Edit) → IsFair standing → count ≤ 65536 → edits_from (l ∷ lines) line standing count ≡ Ok edits → Spells standing (l ∷ lines) edits count
 one_line l lines line is behind Between count edits fair fits e =
     command_spelled (edits_from lines (line + 1)) lines l line count edits (sense l) (says_sense l) behind fits e
-one_line l lines line is behind (Begun at begun) count edits fair fits e =
-    first_spelled (edits_from lines (line + 1)) lines l line count at begun edits (sense l) (says_sense l) is behind fair fits e
-one_line l lines line is behind (Going at so_far) count edits fair fits e =
-    later_spelled (edits_from lines (line + 1)) lines l line count at so_far edits (sense l) (says_sense l) is behind fair.0 fair.1 fits e
+one_line l lines line is behind (Begun begun at) count edits fair fits e =
+    first_spelled (edits_from lines (line + 1)) lines l line count begun at edits (sense l) (says_sense l) is behind fair fits e
+one_line l lines line is behind (Going begun so_far) count edits fair fits e =
+    later_spelled (edits_from lines (line + 1)) lines l line count begun so_far edits (sense l) (says_sense l) is behind fair.0 fair.1 fits e
 
 -- lines spell the edits that they give
 pub lines_spelled : (lines : List (List ℕ)) → AreLines lines → (line : ℕ) → AreSpelled (edits_from lines line) lines
@@ -297,11 +285,11 @@ lines_spelled (l ∷ lines) each line =
     λ standing count edits fair fits e. one_line l lines line each.0 (lines_spelled lines each.1 (line + 1)) standing count edits fair fits e
 
 -- THE LAW: what is read as a list of edits is its spelling
-pub read_spelling : (text : List ℕ) (edits : List Edit) → reading text ≡ Ok edits → (text ≡ spelling edits) × (length edits ≤ edit_limit) × AreNumbered edits
+pub read_spelling : (text : List ℕ) (edits : List Edit) → reading text ≡ Ok edits → (text ≡ spelling edits) × (length edits ≤ edit_limit) × AreSpellable edits
 read_spelling text edits e =
     let p = lines-each text in
     let s = lines_spelled (physical_lines text) p.0 1 Between 0 edits tt (omega arith) e in
-    (sym p.2 ∙ s.text, omega (arith, s.few), s.numbered)
+    (sym p.2 ∙ s.text, omega (arith, s.few), s.spellable)
 
 -- so what a reading tells as edits is their spelling
 pub read_gives : (result : Result (List Edit) ScriptFault) (text : List ℕ) → Reads result (reading text) → IfOk result (λ edits. (text ≡ spelling edits) × (length edits ≤ edit_limit))

@@ -1,23 +1,32 @@
 -- The words of a line, and what a line says.
-use Rattle.std.proofs.Common.{◌≡◌, ℕ, zero, suc, ◌+◌, ◌<◌, ◌≤◌, Bool, true, false, ◌==◌, List, [], ◌∷◌, ◌++◌, length, take, drop, slice_index, ◌-◌, refl, sym, ap, ◌∙◌, arith, inl, inr, ◌^◌, subst}
+use Rattle.std.proofs.Common.{◌≡◌, ℕ, zero, suc, ◌+◌, ◌<◌, ◌≤◌, Bool, true, false, ◌==◌, List, [], ◌∷◌, ◌++◌, length, take, drop, slice_index, ◌-◌, refl, sym, ap, ◌∙◌, arith, inl, inr, ◌^◌, subst, append_assoc}
 use Rattle.std.proofs.lemmas.List.{take_all, drop_all, length-append}
-use Rattle.std.proofs.lemmas.Bool.{false≢true, cases_Bool, eqb-true, or_parts}
+use Rattle.std.proofs.lemmas.Bool.{false≢true, cases_Bool, eqb-true, or_parts, and_parts}
 use Rattle.memchr.specs.Find.{NoneBefore, Nowhere, Passes, is_byte}
-use Rattle.sudoers_edit.specs.Physical.{onto, physical_lines}
+use Rattle.std.specs.Prelude.{codes, not, ◌||◌, Option, Some, None, Ok, if◌then◌else◌}
 use Rattle.std.specs.List.{list_any}
-use Rattle.sudoers_edit.specs.declared.script_line.Said.{Said}
-use Rattle.sudoers_edit.specs.declared.script_line.Said.TheVariants as says
-use Rattle.sudoers_edit.specs.Script.{number, spell, IsNumbered}
-use Rattle.sudoers_edit.specs.declared.edit.Edit.{Edit}
-use Rattle.sudoers_edit.specs.declared.edit.Edit.TheVariants.{Insert, Delete, Move, EndLine, OpenEnd}
-use Rattle.sudoers_edit.specs.ScriptReading.{words, command, place_or_bad, places_or_bad, move_command, bare_command, place_of_word, said_by_words, without_end, sense}
-use Rattle.sudoers_edit.proofs.NumberLemmas.{place_spelled, number_read, number_lacks}
-use Rattle.sudoers_edit.proofs.PhysicalLemmas.{IsLine, ended_parts, without_end-ended, without_end-push, ended-push, line-push, lines-ended, take_front}
-use Rattle.sudoers_text.specs.Ended.{ends_in_lf}
-use Rattle.std.specs.Prelude.{codes, Option, Some, None, if◌then◌else◌}
+use Rattle.std.specs.Option.{ok_or}
 use Rattle.std.specs.Str.{bytes_eq}
 use Rattle.std.proofs.lemmas.Slice.Eq.{bytes_eq-Decides}
+use Rattle.sudoers_text.specs.Ended.{ends_in_lf}
+use Rattle.sudoers_line.specs.Piece.{looked_up}
+use Rattle.sudoers_line.specs.declared.node.Kind.{Kind}
+use Rattle.sudoers_line.specs.declared.node.Kind.TheVariants as kind_of
+use Rattle.sudoers_edit.specs.Physical.{onto, physical_lines}
+use Rattle.sudoers_edit.specs.declared.draft.Draft.{Draft}
+use Rattle.sudoers_edit.specs.declared.draft.Draft.TheVariants as draft
+use Rattle.sudoers_edit.specs.declared.edit.Edit.{Edit}
+use Rattle.sudoers_edit.specs.declared.edit.Edit.TheVariants.{Insert, Delete, Move, AddMember, DropMember, AddDef, DropDef, Rename, EndLine, OpenEnd, Prune}
+use Rattle.sudoers_edit.specs.declared.script_line.Command.{Command}
+use Rattle.sudoers_edit.specs.declared.script_line.Command.TheVariants as by
+use Rattle.sudoers_edit.specs.declared.script_line.Flaw.TheVariants as flaw
+use Rattle.sudoers_edit.specs.declared.script_line.Said.{Said}
+use Rattle.sudoers_edit.specs.declared.script_line.Said.TheVariants as says
+use Rattle.sudoers_edit.specs.Script.{number, kind_word, command_words, spaced, text_lines, payload, spell, is_word, IsSpellable}
+use Rattle.sudoers_edit.specs.ScriptReading.{words, place_of_word, kinds, commands, one_place, both_places, two_places, of_kind, alias_and_word, said_or, alone, said_by, said_if, said_by_words, with_text, without_end, sense}
 use Rattle.sudoers_edit.specs.ScriptStanding.{words_behind}
+use Rattle.sudoers_edit.proofs.NumberLemmas.{place_spelled, number_read, number_lacks}
+use Rattle.sudoers_edit.proofs.PhysicalLemmas.{IsLine, ended_parts, without_end-ended, without_end-push, ended-push, line-push, lines-ended, take_front}
 
 -- a byte other than a space goes onto the first word of the rest
 words-other : (b : ℕ) (bs : List ℕ) → (b == 32) ≡ false → words (b ∷ bs) ≡ onto b (words bs)
@@ -95,90 +104,341 @@ words_space (b ∷ v) w h =
       | inr f ↦ words-other b (v ++ 32 ∷ w) f ∙ ap (onto b) (words_space v w (rw f at h))
     ]
 
--- WHAT A LINE SAYS
-
--- the words with a space between them
-abbrev glue : List (List ℕ) → List ℕ
-glue [] = []
-glue (w ∷ []) = w
-glue (w ∷ v ∷ ws) = w ++ 32 ∷ glue (v ∷ ws)
-
 -- a byte before the first word stands before the text
-glue_onto : (b : ℕ) (w : List ℕ) (ws : List (List ℕ)) → glue (onto b (w ∷ ws)) ≡ b ∷ glue (w ∷ ws)
-glue_onto b w [] = refl
-glue_onto b w (v ∷ ws) = refl
+spaced_onto : (b : ℕ) (w : List ℕ) (ws : List (List ℕ)) → spaced (onto b (w ∷ ws)) ≡ b ∷ spaced (w ∷ ws)
+spaced_onto b w [] = refl
+spaced_onto b w (v ∷ ws) = refl
 
 -- so it does before any words, of which there is one
-glue_some : (b : ℕ) (ws : List (List ℕ)) → HasTwo ([] ∷ ws) → glue (onto b ws) ≡ b ∷ glue ws
-glue_some b [] h = absurd h
-glue_some b (w ∷ ws) h = glue_onto b w ws
+spaced_some : (b : ℕ) (ws : List (List ℕ)) → HasTwo ([] ∷ ws) → spaced (onto b ws) ≡ b ∷ spaced ws
+spaced_some b [] h = absurd h
+spaced_some b (w ∷ ws) h = spaced_onto b w ws
 
 -- a space stands behind an empty first word
-glue_space : (ws : List (List ℕ)) → HasTwo ([] ∷ ws) → glue ([] ∷ ws) ≡ 32 ∷ glue ws
-glue_space [] h = absurd h
-glue_space (w ∷ ws) h = refl
+spaced_space : (ws : List (List ℕ)) → HasTwo ([] ∷ ws) → spaced ([] ∷ ws) ≡ 32 ∷ spaced ws
+spaced_space [] h = absurd h
+spaced_space (w ∷ ws) h = refl
 
 -- the words of a text make it
-glue-words : (text : List ℕ) → glue (words text) ≡ text
-glue-words [] = refl
-glue-words (b ∷ bs) =
+spaced-words : (text : List ℕ) → spaced (words text) ≡ text
+spaced-words [] = refl
+spaced-words (b ∷ bs) =
     elim (cases_Bool (b == 32)) [
-      | inl t ↦ ap glue (words-space b bs t) ∙ glue_space (words bs) (words_some bs)
-          ∙ ap (λ (z : List ℕ). 32 ∷ z) (glue-words bs) ∙ ap (λ (z : ℕ). z ∷ bs) (sym (eqb-true b 32 t))
-      | inr f ↦ ap glue (words-other b bs f) ∙ glue_some b (words bs) (words_some bs) ∙ ap (λ (z : List ℕ). b ∷ z) (glue-words bs)
+      | inl t ↦ ap spaced (words-space b bs t) ∙ spaced_space (words bs) (words_some bs)
+          ∙ ap (λ (z : List ℕ). 32 ∷ z) (spaced-words bs) ∙ ap (λ (z : ℕ). z ∷ bs) (sym (eqb-true b 32 t))
+      | inr f ↦ ap spaced (words-other b bs f) ∙ spaced_some b (words bs) (words_some bs) ∙ ap (λ (z : List ℕ). b ∷ z) (spaced-words bs)
     ]
 
--- the line of an edit's command, before its LF
-abbrev pub command_of : Edit → List ℕ
-command_of (Insert at text) = codes "insert " ++ number at
-command_of (Delete at) = codes "delete " ++ number at
-command_of (Move from to) = codes "move " ++ number from ++ 32 ∷ number to
-command_of EndLine = codes "endline"
-command_of OpenEnd = codes "openend"
+-- WORDS THAT HAVE A SPELLING
+
+-- Each is a word.
+abbrev AreWords : List (List ℕ) → Type 0
+AreWords [] = Unit {0}
+AreWords (w ∷ ws) = (is_word w ≡ true) × AreWords ws
+
+-- a byte that is none of two is not the one, nor the other
+lacks_both : (bs : List ℕ) → list_any (λ c. (c == 32) || (c == 10)) bs ≡ false → (list_any (λ y. y == 32) bs ≡ false) × (list_any (λ y. y == 10) bs ≡ false)
+lacks_both [] h = (refl, refl)
+lacks_both (b ∷ bs) h =
+    let p = or_parts ((b == 32) || (b == 10)) (list_any (λ c. (c == 32) || (c == 10)) bs) h in
+    let q = or_parts (b == 32) (b == 10) p.0 in
+    let more = lacks_both bs p.1 in
+    (rw q.0 more.0, rw q.1 more.1)
+
+-- and back
+both_lack : (bs : List ℕ) → list_any (λ y. y == 32) bs ≡ false → list_any (λ y. y == 10) bs ≡ false → list_any (λ c. (c == 32) || (c == 10)) bs ≡ false
+both_lack [] h k = refl
+both_lack (b ∷ bs) h k =
+    let p = or_parts (b == 32) (list_any (λ y. y == 32) bs) h in
+    let q = or_parts (b == 10) (list_any (λ y. y == 10) bs) k in
+    rw (p.0, q.0) (both_lack bs p.1 q.1)
+
+-- what is not true is false
+not_true : (b : Bool) → not b ≡ true → b ≡ false
+not_true true h = sym h
+not_true false h = refl
+
+-- a word has no space and no LF
+word_lacks : (w : List ℕ) → is_word w ≡ true → (list_any (λ y. y == 32) w ≡ false) × (list_any (λ y. y == 10) w ≡ false)
+word_lacks [] h = absurd (false≢true h)
+word_lacks (b ∷ bs) h = lacks_both (b ∷ bs) (not_true (list_any (λ c. (c == 32) || (c == 10)) (b ∷ bs)) h)
+
+-- bytes without a space and without LF are a word
+lacks_word : (w : List ℕ) → (w ≡ [] → ⊥) → list_any (λ y. y == 32) w ≡ false → list_any (λ y. y == 10) w ≡ false → is_word w ≡ true
+lacks_word [] some h k = absurd (some refl)
+lacks_word (b ∷ bs) some h k = ap not (both_lack (b ∷ bs) h k)
+
+-- a number is a word
+number_word : (at : ℕ) → at + 1 ≤ 2 ^ 32 → is_word (number at) ≡ true
+number_word at h =
+    lacks_word (number at)
+    (λ e. (let no : None ≡ Some at = sym (ap place_of_word e) ∙ number_read at h in cc))
+    (number_lacks 32 at (omega arith) h) (number_lacks 10 at (omega arith) h)
+
+-- so is that of a kind
+kind_is_word : (kind : Kind) → is_word (kind_word kind) ≡ true
+kind_is_word kind_of.User = refl
+kind_is_word kind_of.Runas = refl
+kind_is_word kind_of.Host = refl
+kind_is_word kind_of.Cmnd = refl
+
+-- and those of a command
+command_are_words : (edit : Edit) → IsSpellable edit → AreWords (command_words edit)
+command_are_words (Insert at text) h = (refl, (number_word at h.0, tt))
+command_are_words (Delete at) h = (refl, (number_word at h.0, tt))
+command_are_words (Move from to) h = (refl, (number_word from h.0.0, (number_word to h.0.1, tt)))
+command_are_words (AddMember kind name at splice) h = (refl, (kind_is_word kind, (h.1, (number_word at h.0, tt))))
+command_are_words (DropMember kind name at) h = (refl, (kind_is_word kind, (h.1, (number_word at h.0, tt))))
+command_are_words (AddDef line at splice) h = (refl, (number_word line h.0.0, (number_word at h.0.1, tt)))
+command_are_words (DropDef line at) h = (refl, (number_word line h.0.0, (number_word at h.0.1, tt)))
+command_are_words (Rename kind name fresh) h =
+    let p = and_parts (is_word name) (is_word fresh) h.1 in (refl, (kind_is_word kind, (p.0, (p.1, tt))))
+command_are_words EndLine h = (refl, tt)
+command_are_words OpenEnd h = (refl, tt)
+command_are_words Prune h = (refl, tt)
+
+-- words with spaces between them are those of their text
+words-spaced : (w : List ℕ) (ws : List (List ℕ)) → AreWords (w ∷ ws) → words (spaced (w ∷ ws)) ≡ w ∷ ws
+words-spaced w [] h = words_one w (word_lacks w h.0).0
+words-spaced w (v ∷ ws) h = words_space w (spaced (v ∷ ws)) (word_lacks w h.0).0 ∙ ap (λ (z : List (List ℕ)). w ∷ z) (words-spaced v ws h.1)
+
+-- two texts without a byte
+lacks_append : (b : ℕ) (xs ys : List ℕ) → list_any (λ y. y == b) xs ≡ false → list_any (λ y. y == b) ys ≡ false → list_any (λ y. y == b) (xs ++ ys) ≡ false
+lacks_append b [] ys h k = k
+lacks_append b (x ∷ xs) ys h k =
+    let p = or_parts (x == b) (list_any (λ y. y == b) xs) h in
+    rw p.0 (lacks_append b xs ys p.1 k)
+
+-- words have no LF
+spaced_lacks : (ws : List (List ℕ)) → AreWords ws → list_any (λ y. y == 10) (spaced ws) ≡ false
+spaced_lacks [] h = refl
+spaced_lacks (w ∷ []) h = (word_lacks w h.0).1
+spaced_lacks (w ∷ v ∷ ws) h = lacks_append 10 w (32 ∷ spaced (v ∷ ws)) (word_lacks w h.0).1 (spaced_lacks (v ∷ ws) h.1)
+
+-- WHAT WORDS SAY
+
+-- what is looked up stands in a row
+abbrev Rows : {X : Type 0} → (List ℕ → X → Type 0) → List (List ℕ × X) → Type 0
+Rows P [] = Unit {0}
+Rows P (row ∷ rows) = P row.0 row.1 × Rows P rows
+
+-- so it has what each row has
+looked : {X : Type 0} (P : List ℕ → X → Type 0) (rows : List (List ℕ × X)) (w : List ℕ) (x : X) → Rows P rows → looked_up rows w ≡ Some x → P w x
+looked P [] w x h e = cc
+looked P (row ∷ rows) w x h e =
+    elim (cases_Bool (bytes_eq w row.0)) [
+      | inl t ↦
+          let same : w ≡ row.0 = (bytes_eq-Decides w row.0).0 t in
+          let told : Some row.1 ≡ Some x = rw t at e in
+          let this : row.1 ≡ x = cc in
+          subst (λ (z : List ℕ). P z x) (sym same) (subst (λ z. P row.0 z) this h.0)
+      | inr f ↦ looked P rows w x h.1 (rw f at e)
+    ]
+
+-- the word of a kind is read as it
+kind_read : (kind : Kind) → looked_up kinds (kind_word kind) ≡ Some kind
+kind_read kind_of.User = refl
+kind_read kind_of.Runas = refl
+kind_read kind_of.Host = refl
+kind_read kind_of.Cmnd = refl
+
+-- and is the only one
+kind_spelled : (w : List ℕ) (kind : Kind) → looked_up kinds w ≡ Some kind → w ≡ kind_word kind
+kind_spelled w kind e = looked (λ v k. v ≡ kind_word k) kinds w kind (refl, (refl, (refl, (refl, tt)))) e
+
+-- the word of a command
+abbrev word_of : Command → List ℕ
+word_of by.Insert = codes "insert"
+word_of by.Delete = codes "delete"
+word_of by.Move = codes "move"
+word_of by.AddMember = codes "add"
+word_of by.DropMember = codes "drop"
+word_of by.AddDef = codes "adddef"
+word_of by.DropDef = codes "dropdef"
+word_of by.Rename = codes "rename"
+word_of by.EndLine = codes "endline"
+word_of by.OpenEnd = codes "openend"
+word_of by.Prune = codes "prune"
+
+-- it is the only one
+word_spelled : (w : List ℕ) (command : Command) → looked_up commands w ≡ Some command → w ≡ word_of command
+word_spelled w command e =
+    looked (λ v c. v ≡ word_of c) commands w command (refl, (refl, (refl, (refl, (refl, (refl, (refl, (refl, (refl, (refl, (refl, tt))))))))))) e
+
+-- The words are those of this edit's command.
+abbrev AreOf : Edit → List (List ℕ) → Type 0
+AreOf edit ws = (ws ≡ command_words edit) × IsSpellable edit
+
+-- words that say this
+abbrev Say : Said → List (List ℕ) → Type 0
+Say (says.Begin begun) ws = AreOf (with_text begun []) ws
+Say (says.Whole edit) ws = AreOf edit ws × (text_lines edit ≡ [])
+Say (says.Flawed f) ws = Unit {0}
+Say says.More ws = ⊥
+Say says.Last ws = ⊥
+Say says.Unended ws = ⊥
+Say says.Other ws = Unit {0}
+
+-- a place behind a command makes it say so
+say_place : (say : ℕ → Said) (w : List ℕ) (o : Option ℕ) (ws : List (List ℕ)) → place_of_word w ≡ o → ((at : ℕ) → w ≡ number at → at + 1 ≤ 2 ^ 32 → Say (say at) ws) → Say (said_or say (ok_or o flaw.Number)) ws
+say_place say w (Some at) ws e h = let p = place_spelled w at e in h at p.0 p.1
+say_place say w None ws e h = tt
+
+-- one place behind it does
+say_one : (say : ℕ → Said) (first : List ℕ) (ws : List (List ℕ)) → ((at : ℕ) → at + 1 ≤ 2 ^ 32 → Say (say at) (first ∷ number at ∷ [])) → Say (said_or say (one_place ws)) (first ∷ ws)
+say_one say first [] h = tt
+say_one say first (w ∷ []) h =
+    say_place say w (place_of_word w) (first ∷ w ∷ []) refl (λ at e fits. subst (λ (z : List ℕ). Say (say at) (first ∷ z ∷ [])) (sym e) (h at fits))
+say_one say first (w ∷ v ∷ ws) h = tt
+
+-- two places
+say_both : (say : ℕ × ℕ → Said) (v w : List ℕ) (o p : Option ℕ) (ws : List (List ℕ)) → place_of_word v ≡ o → place_of_word w ≡ p
+    → ((m n : ℕ) → v ≡ number m → w ≡ number n → m + 1 ≤ 2 ^ 32 → n + 1 ≤ 2 ^ 32 → Say (say (m, n)) ws) → Say (said_or say (both_places o p)) ws
+say_both say v w (Some m) (Some n) ws e f h = let p = place_spelled v m e in let q = place_spelled w n f in h m n p.0 q.0 p.1 q.1
+say_both say v w (Some m) None ws e f h = tt
+say_both say v w None p ws e f h = tt
+
+-- two places behind a command make it say so
+say_two : (say : ℕ × ℕ → Said) (first : List ℕ) (ws : List (List ℕ)) → ((m n : ℕ) → m + 1 ≤ 2 ^ 32 → n + 1 ≤ 2 ^ 32 → Say (say (m, n)) (first ∷ number m ∷ number n ∷ [])) → Say (said_or say (two_places ws)) (first ∷ ws)
+say_two say first [] h = tt
+say_two say first (v ∷ []) h = tt
+say_two say first (v ∷ w ∷ []) h =
+    say_both say v w (place_of_word v) (place_of_word w) (first ∷ v ∷ w ∷ []) refl refl (λ m n e f fits more.
+    subst (λ (z : List ℕ). Say (say (m, n)) (first ∷ z ∷ w ∷ [])) (sym e) (subst (λ (z : List ℕ). Say (say (m, n)) (first ∷ number m ∷ z ∷ [])) (sym f) (h m n fits more)))
+say_two say first (v ∷ w ∷ u ∷ ws) h = tt
+
+-- a kind and a name
+say_kind : (say : Kind × List ℕ × List ℕ → Said) (w name more : List ℕ) (o : Option Kind) (ws : List (List ℕ)) → looked_up kinds w ≡ o
+    → ((kind : Kind) → w ≡ kind_word kind → is_word name ≡ true → Say (say (kind, name, more)) ws) → Say (said_or say (of_kind name more o)) ws
+say_kind say w name more (Some kind) ws e h =
+    elim (cases_Bool (is_word name)) [
+      | inl t ↦ rw t (h kind (kind_spelled w kind e) t)
+      | inr f ↦ rw f tt
+    ]
+say_kind say w name more None ws e h = tt
+
+-- a kind, a name and one word more behind a command make it say so
+say_alias : (say : Kind × List ℕ × List ℕ → Said) (first : List ℕ) (ws : List (List ℕ))
+    → ((kind : Kind) (name more : List ℕ) → is_word name ≡ true → Say (say (kind, name, more)) (first ∷ kind_word kind ∷ name ∷ more ∷ [])) → Say (said_or say (alias_and_word ws)) (first ∷ ws)
+say_alias say first [] h = tt
+say_alias say first (w ∷ []) h = tt
+say_alias say first (w ∷ name ∷ []) h = tt
+say_alias say first (w ∷ name ∷ more ∷ []) h =
+    say_kind say w name more (looked_up kinds w) (first ∷ w ∷ name ∷ more ∷ []) refl (λ kind e is.
+    subst (λ (z : List ℕ). Say (say (kind, name, more)) (first ∷ z ∷ name ∷ more ∷ [])) (sym e) (h kind name more is))
+say_alias say first (w ∷ name ∷ more ∷ u ∷ ws) h = tt
+
+-- with a place for that word
+say_member : (say : Kind × List ℕ × List ℕ → ℕ → Said) (first : List ℕ) (ws : List (List ℕ))
+    → ((kind : Kind) (name : List ℕ) (more : List ℕ) (at : ℕ) → is_word name ≡ true → at + 1 ≤ 2 ^ 32 → Say (say (kind, name, more) at) (first ∷ kind_word kind ∷ name ∷ number at ∷ []))
+    → Say (said_or (λ alias. said_or (say alias) (ok_or (place_of_word alias.2) flaw.Number)) (alias_and_word ws)) (first ∷ ws)
+say_member say first ws h =
+    say_alias (λ alias. said_or (say alias) (ok_or (place_of_word alias.2) flaw.Number)) first ws (λ kind name more is.
+    say_place (say (kind, name, more)) more (place_of_word more) (first ∷ kind_word kind ∷ name ∷ more ∷ []) refl (λ at e fits.
+    subst (λ (z : List ℕ). Say (say (kind, name, more) at) (first ∷ kind_word kind ∷ name ∷ z ∷ [])) (sym e) (h kind name more at is fits)))
+
+-- no word more behind a command makes it say so
+say_alone : (edit : Edit) (first : List ℕ) (ws : List (List ℕ)) → AreOf edit (first ∷ []) → text_lines edit ≡ [] → Say (alone edit ws) (first ∷ ws)
+say_alone edit first [] h k = (h, k)
+say_alone edit first (w ∷ ws) h k = tt
+
+-- a command with such words is an edit's
+say_by : (command : Command) (ws : List (List ℕ)) → Say (said_by command ws) (word_of command ∷ ws)
+say_by by.Insert ws = say_one (λ at. says.Begin (draft.Insert at)) (codes "insert") ws (λ at fits. (refl, (fits, refl)))
+say_by by.Delete ws = say_one (λ at. says.Whole (Delete at)) (codes "delete") ws (λ at fits. ((refl, (fits, refl)), refl))
+say_by by.Move ws = say_two (λ places. says.Whole (Move places.0 places.1)) (codes "move") ws (λ m n fits more. ((refl, ((fits, more), refl)), refl))
+say_by by.AddMember ws =
+    say_member (λ alias at. says.Begin (draft.AddMember alias.0 alias.1 at)) (codes "add") ws (λ kind name more at is fits. (refl, (fits, is)))
+say_by by.DropMember ws =
+    say_member (λ alias at. says.Whole (DropMember alias.0 alias.1 at)) (codes "drop") ws (λ kind name more at is fits. ((refl, (fits, is)), refl))
+say_by by.AddDef ws = say_two (λ places. says.Begin (draft.AddDef places.0 places.1)) (codes "adddef") ws (λ m n fits more. (refl, ((fits, more), refl)))
+say_by by.DropDef ws = say_two (λ places. says.Whole (DropDef places.0 places.1)) (codes "dropdef") ws (λ m n fits more. ((refl, ((fits, more), refl)), refl))
+say_by by.Rename ws =
+    say_alias (λ alias. if is_word alias.2 then says.Whole (Rename alias.0 alias.1 alias.2) else says.Flawed flaw.Word) (codes "rename") ws
+    (λ kind name fresh is. elim (cases_Bool (is_word fresh)) [
+      | inl t ↦ rw t ((refl, (tt, rw (is, t) refl)), refl)
+      | inr f ↦ rw f tt
+    ])
+say_by by.EndLine ws = say_alone EndLine (codes "endline") ws (refl, (tt, refl)) refl
+say_by by.OpenEnd ws = say_alone OpenEnd (codes "openend") ws (refl, (tt, refl)) refl
+say_by by.Prune ws = say_alone Prune (codes "prune") ws (refl, (tt, refl)) refl
+
+-- so are the words of an ended line, where their first is that of a command
+say_if : (w : List ℕ) (ws : List (List ℕ)) (o : Option Command) → looked_up commands w ≡ o → Say (said_if true ws o) (w ∷ ws)
+say_if w ws None e = tt
+say_if w ws (Some command) e = subst (λ (z : List ℕ). Say (said_by command ws) (z ∷ ws)) (sym (word_spelled w command e)) (say_by command ws)
+
+-- words say what they say
+say_words : (ws : List (List ℕ)) → Say (said_by_words true ws) ws
+say_words [] = tt
+say_words (w ∷ ws) = say_if w ws (looked_up commands w) refl
+
+-- WHAT A LINE SAYS
 
 -- the line of an edit's command
 abbrev pub line_of : Edit → List ℕ
-line_of edit = command_of edit ++ 10 ∷ []
+line_of edit = spaced (command_words edit) ++ 10 ∷ []
 
 -- what that line says
 abbrev pub said_of : Edit → Said
-said_of (Insert at text) = says.Insert at
-said_of (Delete at) = says.Delete at
-said_of (Move from to) = says.Move from to
-said_of EndLine = says.EndLine
-said_of OpenEnd = says.OpenEnd
+said_of (Insert at text) = says.Begin (draft.Insert at)
+said_of (AddMember kind name at splice) = says.Begin (draft.AddMember kind name at)
+said_of (AddDef line at splice) = says.Begin (draft.AddDef line at)
+said_of edit = says.Whole edit
 
--- Its command is all of it.
-abbrev pub IsPlain : Edit → Type 0
-IsPlain (Insert at text) = ⊥
-IsPlain (Delete at) = Unit {0}
-IsPlain (Move from to) = Unit {0}
-IsPlain EndLine = Unit {0}
-IsPlain OpenEnd = Unit {0}
+-- an edit has a text, or its command is all of it
+pub by_text : (P : Edit → Type 0) → ((begun : Draft) (text : List ℕ) → P (with_text begun text)) → ((edit : Edit) → said_of edit ≡ says.Whole edit → text_lines edit ≡ [] → P edit) → (edit : Edit) → P edit
+by_text P begun whole (Insert at text) = begun (draft.Insert at) text
+by_text P begun whole (Delete at) = whole (Delete at) refl refl
+by_text P begun whole (Move from to) = whole (Move from to) refl refl
+by_text P begun whole (AddMember kind name at splice) = begun (draft.AddMember kind name at) splice
+by_text P begun whole (DropMember kind name at) = whole (DropMember kind name at) refl refl
+by_text P begun whole (AddDef line at splice) = begun (draft.AddDef line at) splice
+by_text P begun whole (DropDef line at) = whole (DropDef line at) refl refl
+by_text P begun whole (Rename kind name fresh) = whole (Rename kind name fresh) refl refl
+by_text P begun whole EndLine = whole EndLine refl refl
+by_text P begun whole OpenEnd = whole OpenEnd refl refl
+by_text P begun whole Prune = whole Prune refl refl
 
--- and then that line is its spelling
-pub spell_plain : (edit : Edit) → IsPlain edit → line_of edit ≡ spell edit
-spell_plain (Insert at text) plain = absurd plain
-spell_plain (Delete at) plain = refl
-spell_plain (Move from to) plain = refl
-spell_plain EndLine plain = refl
-spell_plain OpenEnd plain = refl
+-- What an edit with a text is, whatever its text.
+pub record IsTexted (begun : Draft) (text : List ℕ) : Type 0 where
+  pub said : said_of (with_text begun text) ≡ says.Begin begun
+  pub line : line_of (with_text begun text) ≡ line_of (with_text begun [])
+  pub lines : text_lines (with_text begun text) ≡ payload text
+  pub spellable : IsSpellable (with_text begun []) → IsSpellable (with_text begun text)
+  pub spelled : IsSpellable (with_text begun text) → IsSpellable (with_text begun [])
+
+-- so it is
+pub texted : (begun : Draft) (text : List ℕ) → IsTexted begun text
+texted (draft.Insert at) text = record { said = refl; line = refl; lines = refl; spellable = λ h. h; spelled = λ h. h }
+texted (draft.AddMember kind name at) text = record { said = refl; line = refl; lines = refl; spellable = λ h. h; spelled = λ h. h }
+texted (draft.AddDef line at) text = record { said = refl; line = refl; lines = refl; spellable = λ h. h; spelled = λ h. h }
+
+-- an edit's spelling is its line, and the lines of its text
+pub spell-line : (edit : Edit) → spell edit ≡ line_of edit ++ text_lines edit
+spell-line edit = sym (append_assoc (spaced (command_words edit)) (10 ∷ []) (text_lines edit))
+
+-- with no text it is its line
+pub spell_whole : (edit : Edit) → text_lines edit ≡ [] → line_of edit ≡ spell edit
+spell_whole edit h = ap (λ (z : List ℕ). spaced (command_words edit) ++ 10 ∷ z) (sym h)
+
+-- with one it is the line of its command, and that text's lines
+pub spell_texted : (begun : Draft) (text : List ℕ) → spell (with_text begun text) ≡ line_of (with_text begun []) ++ payload text
+spell_texted begun text =
+    let t = texted begun text in
+    spell-line (with_text begun text) ∙ ap (λ (z : List ℕ). z ++ text_lines (with_text begun text)) t.line ∙ ap (λ (z : List ℕ). line_of (with_text begun []) ++ z) t.lines
 
 -- The line is that of the edit's command.
 abbrev pub Commands : Edit → List ℕ → Type 0
-Commands edit l = (l ≡ line_of edit) × IsNumbered edit
+Commands edit l = (l ≡ line_of edit) × IsSpellable edit
 
 -- a line that says this
 abbrev pub Says : Said → List ℕ → Type 0
-Says (says.Insert at) l = Commands (Insert at []) l
-Says (says.Delete at) l = Commands (Delete at) l
-Says (says.Move from to) l = Commands (Move from to) l
-Says says.EndLine l = Commands EndLine l
-Says says.OpenEnd l = Commands OpenEnd l
+Says (says.Begin begun) l = Commands (with_text begun []) l
+Says (says.Whole edit) l = Commands edit l × (text_lines edit ≡ [])
+Says (says.Flawed f) l = Unit {0}
 Says says.More l = (t : List ℕ) × (l ≡ 124 ∷ t) × (ends_in_lf t ≡ true)
 Says says.Last l = (t : List ℕ) × (l ≡ 62 ∷ t ++ 10 ∷ [])
-Says says.BadNumber l = Unit {0}
-Says says.BadCommand l = Unit {0}
 Says says.Unended l = Unit {0}
 Says says.Other l = Unit {0}
 
@@ -208,104 +468,33 @@ says_last b bs h =
       | inr f ↦ rw f tt
     ]
 
--- a command says what its number makes it say
-says_place : (make : ℕ → Said) (l w : List ℕ) (o : Option ℕ) → place_of_word w ≡ o → ((at : ℕ) → place_of_word w ≡ Some at → Says (make at) l) → Says (place_or_bad make o) l
-says_place make l w (Some at) e h = h at e
-says_place make l w None e h = tt
-
--- a command of an ended line says so, if it does with one word more
-says_command : (make : ℕ → Said) (l : List ℕ) (ws : List (List ℕ)) → ((w : List ℕ) (at : ℕ) → ws ≡ w ∷ [] → place_of_word w ≡ Some at → Says (make at) l) → Says (command make true ws) l
-says_command make l [] h = tt
-says_command make l (w ∷ []) h = says_place make l w (place_of_word w) refl (λ at e. h w at refl e)
-says_command make l (w ∷ v ∷ ws) h = tt
-
--- a move says what its numbers make it say
-says_places : (l v w : List ℕ) (o p : Option ℕ) → place_of_word v ≡ o → place_of_word w ≡ p
-    → ((from to : ℕ) → place_of_word v ≡ Some from → place_of_word w ≡ Some to → Says (says.Move from to) l) → Says (places_or_bad o p) l
-says_places l v w (Some from) (Some to) e f h = h from to e f
-says_places l v w (Some from) None e f h = tt
-says_places l v w None p e f h = tt
-
--- a move of an ended line says so, if it does with two words more
-says_move : (l : List ℕ) (ws : List (List ℕ)) → ((v w : List ℕ) (from to : ℕ) → ws ≡ v ∷ w ∷ [] → place_of_word v ≡ Some from → place_of_word w ≡ Some to → Says (says.Move from to) l)
-    → Says (move_command true ws) l
-says_move l [] h = tt
-says_move l (v ∷ []) h = tt
-says_move l (v ∷ w ∷ []) h = says_places l v w (place_of_word v) (place_of_word w) refl refl (λ from to e f. h v w from to refl e f)
-says_move l (v ∷ w ∷ u ∷ ws) h = tt
-
--- a command of one word says so, if it does with no word more
-says_bare : (said : Said) (l : List ℕ) (ws : List (List ℕ)) → (ws ≡ [] → Says said l) → Says (bare_command said true ws) l
-says_bare said l [] h = h refl
-says_bare said l (w ∷ ws) h = tt
-
 -- a line of words without LF is no command
-says_unended : (l : List ℕ) (ws : List (List ℕ)) → Says (said_by_words false ws) l
-says_unended l [] = tt
-says_unended l (w ∷ ws) =
-    elim (cases_Bool (bytes_eq w (codes "insert"))) [
-      | inl t ↦ rw t tt
-      | inr a ↦ elim (cases_Bool (bytes_eq w (codes "delete"))) [
-        | inl t ↦ rw (a, t) tt
-        | inr b ↦ elim (cases_Bool (bytes_eq w (codes "move"))) [
-          | inl t ↦ rw (a, b, t) tt
-          | inr c ↦ elim (cases_Bool (bytes_eq w (codes "endline"))) [
-            | inl t ↦ rw (a, b, c, t) tt
-            | inr d ↦ elim (cases_Bool (bytes_eq w (codes "openend"))) [
-              | inl t ↦ rw (a, b, c, d, t) tt
-              | inr e ↦ rw (a, b, c, d, e) tt
-            ]
-          ]
-        ]
-      ]
-    ]
+says_unended : (l : List ℕ) (ws : List (List ℕ)) (o : Option Command) → Says (said_if false ws o) l
+says_unended l ws None = tt
+says_unended l ws (Some command) = tt
 
--- a text by its first word and the words behind it
-by_words : (body w : List ℕ) (ws vs : List (List ℕ)) (word : List ℕ) → words body ≡ w ∷ ws → bytes_eq w word ≡ true → ws ≡ vs → body ≡ glue (word ∷ vs)
-by_words body w ws vs word e t f =
-    sym (glue-words body) ∙ ap glue (e ∙ ap (λ (z : List ℕ). z ∷ ws) ((bytes_eq-Decides w word).0 t)) ∙ ap (λ (z : List (List ℕ)). glue (word ∷ z)) f
+-- so it is not, whatever its words
+says_no_end : (l : List ℕ) (ws : List (List ℕ)) → Says (said_by_words false ws) l
+says_no_end l [] = tt
+says_no_end l (w ∷ ws) = says_unended l ws (looked_up commands w)
 
--- an insertion or a deletion in an ended line
-says_placed : (make : ℕ → Said) (body w : List ℕ) (ws : List (List ℕ)) (word : List ℕ) → words body ≡ w ∷ ws → bytes_eq w word ≡ true
-    → ((at : ℕ) → at + 1 ≤ 2 ^ 32 → body ≡ word ++ 32 ∷ number at → Says (make at) (body ++ 10 ∷ [])) → Says (command make true ws) (body ++ 10 ∷ [])
-says_placed make body w ws word e t h =
-    says_command make (body ++ 10 ∷ []) ws (λ v at f place.
-    let p = place_spelled v at place in
-    h at p.1 (by_words body w ws (v ∷ []) word e t f ∙ ap (λ (z : List ℕ). word ++ 32 ∷ z) p.0))
+-- a text by the words of an edit's command
+body_of : (body : List ℕ) (edit : Edit) → words body ≡ command_words edit → body ++ 10 ∷ [] ≡ line_of edit
+body_of body edit e = ap (λ (z : List ℕ). z ++ 10 ∷ []) (sym (spaced-words body) ∙ ap spaced e)
 
--- a move in an ended line
-says_moved : (body w : List ℕ) (ws : List (List ℕ)) → words body ≡ w ∷ ws → bytes_eq w (codes "move") ≡ true → Says (move_command true ws) (body ++ 10 ∷ [])
-says_moved body w ws e t =
-    says_move (body ++ 10 ∷ []) ws (λ u v from to f first second.
-    let p = place_spelled u from first in
-    let q = place_spelled v to second in
-    let whole : body ≡ command_of (Move from to) =
-    by_words body w ws (u ∷ v ∷ []) (codes "move") e t f
-    ∙ ap (λ (z : List ℕ). codes "move " ++ z ++ 32 ∷ v) p.0 ∙ ap (λ (z : List ℕ). codes "move " ++ number from ++ 32 ∷ z) q.0 in
-    (ap (λ (z : List ℕ). z ++ 10 ∷ []) whole, (p.1, q.1)))
+-- what words say the line of them and LF says
+says_said : (body : List ℕ) (said : Said) → Say said (words body) → Says said (body ++ 10 ∷ [])
+says_said body (says.Begin begun) h = (body_of body (with_text begun []) h.0, h.1)
+says_said body (says.Whole edit) h = ((body_of body edit h.0.0, h.0.1), h.1)
+says_said body (says.Flawed f) h = tt
+says_said body says.More h = absurd h
+says_said body says.Last h = absurd h
+says_said body says.Unended h = absurd h
+says_said body says.Other h = tt
 
 -- a line of words with LF is the command that it says
-says_ended : (body : List ℕ) (ws : List (List ℕ)) → words body ≡ ws → Says (said_by_words true ws) (body ++ 10 ∷ [])
-says_ended body [] e = tt
-says_ended body (w ∷ ws) e =
-    elim (cases_Bool (bytes_eq w (codes "insert"))) [
-      | inl t ↦ rw t (says_placed says.Insert body w ws (codes "insert") e t (λ at n whole. (ap (λ (z : List ℕ). z ++ 10 ∷ []) whole, n)))
-      | inr a ↦ elim (cases_Bool (bytes_eq w (codes "delete"))) [
-        | inl t ↦ rw (a, t) (says_placed says.Delete body w ws (codes "delete") e t (λ at n whole. (ap (λ (z : List ℕ). z ++ 10 ∷ []) whole, n)))
-        | inr b ↦ elim (cases_Bool (bytes_eq w (codes "move"))) [
-          | inl t ↦ rw (a, b, t) (says_moved body w ws e t)
-          | inr c ↦ elim (cases_Bool (bytes_eq w (codes "endline"))) [
-            | inl t ↦ rw (a, b, c, t) (says_bare says.EndLine (body ++ 10 ∷ []) ws (λ f.
-                (ap (λ (z : List ℕ). z ++ 10 ∷ []) (by_words body w ws [] (codes "endline") e t f), tt)))
-            | inr d ↦ elim (cases_Bool (bytes_eq w (codes "openend"))) [
-              | inl t ↦ rw (a, b, c, d, t) (says_bare says.OpenEnd (body ++ 10 ∷ []) ws (λ f.
-                  (ap (λ (z : List ℕ). z ++ 10 ∷ []) (by_words body w ws [] (codes "openend") e t f), tt)))
-              | inr f ↦ rw (a, b, c, d, f) tt
-            ]
-          ]
-        ]
-      ]
-    ]
+says_ended : (body : List ℕ) → Says (said_by_words true (words body)) (body ++ 10 ∷ [])
+says_ended body = says_said body (said_by_words true (words body)) (say_words (words body))
 
 -- a line that begins with another byte says so
 says_words : (l : List ℕ) → Says (said_by_words (ends_in_lf l) (words (without_end l))) l
@@ -313,10 +502,10 @@ says_words l =
     elim (cases_Bool (ends_in_lf l)) [
       | inl t ↦
           let whole : l ≡ without_end l ++ 10 ∷ [] = without_end-ended l t in
-          let told = says_ended (without_end l) (words (without_end l)) refl in
+          let told = says_ended (without_end l) in
           subst (λ (e : Bool). Says (said_by_words e (words (without_end l))) l) (sym t)
           (subst (λ (z : List ℕ). Says (said_by_words true (words (without_end l))) z) (sym whole) told)
-      | inr f ↦ subst (λ (e : Bool). Says (said_by_words e (words (without_end l))) l) (sym f) (says_unended l (words (without_end l)))
+      | inr f ↦ subst (λ (e : Bool). Says (said_by_words e (words (without_end l))) l) (sym f) (says_no_end l (words (without_end l)))
     ]
 
 -- each line says what it says
@@ -346,49 +535,90 @@ last_text l said e h =
 
 -- THE LINES OF A SPELLING
 
--- two texts without a byte
-lacks_append : (b : ℕ) (xs ys : List ℕ) → list_any (λ y. y == b) xs ≡ false → list_any (λ y. y == b) ys ≡ false → list_any (λ y. y == b) (xs ++ ys) ≡ false
-lacks_append b [] ys h k = k
-lacks_append b (x ∷ xs) ys h k =
-    let p = or_parts (x == b) (list_any (λ y. y == b) xs) h in
-    rw p.0 (lacks_append b xs ys p.1 k)
-
--- the line of a command has LF at its end alone
-command_lacks : (edit : Edit) → IsNumbered edit → list_any (λ y. y == 10) (command_of edit) ≡ false
-command_lacks (Insert at text) h = number_lacks 10 at (omega arith) h
-command_lacks (Delete at) h = number_lacks 10 at (omega arith) h
-command_lacks (Move from to) h = lacks_append 10 (number from) (32 ∷ number to) (number_lacks 10 from (omega arith) h.0) (number_lacks 10 to (omega arith) h.1)
-command_lacks EndLine h = refl
-command_lacks OpenEnd h = refl
-
 -- the line of a command is the first
-pub lines-command : (edit : Edit) (rest : List ℕ) → IsNumbered edit → physical_lines (line_of edit ++ rest) ≡ line_of edit ∷ physical_lines rest
-lines-command edit rest h = lines-ended (line_of edit) rest (line-push (command_of edit) (command_lacks edit h)) (ended-push (command_of edit))
+pub lines-command : (edit : Edit) (rest : List ℕ) → IsSpellable edit → physical_lines (line_of edit ++ rest) ≡ line_of edit ∷ physical_lines rest
+lines-command edit rest h =
+    lines-ended (line_of edit) rest (line-push (spaced (command_words edit)) (spaced_lacks (command_words edit) (command_are_words edit h))) (ended-push (spaced (command_words edit)))
 
--- by its words a command with LF says this
-sense_words : (edit : Edit) (said : Said) → said_by_words true (words (command_of edit)) ≡ said → said_by_words (ends_in_lf (line_of edit)) (words (without_end (line_of edit))) ≡ said
-sense_words edit said e =
-    ap (λ (b : Bool). said_by_words b (words (without_end (line_of edit)))) (ended-push (command_of edit))
-    ∙ ap (λ (t : List ℕ). said_by_words true (words t)) (without_end-push (command_of edit)) ∙ e
+-- the line of a command says what its words say
+sense_words : (edit : Edit) → sense (line_of edit) ≡ said_by_words (ends_in_lf (line_of edit)) (words (without_end (line_of edit)))
+sense_words (Insert at text) = refl
+sense_words (Delete at) = refl
+sense_words (Move from to) = refl
+sense_words (AddMember kind name at splice) = refl
+sense_words (DropMember kind name at) = refl
+sense_words (AddDef line at splice) = refl
+sense_words (DropDef line at) = refl
+sense_words (Rename kind name fresh) = refl
+sense_words EndLine = refl
+sense_words OpenEnd = refl
+sense_words Prune = refl
 
--- it says that command
-pub sense-command : (edit : Edit) → IsNumbered edit → sense (line_of edit) ≡ said_of edit
-sense-command (Insert at text) h =
-    sense_words (Insert at text) (says.Insert at)
-    (ap (λ (ws : List (List ℕ)). said_by_words true (codes "insert" ∷ ws)) (words_one (number at) (number_lacks 32 at (omega arith) h))
-    ∙ ap (place_or_bad says.Insert) (number_read at h))
-sense-command (Delete at) h =
-    sense_words (Delete at) (says.Delete at)
-    (ap (λ (ws : List (List ℕ)). said_by_words true (codes "delete" ∷ ws)) (words_one (number at) (number_lacks 32 at (omega arith) h))
-    ∙ ap (place_or_bad says.Delete) (number_read at h))
-sense-command (Move from to) h =
-    sense_words (Move from to) (says.Move from to)
-    (ap (λ (ws : List (List ℕ)). said_by_words true (codes "move" ∷ ws)) (words_space (number from) (number to) (number_lacks 32 from (omega arith) h.0))
-    ∙ ap (λ (ws : List (List ℕ)). said_by_words true (codes "move" ∷ number from ∷ ws)) (words_one (number to) (number_lacks 32 to (omega arith) h.1))
-    ∙ ap (λ (o : Option ℕ). places_or_bad o (place_of_word (number to))) (number_read from h.0)
-    ∙ ap (places_or_bad (Some from)) (number_read to h.1))
-sense-command EndLine h = refl
-sense-command OpenEnd h = refl
+-- the words of a command's line are its own
+words-command : (ws : List (List ℕ)) → said_by_words false ws ≡ says.Flawed flaw.Word → AreWords ws → words (spaced ws) ≡ ws
+words-command [] some h = cc
+words-command (w ∷ ws) some h = words-spaced w ws h
+
+-- an alias's words are read as they are
+read_alias : (kind : Kind) (name more : List ℕ) → is_word name ≡ true → alias_and_word (kind_word kind ∷ name ∷ more ∷ []) ≡ Ok (kind, name, more)
+read_alias kind name more h = ap (of_kind name more) (kind_read kind) ∙ rw h refl
+
+-- so are those of a member, behind a command
+read_member : (say : Kind × List ℕ × List ℕ → ℕ → Said) (kind : Kind) (name : List ℕ) (at : ℕ) → is_word name ≡ true → at + 1 ≤ 2 ^ 32
+    → said_or (λ alias. said_or (say alias) (ok_or (place_of_word alias.2) flaw.Number)) (alias_and_word (kind_word kind ∷ name ∷ number at ∷ [])) ≡ say (kind, name, number at) at
+read_member say kind name at is fits =
+    ap (said_or (λ alias. said_or (say alias) (ok_or (place_of_word alias.2) flaw.Number))) (read_alias kind name (number at) is)
+    ∙ ap (λ (o : Option ℕ). said_or (say (kind, name, number at)) (ok_or o flaw.Number)) (number_read at fits)
+
+-- and two places
+read_two : (say : ℕ × ℕ → Said) (m n : ℕ) → m + 1 ≤ 2 ^ 32 → n + 1 ≤ 2 ^ 32 → said_or say (two_places (number m ∷ number n ∷ [])) ≡ say (m, n)
+read_two say m n fits more =
+    ap (λ (o : Option ℕ). said_or say (both_places o (place_of_word (number n)))) (number_read m fits)
+    ∙ ap (λ (o : Option ℕ). said_or say (both_places (Some m) o)) (number_read n more)
+
+-- and one
+read_one : (say : ℕ → Said) (at : ℕ) → at + 1 ≤ 2 ^ 32 → said_or say (one_place (number at ∷ [])) ≡ say at
+read_one say at fits = ap (λ (o : Option ℕ). said_or say (ok_or o flaw.Number)) (number_read at fits)
+
+-- the words of a command say it
+read_words : (edit : Edit) → IsSpellable edit → said_by_words true (command_words edit) ≡ said_of edit
+read_words (Insert at text) h = read_one (λ n. says.Begin (draft.Insert n)) at h.0
+read_words (Delete at) h = read_one (λ n. says.Whole (Delete n)) at h.0
+read_words (Move from to) h = read_two (λ places. says.Whole (Move places.0 places.1)) from to h.0.0 h.0.1
+read_words (AddMember kind name at splice) h = read_member (λ alias n. says.Begin (draft.AddMember alias.0 alias.1 n)) kind name at h.1 h.0
+read_words (DropMember kind name at) h = read_member (λ alias n. says.Whole (DropMember alias.0 alias.1 n)) kind name at h.1 h.0
+read_words (AddDef line at splice) h = read_two (λ places. says.Begin (draft.AddDef places.0 places.1)) line at h.0.0 h.0.1
+read_words (DropDef line at) h = read_two (λ places. says.Whole (DropDef places.0 places.1)) line at h.0.0 h.0.1
+read_words (Rename kind name fresh) h =
+    let p = and_parts (is_word name) (is_word fresh) h.1 in
+    ap (said_or (λ alias. if is_word alias.2 then says.Whole (Rename alias.0 alias.1 alias.2) else says.Flawed flaw.Word)) (read_alias kind name fresh p.0)
+    ∙ ap (λ (b : Bool). if b then says.Whole (Rename kind name fresh) else says.Flawed flaw.Word) p.1
+read_words EndLine h = refl
+read_words OpenEnd h = refl
+read_words Prune h = refl
+
+-- the first of them is that of a command
+known_word : (edit : Edit) → said_by_words false (command_words edit) ≡ says.Flawed flaw.Word
+known_word (Insert at text) = refl
+known_word (Delete at) = refl
+known_word (Move from to) = refl
+known_word (AddMember kind name at splice) = refl
+known_word (DropMember kind name at) = refl
+known_word (AddDef line at splice) = refl
+known_word (DropDef line at) = refl
+known_word (Rename kind name fresh) = refl
+known_word EndLine = refl
+known_word OpenEnd = refl
+known_word Prune = refl
+
+-- the line of a command says it
+pub sense-command : (edit : Edit) → IsSpellable edit → sense (line_of edit) ≡ said_of edit
+sense-command edit h =
+    sense_words edit
+    ∙ ap (λ (b : Bool). said_by_words b (words (without_end (line_of edit)))) (ended-push (spaced (command_words edit)))
+    ∙ ap (λ (t : List ℕ). said_by_words true (words t)) (without_end-push (spaced (command_words edit)))
+    ∙ ap (said_by_words true) (words-command (command_words edit) (known_word edit) (command_are_words edit h))
+    ∙ read_words edit h
 
 -- a line of a text with its LF, behind `|`
 pub lines-more : (k rest : List ℕ) → IsLine k → ends_in_lf k ≡ true → physical_lines (124 ∷ k ++ rest) ≡ (124 ∷ k) ∷ physical_lines rest

@@ -1,11 +1,20 @@
 -- How a script is read: what each physical line says, which lines may follow which, and the first fault.
 use Rattle.std.specs.Prelude.{◌≡◌, ℕ, ◌+◌, ◌-◌, ◌*◌, Bool, true, false, ◌||◌, ◌==◌, nat_lt, nat_le, if◌then◌else◌, List, [], ◌∷◌, ◌++◌, length, take, drop, codes, Option, Some, None, Result, Ok, Err, option_and_then}
-use Rattle.std.specs.Str.{bytes_eq}
+use Rattle.std.specs.Option.{ok_or}
 use Rattle.sudoers_text.specs.Ended.{ends_in_lf}
+use Rattle.sudoers_line.specs.declared.node.Kind.{Kind}
+use Rattle.sudoers_line.specs.declared.node.Kind.TheVariants as kind_of
+use Rattle.sudoers_line.specs.Piece.{looked_up}
 use Rattle.sudoers_edit.specs.Physical.{onto, physical_lines}
-use Rattle.sudoers_edit.specs.Script.{edit_limit}
+use Rattle.sudoers_edit.specs.Script.{edit_limit, kind_word, is_word}
+use Rattle.sudoers_edit.specs.declared.draft.Draft.{Draft}
+use Rattle.sudoers_edit.specs.declared.draft.Draft.TheVariants as draft
 use Rattle.sudoers_edit.specs.declared.edit.Edit.{Edit}
-use Rattle.sudoers_edit.specs.declared.edit.Edit.TheVariants.{Insert, Delete, Move, EndLine, OpenEnd}
+use Rattle.sudoers_edit.specs.declared.edit.Edit.TheVariants.{Insert, Delete, Move, AddMember, DropMember, AddDef, DropDef, Rename, EndLine, OpenEnd, Prune}
+use Rattle.sudoers_edit.specs.declared.script_line.Command.{Command}
+use Rattle.sudoers_edit.specs.declared.script_line.Command.TheVariants as by
+use Rattle.sudoers_edit.specs.declared.script_line.Flaw.{Flaw}
+use Rattle.sudoers_edit.specs.declared.script_line.Flaw.TheVariants as flaw
 use Rattle.sudoers_edit.specs.declared.script_line.Said.{Said}
 use Rattle.sudoers_edit.specs.declared.script_line.Said.TheVariants as says
 use Rattle.sudoers_edit.specs.declared.script.ScriptFault.{ScriptFault}
@@ -36,45 +45,78 @@ abbrev pub words : List ℕ → List (List ℕ)
 words [] = [] ∷ []
 words (b ∷ bytes) = if b == 32 then [] ∷ words bytes else onto b (words bytes)
 
-abbrev pub place_or_bad : (ℕ → Said) → Option ℕ → Said
-place_or_bad make (Some at) = make at
-place_or_bad make None = says.BadNumber
+-- the words for the kinds
+abbrev pub kinds : List (List ℕ × Kind)
+kinds =
+    (kind_word kind_of.User, kind_of.User) ∷ (kind_word kind_of.Runas, kind_of.Runas) ∷ (kind_word kind_of.Host, kind_of.Host)
+    ∷ (kind_word kind_of.Cmnd, kind_of.Cmnd) ∷ []
 
--- a command with one number, by the words behind its first; ended: the line ends in LF
-abbrev pub command : (ℕ → Said) → Bool → List (List ℕ) → Said
-command make true (word ∷ []) = place_or_bad make (place_of_word word)
-command make true [] = says.BadCommand
-command make true (word ∷ next ∷ more) = says.BadCommand
-command make false more = says.BadCommand
+-- the words for the commands
+abbrev pub commands : List (List ℕ × Command)
+commands =
+    (codes "insert", by.Insert) ∷ (codes "delete", by.Delete) ∷ (codes "move", by.Move) ∷ (codes "add", by.AddMember)
+    ∷ (codes "drop", by.DropMember) ∷ (codes "adddef", by.AddDef) ∷ (codes "dropdef", by.DropDef) ∷ (codes "rename", by.Rename)
+    ∷ (codes "endline", by.EndLine) ∷ (codes "openend", by.OpenEnd) ∷ (codes "prune", by.Prune) ∷ []
 
-abbrev pub places_or_bad : Option ℕ → Option ℕ → Said
-places_or_bad (Some from) (Some to) = says.Move from to
-places_or_bad (Some from) None = says.BadNumber
-places_or_bad None other = says.BadNumber
+-- the words behind the first word of a command are one place
+abbrev pub one_place : List (List ℕ) → Result ℕ Flaw
+one_place (word ∷ []) = ok_or (place_of_word word) flaw.Number
+one_place _ = Err flaw.Word
 
--- a move, with two numbers
-abbrev pub move_command : Bool → List (List ℕ) → Said
-move_command true (word ∷ next ∷ []) = places_or_bad (place_of_word word) (place_of_word next)
-move_command true [] = says.BadCommand
-move_command true (word ∷ []) = says.BadCommand
-move_command true (word ∷ next ∷ other ∷ more) = says.BadCommand
-move_command false more = says.BadCommand
+abbrev pub both_places : Option ℕ → Option ℕ → Result (ℕ × ℕ) Flaw
+both_places (Some first) (Some second) = Ok (first, second)
+both_places _ _ = Err flaw.Number
+
+-- they are two places
+abbrev pub two_places : List (List ℕ) → Result (ℕ × ℕ) Flaw
+two_places (word ∷ next ∷ []) = both_places (place_of_word word) (place_of_word next)
+two_places _ = Err flaw.Word
+
+abbrev pub of_kind : List ℕ → List ℕ → Option Kind → Result (Kind × List ℕ × List ℕ) Flaw
+of_kind name more (Some kind) = if is_word name then Ok (kind, name, more) else Err flaw.Word
+of_kind name more None = Err flaw.Word
+
+-- they are the kind and the name of an alias, and one word more
+abbrev pub alias_and_word : List (List ℕ) → Result (Kind × List ℕ × List ℕ) Flaw
+alias_and_word (word ∷ name ∷ more ∷ []) = of_kind name more (looked_up kinds word)
+alias_and_word _ = Err flaw.Word
+
+-- what they make a command say, or their flaw
+abbrev pub said_or : {A : Type 0} → (A → Said) → Result A Flaw → Said
+said_or say (Ok x) = say x
+said_or say (Err f) = says.Flawed f
 
 -- a command of one word
-abbrev pub bare_command : Said → Bool → List (List ℕ) → Said
-bare_command said true [] = said
-bare_command said true (word ∷ more) = says.BadCommand
-bare_command said false more = says.BadCommand
+abbrev pub alone : Edit → List (List ℕ) → Said
+alone edit [] = says.Whole edit
+alone edit (word ∷ more) = says.Flawed flaw.Word
+
+-- what a command of an ended line says, by the words behind its first
+abbrev pub said_by : Command → List (List ℕ) → Said
+said_by by.Insert more = said_or (λ at. says.Begin (draft.Insert at)) (one_place more)
+said_by by.Delete more = said_or (λ at. says.Whole (Delete at)) (one_place more)
+said_by by.Move more = said_or (λ places. says.Whole (Move places.0 places.1)) (two_places more)
+said_by by.AddMember more =
+    said_or (λ alias. said_or (λ at. says.Begin (draft.AddMember alias.0 alias.1 at)) (ok_or (place_of_word alias.2) flaw.Number)) (alias_and_word more)
+said_by by.DropMember more =
+    said_or (λ alias. said_or (λ at. says.Whole (DropMember alias.0 alias.1 at)) (ok_or (place_of_word alias.2) flaw.Number)) (alias_and_word more)
+said_by by.AddDef more = said_or (λ places. says.Begin (draft.AddDef places.0 places.1)) (two_places more)
+said_by by.DropDef more = said_or (λ places. says.Whole (DropDef places.0 places.1)) (two_places more)
+said_by by.Rename more =
+    said_or (λ alias. if is_word alias.2 then says.Whole (Rename alias.0 alias.1 alias.2) else says.Flawed flaw.Word) (alias_and_word more)
+said_by by.EndLine more = alone EndLine more
+said_by by.OpenEnd more = alone OpenEnd more
+said_by by.Prune more = alone Prune more
+
+-- the same, if the line ends in LF and begins with the word of a command
+abbrev pub said_if : Bool → List (List ℕ) → Option Command → Said
+said_if ended more None = says.Other
+said_if true more (Some command) = said_by command more
+said_if false more (Some command) = says.Flawed flaw.Word
 
 abbrev pub said_by_words : Bool → List (List ℕ) → Said
 said_by_words ended [] = says.Other
-said_by_words ended (word ∷ more) =
-    if bytes_eq word (codes "insert") then command says.Insert ended more
-    else (if bytes_eq word (codes "delete") then command says.Delete ended more
-    else (if bytes_eq word (codes "move") then move_command ended more
-    else (if bytes_eq word (codes "endline") then bare_command says.EndLine ended more
-    else (if bytes_eq word (codes "openend") then bare_command says.OpenEnd ended more
-    else says.Other))))
+said_by_words ended (word ∷ more) = said_if ended more (looked_up commands word)
 
 -- the line without the LF that it ends in
 abbrev pub without_end : List ℕ → List ℕ
@@ -96,12 +138,18 @@ text_in _ line = []
 
 -- SCRIPTS
 
--- Between two lines of a script a command has to come; or the first line of the text of an insertion, whose place
--- this is and whose command stands on this line; or more of its text may come, of which there is this so far.
+-- the edit that a command begins, with its text
+abbrev pub with_text : Draft → List ℕ → Edit
+with_text (draft.Insert at) text = Insert at text
+with_text (draft.AddMember kind name at) text = AddMember kind name at text
+with_text (draft.AddDef line at) text = AddDef line at text
+
+-- Between two lines of a script a command has to come; or the first line of the text that a command wants, which
+-- stands on this line; or more of its text may come, of which there is this so far.
 pub data Standing : Type 0 where
   Between : Standing
-  Begun : ℕ → ℕ → Standing
-  Going : ℕ → List ℕ → Standing
+  Begun : Draft → ℕ → Standing
+  Going : Draft → List ℕ → Standing
 
 -- what the lines behind give, by where they stand and how many commands stand before them
 abbrev pub Rest : Type 0
@@ -116,59 +164,43 @@ before edit (Err fault) = Err fault
 abbrev pub with_room : ℕ → Result (List Edit) ScriptFault → Result (List Edit) ScriptFault
 with_room count result = if nat_le edit_limit count then Err faults.TooMany else result
 
+-- the fault of a line with a flaw
+abbrev pub fault_of : Flaw → ℕ → ScriptFault
+fault_of flaw.Word line = faults.BadWord line
+fault_of flaw.Number line = faults.BadNumber line
+
 -- where a command has to come, behind so many commands, this line stands
 abbrev pub command_line : Rest → ℕ → ℕ → Said → Result (List Edit) ScriptFault
-command_line rest line count (says.Insert at) = with_room count (rest (Begun at line) (count + 1))
-command_line rest line count (says.Delete at) = with_room count (before (Delete at) (rest Between (count + 1)))
-command_line rest line count (says.Move from to) = with_room count (before (Move from to) (rest Between (count + 1)))
-command_line rest line count says.EndLine = with_room count (before EndLine (rest Between (count + 1)))
-command_line rest line count says.OpenEnd = with_room count (before OpenEnd (rest Between (count + 1)))
-command_line rest line count says.BadNumber = with_room count (Err (faults.BadNumber line))
-command_line rest line count says.BadCommand = with_room count (Err (faults.BadWord line))
-command_line rest line count says.More = Err (faults.BadWord line)
-command_line rest line count says.Last = Err (faults.BadWord line)
-command_line rest line count says.Unended = Err (faults.BadWord line)
-command_line rest line count says.Other = Err (faults.BadWord line)
+command_line rest line count (says.Begin begun) = with_room count (rest (Begun begun line) (count + 1))
+command_line rest line count (says.Whole edit) = with_room count (before edit (rest Between (count + 1)))
+command_line rest line count (says.Flawed f) = with_room count (Err (fault_of f line))
+command_line rest line count _ = Err (faults.BadWord line)
 
--- Right behind the command of an insertion, which stands on the line `begun`, this line stands, with this text.
-abbrev pub first_line : Rest → ℕ → ℕ → ℕ → ℕ → List ℕ → Said → Result (List Edit) ScriptFault
-first_line rest line count at begun text says.More = rest (Going at text) count
-first_line rest line count at begun text says.Last = before (Insert at text) (rest Between count)
-first_line rest line count at begun text says.Unended = Err (faults.BadWord line)
-first_line rest line count at begun text (says.Insert _) = Err (faults.NoPayload begun)
-first_line rest line count at begun text (says.Delete _) = Err (faults.NoPayload begun)
-first_line rest line count at begun text (says.Move _ _) = Err (faults.NoPayload begun)
-first_line rest line count at begun text says.EndLine = Err (faults.NoPayload begun)
-first_line rest line count at begun text says.OpenEnd = Err (faults.NoPayload begun)
-first_line rest line count at begun text says.BadNumber = Err (faults.NoPayload begun)
-first_line rest line count at begun text says.BadCommand = Err (faults.NoPayload begun)
-first_line rest line count at begun text says.Other = Err (faults.NoPayload begun)
+-- Right behind a command that wants a text, and that stands on the line `at`, this line stands, with this text.
+abbrev pub first_line : Rest → ℕ → ℕ → Draft → ℕ → List ℕ → Said → Result (List Edit) ScriptFault
+first_line rest line count begun at text says.More = rest (Going begun text) count
+first_line rest line count begun at text says.Last = before (with_text begun text) (rest Between count)
+first_line rest line count begun at text says.Unended = Err (faults.BadWord line)
+first_line rest line count begun at text _ = Err (faults.NoPayload at)
 
--- Behind the first part of an insertion's text this line stands: more of the text, its end, or the next command.
-abbrev pub later_line : Rest → ℕ → ℕ → ℕ → List ℕ → List ℕ → Said → Result (List Edit) ScriptFault
-later_line rest line count at so_far text says.More = rest (Going at (so_far ++ text)) count
-later_line rest line count at so_far [] says.Last = Err (faults.BadWord line)
-later_line rest line count at so_far (b ∷ text) says.Last = before (Insert at (so_far ++ b ∷ text)) (rest Between count)
-later_line rest line count at so_far text says.Unended = Err (faults.BadWord line)
-later_line rest line count at so_far text (says.Insert next) = before (Insert at so_far) (command_line rest line count (says.Insert next))
-later_line rest line count at so_far text (says.Delete next) = before (Insert at so_far) (command_line rest line count (says.Delete next))
-later_line rest line count at so_far text (says.Move from to) = before (Insert at so_far) (command_line rest line count (says.Move from to))
-later_line rest line count at so_far text says.EndLine = before (Insert at so_far) (command_line rest line count says.EndLine)
-later_line rest line count at so_far text says.OpenEnd = before (Insert at so_far) (command_line rest line count says.OpenEnd)
-later_line rest line count at so_far text says.BadNumber = before (Insert at so_far) (command_line rest line count says.BadNumber)
-later_line rest line count at so_far text says.BadCommand = before (Insert at so_far) (command_line rest line count says.BadCommand)
-later_line rest line count at so_far text says.Other = before (Insert at so_far) (command_line rest line count says.Other)
+-- Behind the first part of a text this line stands: more of the text, its end, or the next command.
+abbrev pub later_line : Rest → ℕ → ℕ → Draft → List ℕ → List ℕ → Said → Result (List Edit) ScriptFault
+later_line rest line count begun so_far text says.More = rest (Going begun (so_far ++ text)) count
+later_line rest line count begun so_far [] says.Last = Err (faults.BadWord line)
+later_line rest line count begun so_far (b ∷ text) says.Last = before (with_text begun (so_far ++ b ∷ text)) (rest Between count)
+later_line rest line count begun so_far text says.Unended = Err (faults.BadWord line)
+later_line rest line count begun so_far text said = before (with_text begun so_far) (command_line rest line count said)
 
 -- the edits of the lines from a place in a script on, whose first has this number, or the first fault
 abbrev pub edits_from : List (List ℕ) → ℕ → Standing → ℕ → Result (List Edit) ScriptFault
 edits_from [] line Between count = Ok []
-edits_from [] line (Begun at begun) count = Err (faults.NoPayload begun)
-edits_from [] line (Going at so_far) count = Ok (Insert at so_far ∷ [])
+edits_from [] line (Begun begun at) count = Err (faults.NoPayload at)
+edits_from [] line (Going begun so_far) count = Ok (with_text begun so_far ∷ [])
 edits_from (text ∷ lines) line Between count = command_line (edits_from lines (line + 1)) line count (sense text)
-edits_from (text ∷ lines) line (Begun at begun) count =
-    first_line (edits_from lines (line + 1)) line count at begun (text_in (sense text) text) (sense text)
-edits_from (text ∷ lines) line (Going at so_far) count =
-    later_line (edits_from lines (line + 1)) line count at so_far (text_in (sense text) text) (sense text)
+edits_from (text ∷ lines) line (Begun begun at) count =
+    first_line (edits_from lines (line + 1)) line count begun at (text_in (sense text) text) (sense text)
+edits_from (text ∷ lines) line (Going begun so_far) count =
+    later_line (edits_from lines (line + 1)) line count begun so_far (text_in (sense text) text) (sense text)
 
 -- the edits that a text spells, or its first fault
 abbrev pub reading : List ℕ → Result (List Edit) ScriptFault

@@ -2,13 +2,9 @@
 use Rattle.std.specs.Prelude.{ℕ, ◌+◌, List, [], ◌∷◌, ◌++◌, length, Result, Ok, Err}
 use Rattle.sudoers_edit.specs.ScriptReading.{Standing, Between, Begun, Going, Rest, words, edits_from}
 use Rattle.sudoers_edit.specs.declared.edit.Edit.{Edit}
-use Rattle.sudoers_edit.specs.declared.script_line.Argument.{Argument}
-use Rattle.sudoers_edit.specs.declared.script_line.Argument.TheVariants as argument
 use Rattle.sudoers_edit.specs.declared.script.Open.{Open}
 use Rattle.sudoers_edit.specs.declared.script.Open.TheVariants as open_at
 use Rattle.sudoers_edit.specs.declared.script.Reading.{Reading}
-use Rattle.sudoers_edit.specs.declared.script_line.Said.{Said}
-use Rattle.sudoers_edit.specs.declared.script_line.Said.TheVariants as says
 use Rattle.sudoers_edit.specs.declared.script.ScriptFault.{ScriptFault}
 
 -- the words behind the first, of a rest that is empty or begins with a space
@@ -16,22 +12,16 @@ abbrev pub words_behind : List ℕ → List (List ℕ)
 words_behind [] = []
 words_behind (b ∷ bytes) = words bytes
 
--- what a command with this argument says
-abbrev pub said_for : (ℕ → Said) → Argument → Said
-said_for make (argument.Place at) = make at
-said_for make argument.NoNumber = says.BadNumber
-said_for make argument.NotOne = says.BadCommand
-
 abbrev pub standing : Open → Standing
 standing open_at.Nothing = Between
-standing (open_at.Begun at line) = Begun at line
-standing (open_at.Going at text) = Going at text
+standing (open_at.Begun begun line) = Begun begun line
+standing (open_at.Going begun text) = Going begun text
 
--- an insertion whose text is being read counts as a command, and is no edit yet
+-- an edit whose text is being read counts as a command, and is no edit yet
 abbrev pub open_count : Open → ℕ → ℕ
 open_count open_at.Nothing count = count
-open_count (open_at.Begun at line) count = count + 1
-open_count (open_at.Going at text) count = count + 1
+open_count (open_at.Begun begun line) count = count + 1
+open_count (open_at.Going begun text) count = count + 1
 
 -- these edits, and then those that the lines behind give
 abbrev pub behind : List Edit → Result (List Edit) ScriptFault → Result (List Edit) ScriptFault

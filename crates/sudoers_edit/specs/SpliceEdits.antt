@@ -12,15 +12,20 @@ use Rattle.sudoers_tree.specs.Policy.{texts}
 use Rattle.sudoers_tree.specs.Single.{said}
 use Rattle.sudoers_edit.specs.Landing.{refuse_if, or_refuse, changed_or_refusal}
 use Rattle.sudoers_edit.specs.Splice.{Extent, member_extents, def_extents, seam, owned_stop, slice, line_without, line_with, is_member_more, is_def_more}
+use Rattle.sudoers_edit.specs.declared.one_more.Among.{Among}
+use Rattle.sudoers_edit.specs.declared.one_more.Among.TheVariants as among
 use Rattle.sudoers_edit.specs.declared.edit.EditFault.{EditFault}
 use Rattle.sudoers_edit.specs.declared.edit.EditFault.TheVariants.{NoLine, NoAlias, NoPlace, OnlyOne, BadSplice}
 
+abbrev pub Lines : Type 0
+Lines = List (List ℕ)
+
 -- where one more may be put in, among these: at which byte
-abbrev pub place_to_add : ℕ → List Extent → (ℕ → Result (List (List ℕ)) EditFault) → Result (List (List ℕ)) EditFault
+abbrev pub place_to_add : ℕ → List Extent → (ℕ → Result Lines EditFault) → Result Lines EditFault
 place_to_add at extents next = refuse_if (nat_lt (length extents) at) NoPlace (or_refuse (seam at extents) BadSplice next)
 
 -- which bytes go with one that may be taken out, of these
-abbrev pub place_to_drop : ℕ → List Extent → (ℕ → ℕ → Result (List (List ℕ)) EditFault) → Result (List (List ℕ)) EditFault
+abbrev pub place_to_drop : ℕ → List Extent → (ℕ → ℕ → Result Lines EditFault) → Result Lines EditFault
 place_to_drop at extents next =
     refuse_if (nat_le (length extents) at) NoPlace (refuse_if (length extents == 1) OnlyOne (
     or_refuse (seam at extents) BadSplice (λ from. or_refuse (owned_stop at extents) BadSplice (λ to. next from to))))
@@ -30,8 +35,27 @@ abbrev pub lie_in : ℕ → ℕ → List ℕ → Bool
 lie_in from to line = nat_le from to && nat_le to (length line)
 
 -- the policy's lines with another at this place, if that reads as it should
-abbrev pub if_spliced : Bool → ℕ → List ℕ → List Line → Result (List (List ℕ)) EditFault
+abbrev pub if_spliced : Bool → ℕ → List ℕ → List Line → Result Lines EditFault
 if_spliced reads at line policy = refuse_if (not reads) BadSplice (changed_or_refusal at line (texts policy))
+
+-- Of two lines the first reads as the second but for one definition, or one member of a definition, more.
+abbrev pub is_one_more : Among → ℕ → ℕ → ℕ → Option Node → Option Node → Bool
+is_one_more among.Definitions at from to more less = is_def_more at from to more less
+is_one_more (among.Members def) at from to more less = is_member_more def at from to more less
+
+-- one more put into the line `n`, at a byte
+abbrev pub put_in : Among → ℕ → ℕ → ℕ → List ℕ → Line → List Line → Result Lines EditFault
+put_in among at from n splice line policy =
+    if_spliced (lie_in from from line.text
+    && is_one_more among at from (from + length splice) (said (line_with from splice line.text)) (Some line.node))
+    n (line_with from splice line.text) policy
+
+-- one taken out of the line `n`, with these bytes
+abbrev pub cut_out : Among → ℕ → ℕ → ℕ → ℕ → Line → List Line → Result Lines EditFault
+cut_out among at from to n line policy =
+    if_spliced (lie_in from to line.text
+    && is_one_more among at from to (Some line.node) (said (line_without from to line.text)))
+    n (line_without from to line.text) policy
 
 -- DEFINITIONS
 
@@ -44,60 +68,39 @@ defs_of (node.Include dir path) = None
 defs_of (node.Defaults scope params) = None
 defs_of (node.Spec users groups) = None
 
-abbrev pub def_put : ℕ → ℕ → ℕ → List ℕ → Line → List Line → Result (List (List ℕ)) EditFault
-def_put at from n splice line policy =
-    if_spliced (lie_in from from line.text
-    && is_def_more at from (from + length splice) (said (line_with from splice line.text)) (Some line.node))
-    n (line_with from splice line.text) policy
-
-abbrev pub def_cut : ℕ → ℕ → ℕ → ℕ → Line → List Line → Result (List (List ℕ)) EditFault
-def_cut at from to n line policy =
-    if_spliced (lie_in from to line.text && is_def_more at from to (Some line.node) (said (line_without from to line.text)))
-    n (line_without from to line.text) policy
+-- the line of this number and its definitions
+abbrev pub with_defs : ℕ → List Line → (Line → List Def → Result Lines EditFault) → Result Lines EditFault
+with_defs n policy next = or_refuse (slice_get policy n) NoLine (λ line. or_refuse (defs_of line.node) NoAlias (next line))
 
 -- the lines with a definition more in the line `n`
-unfoldable pub add_def : ℕ → ℕ → List ℕ → List Line → Result (List (List ℕ)) EditFault
+unfoldable pub add_def : ℕ → ℕ → List ℕ → List Line → Result Lines EditFault
 add_def n at splice policy =
-    or_refuse (slice_get policy n) NoLine (λ line. or_refuse (defs_of line.node) NoAlias (λ defs.
-    place_to_add at (def_extents defs) (λ from. def_put at from n splice line policy)))
+    with_defs n policy (λ line defs. place_to_add at (def_extents defs) (λ from. put_in among.Definitions at from n splice line policy))
 
 -- the lines without a definition of the line `n`
-unfoldable pub drop_def : ℕ → ℕ → List Line → Result (List (List ℕ)) EditFault
+unfoldable pub drop_def : ℕ → ℕ → List Line → Result Lines EditFault
 drop_def n at policy =
-    or_refuse (slice_get policy n) NoLine (λ line. or_refuse (defs_of line.node) NoAlias (λ defs.
-    place_to_drop at (def_extents defs) (λ from to. def_cut at from to n line policy)))
+    with_defs n policy (λ line defs. place_to_drop at (def_extents defs) (λ from to. cut_out among.Definitions at from to n line policy))
 
 -- MEMBERS
 
 -- the line and the definition at a place
-abbrev pub with_def : Option Place → List Line → (Place → Line → Def → Result (List (List ℕ)) EditFault) → Result (List (List ℕ)) EditFault
+abbrev pub with_def : Option Place → List Line → (Place → Line → Def → Result Lines EditFault) → Result Lines EditFault
 with_def place policy next =
     or_refuse place NoAlias (λ at. or_refuse (slice_get policy at.line) NoAlias (λ line.
     or_refuse (defs_of line.node) NoAlias (λ defs. or_refuse (slice_get defs at.def) NoAlias (λ d. next at line d))))
 
-abbrev pub member_put : ℕ → ℕ → Place → List ℕ → Line → List Line → Result (List (List ℕ)) EditFault
-member_put at from place splice line policy =
-    if_spliced (lie_in from from line.text
-    && is_member_more place.def at from (from + length splice) (said (line_with from splice line.text)) (Some line.node))
-    place.line (line_with from splice line.text) policy
-
-abbrev pub member_cut : ℕ → ℕ → ℕ → Place → Line → List Line → Result (List (List ℕ)) EditFault
-member_cut at from to place line policy =
-    if_spliced (lie_in from to line.text
-    && is_member_more place.def at from to (Some line.node) (said (line_without from to line.text)))
-    place.line (line_without from to line.text) policy
-
 -- the lines with a member more in the list of an alias
-unfoldable pub add_member : Kind → List ℕ → ℕ → List ℕ → List Line → Result (List (List ℕ)) EditFault
+unfoldable pub add_member : Kind → List ℕ → ℕ → List ℕ → List Line → Result Lines EditFault
 add_member k name at splice policy =
     with_def (place_of k name policy) policy (λ place line d.
-    place_to_add at (member_extents d.members) (λ from. member_put at from place splice line policy))
+    place_to_add at (member_extents d.members) (λ from. put_in (among.Members place.def) at from place.line splice line policy))
 
 -- the lines without a member of the list of an alias
-unfoldable pub drop_member : Kind → List ℕ → ℕ → List Line → Result (List (List ℕ)) EditFault
+unfoldable pub drop_member : Kind → List ℕ → ℕ → List Line → Result Lines EditFault
 drop_member k name at policy =
     with_def (place_of k name policy) policy (λ place line d.
-    place_to_drop at (member_extents d.members) (λ from to. member_cut at from to place line policy))
+    place_to_drop at (member_extents d.members) (λ from to. cut_out (among.Members place.def) at from to place.line line policy))
 
 -- WHAT IS TAKEN OUT
 

@@ -10,6 +10,7 @@ use crate::landing::{Landed, copied};
 use crate::line_edits::{end_closed, end_opened, line_deleted, line_inserted, line_moved};
 use crate::pruning::pruned;
 use crate::renaming::alias_renamed;
+use crate::splice_edits::{def_added, def_dropped, member_added, member_dropped};
 use crate::text::Text;
 use std::alloc::{AllocError, Global};
 use std::marker::Model;
@@ -191,13 +192,23 @@ fn landed(policy: &Policy, edit: &Edit) -> Result<Landed, EditFault>
         Edit::Insert { at, text } => line_inserted(policy, *at, text.as_slice()),
         Edit::Delete { at } => line_deleted(policy, *at),
         Edit::Move { from, to } => line_moved(policy, *from, *to),
-        Edit::EndLine => end_closed(policy),
-        Edit::OpenEnd => end_opened(policy),
+        Edit::AddMember {
+            kind,
+            name,
+            at,
+            splice,
+        } => member_added(policy, *kind, name.as_slice(), *at, splice.as_slice()),
+        Edit::DropMember { kind, name, at } => {
+            member_dropped(policy, *kind, name.as_slice(), *at)
+        }
+        Edit::AddDef { line, at, splice } => def_added(policy, *line, *at, splice.as_slice()),
+        Edit::DropDef { line, at } => def_dropped(policy, *line, *at),
         Edit::Rename { kind, name, fresh } => {
             alias_renamed(policy, *kind, name.as_slice(), fresh.as_slice())
         }
+        Edit::EndLine => end_closed(policy),
+        Edit::OpenEnd => end_opened(policy),
         Edit::Prune => pruned(policy),
-        _ => Err(EditFault::NoMemory),
     }
 }
 

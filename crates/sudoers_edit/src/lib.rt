@@ -2,6 +2,7 @@
 #![tactic(auto)]
 
 mod alike;
+mod draft;
 mod edit;
 mod editor;
 mod landing;
@@ -27,5 +28,6 @@ pub use spelling::{
     first_dead_line_is_told, front_is_by_bytes, one_spelling,
     payload_fault_is_at_a_command_without_text, read_is_spelling, spelling_is_read,
     too_many_is_behind_the_most_edits, word_fault_is_at_the_first_dead_line, write_script,
+    written_is_read,
 };
 pub use text::Text;

@@ -3,6 +3,7 @@ ghost use Rattle.std.specs.Prelude.{◌≡◌, ℕ, Some, map, remove, slice_get
 ghost use Rattle.std.specs.Option.{option_copied};
 ghost use Rattle.sudoers_tree.specs.Definition.{is_kind as of_kind};
 ghost use Rattle.sudoers_edit.specs.Alike.{are_alike as alike_lists, is_same_def as same_def};
+ghost use Rattle.sudoers_edit.specs.SpliceEdits.{is_one_more};
 ghost use Rattle.sudoers_edit.specs.Splice.{Extent, is_at as stands_at, owns_exactly as owns, less_member, changed_at, is_member_more as one_member_more, is_def_more as one_def_more, member_extents, extents_in};
 
 use crate::alike::{Alike, are_alike};
@@ -17,9 +18,27 @@ pub struct OneMore {
     pub to: usize,
 }
 
+/// Among what there is one more in a line of definitions.
+#[derive(Clone, Copy, Debug)]
+pub enum Among {
+    Definitions,
+    /// The members of this definition.
+    Members { def: usize },
+}
+
 impl OneMore {
+    /// Whether the first line reads as the second but for this one.
+    pub fn is_more(self, among: Among, more: &Node, less: &Node) -> bool
+        ensures { result ≡ is_one_more among self.at self.from self.to (Some more.now) (Some less.now) }
+    {
+        match among {
+            Among::Definitions => self.is_def(more, less),
+            Among::Members { def } => self.is_member(def, more, less),
+        }
+    }
+
     /// Whether the first line reads as the second but for this definition.
-    pub fn is_def(self, more: &Node, less: &Node) -> bool
+    fn is_def(self, more: &Node, less: &Node) -> bool
         ensures { result ≡ one_def_more self.at self.from self.to (Some more.now) (Some less.now) }
     {
         match (more, less) {
@@ -41,7 +60,7 @@ impl OneMore {
     }
 
     /// Whether the first line reads as the second but for this member of a definition.
-    pub fn is_member(self, def: usize, more: &Node, less: &Node) -> bool
+    fn is_member(self, def: usize, more: &Node, less: &Node) -> bool
         ensures { result ≡ one_member_more def self.at self.from self.to (Some more.now) (Some less.now) }
     {
         match (more, less) {

@@ -4,9 +4,10 @@ ghost use Rattle.sudoers_edit.specs.Script.{spelling, edit_limit};
 ghost use Rattle.sudoers_edit.specs.ScriptReading.{reading, Reads, Tells, Rest, Between, before, with_room, command_line, first_line, later_line};
 ghost use Rattle.sudoers_edit.specs.ScriptStanding.{behind, next, outcome};
 
+use crate::draft::Draft;
 use crate::edit::{Edit, Edits};
 use crate::physical::first_line_len;
-use crate::script_line::{Said, sense_of, text_of};
+use crate::script_line::{Flaw, Said, sense_of, text_of};
 use crate::text::Text;
 use std::alloc::{AllocError, AllocFailed, Global};
 use std::mem::replace;
@@ -62,10 +63,10 @@ impl<T: Drop> From<AllocFailed<T>> for ScriptFault {
 enum Open {
     /// A command.
     Nothing,
-    /// The first line of the text of an insertion, whose command stands on this line.
-    Begun { at: u32, line: usize },
-    /// More of the text of an insertion, or a command.
-    Going { at: u32, text: Text },
+    /// The first line of the text that a command on this line wants.
+    Begun { draft: Draft, line: usize },
+    /// More of that text, or a command.
+    Going { draft: Draft, text: Text },
 }
 
 /// What has been read of a script, and the number of its next line.
@@ -116,22 +117,18 @@ impl Reading {
     {
         let line = self.line;
         match said {
-            Said::Insert(at) => {
+            Said::Begin(draft) => {
                 self.check_room()?;
-                self.pending = Open::Begun { at, line };
+                self.pending = Open::Begun { draft, line };
                 Ok(())
             }
-            Said::Delete(at) => self.take_edit(Edit::Delete { at }),
-            Said::Move(from, to) => self.take_edit(Edit::Move { from, to }),
-            Said::EndLine => self.take_edit(Edit::EndLine),
-            Said::OpenEnd => self.take_edit(Edit::OpenEnd),
-            Said::BadNumber => {
+            Said::Whole(edit) => self.take_edit(edit),
+            Said::Flawed(flaw) => {
                 self.check_room()?;
-                Err(ScriptFault::BadNumber { line })
-            }
-            Said::BadCommand => {
-                self.check_room()?;
-                Err(ScriptFault::BadWord { line })
+                match flaw {
+                    Flaw::Word => Err(ScriptFault::BadWord { line }),
+                    Flaw::Number => Err(ScriptFault::BadNumber { line }),
+                }
             }
             Said::More | Said::Last | Said::Unended | Said::Other => {
                 Err(ScriptFault::BadWord { line })
@@ -139,31 +136,31 @@ impl Reading {
         }
     }
 
-    /// Takes the line right behind the command of an insertion.
+    /// Takes the line right behind a command that wants a text.
     fn take_first(
         &mut self,
         alloc: Global,
-        at: u32,
+        draft: Draft,
         begun: usize,
         text: &[u8],
         said: Said,
     ) -> Result<(), ScriptFault>
         requires { self.old.pending ≡ Open.Nothing }
         ensures ok { OnOk result ((rest : Rest)
-            → behind self.old.edits (first_line rest self.old.line (length self.old.edits + 1) at begun text.now said)
+            → behind self.old.edits (first_line rest self.old.line (length self.old.edits + 1) draft begun text.now said)
             ≡ next rest self.new) }
         ensures err { IfErr result (λ fault. (rest : Rest)
-            → Tells fault (behind self.old.edits (first_line rest self.old.line (length self.old.edits + 1) at begun text.now said))) }
+            → Tells fault (behind self.old.edits (first_line rest self.old.line (length self.old.edits + 1) draft begun text.now said))) }
         ensures line { self.new.line ≡ self.old.line }
     {
         match said {
             Said::More => {
                 let text = Text::from_slice(alloc, text)?;
-                self.pending = Open::Going { at, text };
+                self.pending = Open::Going { draft, text };
             }
             Said::Last => {
                 let text = Text::from_slice(alloc, text)?;
-                self.edits.push(Edit::Insert { at, text })?;
+                self.edits.push(draft.with_text(text))?;
             }
             Said::Unended => return Err(ScriptFault::BadWord { line: self.line }),
             _ => return Err(ScriptFault::NoPayload { line: begun }),
@@ -171,37 +168,40 @@ impl Reading {
         Ok(())
     }
 
-    /// Takes a line behind the first part of an insertion's text.
+    /// Takes a line behind the first part of a text.
     fn take_later(
         &mut self,
-        at: u32,
+        draft: Draft,
         mut so_far: Text,
         text: &[u8],
         said: Said,
     ) -> Result<(), ScriptFault>
         requires { self.old.pending ≡ Open.Nothing }
         ensures ok { OnOk result ((rest : Rest)
-            → behind self.old.edits (later_line rest self.old.line (length self.old.edits + 1) at so_far text.now said)
+            → behind self.old.edits (later_line rest self.old.line (length self.old.edits + 1) draft so_far text.now said)
             ≡ next rest self.new) }
         ensures err { IfErr result (λ fault. (rest : Rest)
-            → Tells fault (behind self.old.edits (later_line rest self.old.line (length self.old.edits + 1) at so_far text.now said))) }
+            → Tells fault (behind self.old.edits (later_line rest self.old.line (length self.old.edits + 1) draft so_far text.now said))) }
         ensures line { self.new.line ≡ self.old.line }
     {
         match said {
             Said::More => {
                 so_far.extend_from_slice(text)?;
-                self.pending = Open::Going { at, text: so_far };
+                self.pending = Open::Going {
+                    draft,
+                    text: so_far,
+                };
                 Ok(())
             }
             Said::Last if text.is_empty() => Err(ScriptFault::BadWord { line: self.line }),
             Said::Last => {
                 so_far.extend_from_slice(text)?;
-                self.edits.push(Edit::Insert { at, text: so_far })?;
+                self.edits.push(draft.with_text(so_far))?;
                 Ok(())
             }
             Said::Unended => Err(ScriptFault::BadWord { line: self.line }),
             _ => {
-                self.edits.push(Edit::Insert { at, text: so_far })?;
+                self.edits.push(draft.with_text(so_far))?;
                 self.take_command(said)
             }
         }
@@ -216,12 +216,17 @@ impl Reading {
             → Tells fault (outcome self.old (line.now ∷ lines))) }
         ensures line { OnOk result (self.new.line ≡ self.old.line + 1) }
     {
-        let said = sense_of(line);
-        let text = text_of(line, said);
+        let said = sense_of(alloc, line)?;
+        let text = text_of(line, &said);
         match replace(&mut self.pending, Open::Nothing) {
             Open::Nothing => self.take_command(said)?,
-            Open::Begun { at, line: begun } => self.take_first(alloc, at, begun, text, said)?,
-            Open::Going { at, text: so_far } => self.take_later(at, so_far, text, said)?,
+            Open::Begun { draft, line: begun } => {
+                self.take_first(alloc, draft, begun, text, said)?;
+            }
+            Open::Going {
+                draft,
+                text: so_far,
+            } => self.take_later(draft, so_far, text, said)?,
         }
         self.line += 1;
         Ok(())
@@ -239,7 +244,7 @@ impl Reading {
         match pending {
             Open::Nothing => {}
             Open::Begun { line, .. } => return Err(ScriptFault::NoPayload { line }),
-            Open::Going { at, text } => edits.push(Edit::Insert { at, text })?,
+            Open::Going { draft, text } => edits.push(draft.with_text(text))?,
         }
         Ok(edits)
     }

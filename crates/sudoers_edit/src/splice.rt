@@ -1,7 +1,10 @@
 //! Which bytes of its line a member or a definition owns, and the line without them or with others.
-ghost use Rattle.std.specs.Prelude.{◌≡◌, ◌≤◌, ◌+◌, ℕ, List, map, length, IfOk};
+ghost use Rattle.std.specs.Prelude.{◌≡◌, ◌≤◌, ◌+◌, ℕ, List, map, length, Some, Result, Err, IfOk, MatchResult};
+ghost use Rattle.sudoers_edit.specs.declared.edit.EditFault.{EditFault as Refusal};
+ghost use Rattle.sudoers_edit.specs.SpliceEdits.{place_to_add as to_add, place_to_drop as to_drop, Lines};
 ghost use Rattle.sudoers_edit.specs.Splice.{Extent, seam as the_seam, owned_stop as the_stop, line_with as with_splice, line_without as without_slice, slice};
 
+use crate::edit::EditFault;
 use std::alloc::{AllocError, Global};
 use sudoers_tree::{Def, Member};
 
@@ -49,6 +52,43 @@ pub fn owned_stop<T: Placed>(items: &[T], at: usize) -> Option<usize>
         Some(items.get(1)?.extent().0)
     } else {
         Some(items.get(at)?.extent().1)
+    }
+}
+
+/// Where one more may be put in among these: at which byte.
+pub fn place_to_add<T: Placed>(items: &[T], at: usize) -> Result<usize, EditFault>
+    ensures { (next : ℕ → Result Lines Refusal) → MatchResult result
+        (λ from. (to_add at (map T.extent items.now) next ≡ next from) × (the_seam at (map T.extent items.now) ≡ Some from))
+        (λ fault. to_add at (map T.extent items.now) next ≡ Err fault) }
+{
+    if at > items.len() {
+        return Err(EditFault::NoPlace);
+    }
+    match seam(items, at) {
+        Some(from) => Ok(from),
+        None => Err(EditFault::BadSplice),
+    }
+}
+
+/// Which bytes go with one that may be taken out of these.
+pub fn place_to_drop<T: Placed>(items: &[T], at: usize) -> Result<(usize, usize), EditFault>
+    ensures { (next : ℕ → ℕ → Result Lines Refusal) → MatchResult result
+        (λ bytes. (to_drop at (map T.extent items.now) next ≡ next bytes.0 bytes.1)
+        × (the_seam at (map T.extent items.now) ≡ Some bytes.0) × (the_stop at (map T.extent items.now) ≡ Some bytes.1))
+        (λ fault. to_drop at (map T.extent items.now) next ≡ Err fault) }
+{
+    if at >= items.len() {
+        return Err(EditFault::NoPlace);
+    }
+    if items.len() == 1 {
+        return Err(EditFault::OnlyOne);
+    }
+    let Some(from) = seam(items, at) else {
+        return Err(EditFault::BadSplice);
+    };
+    match owned_stop(items, at) {
+        Some(to) => Ok((from, to)),
+        None => Err(EditFault::BadSplice),
     }
 }
 

@@ -1,83 +1,240 @@
 //! Members and definitions put in and taken out.
-ghost use Rattle.std.specs.Prelude.{◌≡◌, ◌≤◌, ◌<◌, length, List, ℕ, IfOk};
+ghost use Rattle.std.specs.Prelude.{◌≡◌, ◌≤◌, ◌<◌, ◌∷◌, [], length, slice_get, Some, Result, Err, List, ℕ, IfOk, MatchResult};
 ghost use Rattle.sudoers_text.specs.Ended.{has_unended_inside};
 ghost use Rattle.sudoers_tree.specs.Policy.{texts};
 ghost use Rattle.sudoers_edit.specs.declared.edit.Edit.{Edit as AnEdit};
-ghost use Rattle.sudoers_edit.specs.Landing.{replaced};
-ghost use Rattle.sudoers_edit.specs.Leading.{Lands, Replaces};
+ghost use Rattle.sudoers_edit.specs.Editing.{Refuses};
+ghost use Rattle.sudoers_edit.specs.Landing.{replaced, changed_or_refusal};
+ghost use Rattle.sudoers_edit.specs.Leading.{Lands, Replaces, PutIn, CutOut, IsKnown, IsDefAt};
+ghost use Rattle.sudoers_edit.specs.SpliceEdits.{Lines, put_in as with_more, cut_out as with_less, with_defs, with_def, defs_of};
+ghost use Rattle.sudoers_tree.specs.declared.line.Line.{Line as LineOf};
+ghost use Rattle.sudoers_line.specs.declared.node.Def.{Def as DefOf};
+ghost use Rattle.sudoers_tree.specs.declared.place.Place.{Place as PlaceOf};
+ghost use Rattle.sudoers_tree.specs.Definition.{place_of};
+ghost use Rattle.sudoers_edit.specs.declared.edit.EditFault.{EditFault as Refusal};
 
 use crate::edit::{Edit, EditFault, Edits};
 use crate::landing::{Landed, is_sound, land, reads_lines};
-use crate::one_more::OneMore;
+use crate::one_more::{Among, OneMore};
 use crate::reread::text_replaced;
-use crate::splice::{line_with, line_without, owned_stop, seam};
+use crate::splice::{line_with, line_without, place_to_add, place_to_drop};
 use crate::text::Text;
-use std::alloc::Global;
-use sudoers_text::{LINE_LIMIT, ends_in_lf, line_alone_is_whole};
-use sudoers_tree::{Kind, Line, Node, Policy, lines_are_said, read_line};
+use std::alloc::{AllocError, Global};
+use sudoers_text::{LINE_LIMIT, ends_in_lf, line_alone_is_whole, line_alone_size};
+use sudoers_tree::{Def, Kind, Line, Node, Place, Policy, lines_are_said, read_line};
 
 /// A definition put into a line.
 pub fn def_added(policy: &Policy, line: u32, at: u32, splice: &[u8]) -> Result<Landed, EditFault>
     ensures { Lands (Edit.AddDef line at splice.now) (texts policy.now) result }
 {
+    is_known(policy);
     let alloc = policy.allocator();
-    let (number, place) = (line as usize, at as usize);
-    let Some(old) = policy.lines().get(number) else {
-        return Err(EditFault::NoLine);
+    let (old, defs) = match defs_at(policy, line as usize) {
+        Ok(found) => found,
+        Err(fault) => return Err(fault),
     };
-    let Node::Alias { defs, .. } = &old.node else {
-        return Err(EditFault::NoAlias);
+    let from = match place_to_add(defs, at as usize) {
+        Ok(from) => from,
+        Err(fault) => return Err(fault),
     };
-    if place > defs.len() {
-        return Err(EditFault::NoPlace);
-    }
-    let Some(from) = seam(defs.as_slice(), place) else {
-        return Err(EditFault::BadSplice);
+    let text = match put_in(alloc, Among::Definitions, at as usize, from, splice, old) {
+        Ok(text) => text,
+        Err(fault) => return Err(fault),
     };
-    if from > old.text.len() {
-        return Err(EditFault::BadSplice);
-    }
-    let text = line_with(alloc, old.text.as_slice(), from, splice)?;
-    let to = from + splice.len();
-    let Some(new) = read_line(alloc, text.as_slice())? else {
-        return Err(EditFault::BadSplice);
-    };
-    let more = OneMore {
-        at: place,
-        from,
-        to,
-    };
-    if !more.is_def(&new, &old.node) {
-        return Err(EditFault::BadSplice);
-    }
     let inverse = Edits::one(alloc, Edit::DropDef { line, at })?;
-    line_replaced(policy, number, text.as_slice(), inverse)
+    line_replaced(policy, line as usize, text.as_slice(), inverse)
 }
 
 /// A definition taken out of a line.
 pub fn def_dropped(policy: &Policy, line: u32, at: u32) -> Result<Landed, EditFault>
     ensures { Lands (Edit.DropDef line at) (texts policy.now) result }
 {
+    is_known(policy);
     let alloc = policy.allocator();
-    let (number, place) = (line as usize, at as usize);
-    let Some(old) = policy.lines().get(number) else {
-        return Err(EditFault::NoLine);
+    let (old, defs) = match defs_at(policy, line as usize) {
+        Ok(found) => found,
+        Err(fault) => return Err(fault),
     };
-    let Node::Alias { defs, .. } = &old.node else {
+    let (from, to) = match place_to_drop(defs, at as usize) {
+        Ok(bytes) => bytes,
+        Err(fault) => return Err(fault),
+    };
+    let text = match cut_out(alloc, Among::Definitions, at as usize, from, to, old) {
+        Ok(text) => text,
+        Err(fault) => return Err(fault),
+    };
+    let splice = Text::from_slice(alloc, &old.text.as_slice()[from..to])?;
+    let inverse = Edits::one(alloc, Edit::AddDef { line, at, splice })?;
+    line_replaced(policy, line as usize, text.as_slice(), inverse)
+}
+
+/// A member put into the list of an alias.
+pub fn member_added(
+    policy: &Policy,
+    kind: Kind,
+    name: &[u8],
+    at: u32,
+    splice: &[u8],
+) -> Result<Landed, EditFault>
+    ensures { Lands (Edit.AddMember kind name.now at splice.now) (texts policy.now) result }
+{
+    is_known(policy);
+    let alloc = policy.allocator();
+    let (place, old, def) = match def_at(policy, kind, name) {
+        Ok(found) => found,
+        Err(fault) => return Err(fault),
+    };
+    let from = match place_to_add(def.members.as_slice(), at as usize) {
+        Ok(from) => from,
+        Err(fault) => return Err(fault),
+    };
+    let among = Among::Members { def: place.def };
+    let text = match put_in(alloc, among, at as usize, from, splice, old) {
+        Ok(text) => text,
+        Err(fault) => return Err(fault),
+    };
+    let name = Text::from_slice(alloc, name)?;
+    let inverse = Edits::one(alloc, Edit::DropMember { kind, name, at })?;
+    line_replaced(policy, place.line, text.as_slice(), inverse)
+}
+
+/// A member taken out of the list of an alias.
+pub fn member_dropped(
+    policy: &Policy,
+    kind: Kind,
+    name: &[u8],
+    at: u32,
+) -> Result<Landed, EditFault>
+    ensures { Lands (Edit.DropMember kind name.now at) (texts policy.now) result }
+{
+    is_known(policy);
+    let alloc = policy.allocator();
+    let (place, old, def) = match def_at(policy, kind, name) {
+        Ok(found) => found,
+        Err(fault) => return Err(fault),
+    };
+    let (from, to) = match place_to_drop(def.members.as_slice(), at as usize) {
+        Ok(bytes) => bytes,
+        Err(fault) => return Err(fault),
+    };
+    let among = Among::Members { def: place.def };
+    let text = match cut_out(alloc, among, at as usize, from, to, old) {
+        Ok(text) => text,
+        Err(fault) => return Err(fault),
+    };
+    let inverse = member_again(alloc, kind, name, at, &old.text.as_slice()[from..to])?;
+    line_replaced(policy, place.line, text.as_slice(), inverse)
+}
+
+/// The edit that puts a member in again.
+fn member_again(
+    alloc: Global,
+    kind: Kind,
+    name: &[u8],
+    at: u32,
+    splice: &[u8],
+) -> Result<Edits, AllocError>
+    ensures { IfOk result (λ edits. edits ≡ Edit.AddMember kind name.now at splice.now ∷ []) }
+{
+    let name = Text::from_slice(alloc, name)?;
+    let splice = Text::from_slice(alloc, splice)?;
+    Edits::one(
+        alloc,
+        Edit::AddMember {
+            kind,
+            name,
+            at,
+            splice,
+        },
+    )
+}
+
+/// Where an alias is defined: the place, the line and the definition.
+fn def_at<'a>(
+    policy: &'a Policy,
+    kind: Kind,
+    name: &[u8],
+) -> Result<(Place, &'a Line, &'a Def), EditFault>
+    ensures outcome { (next : PlaceOf → LineOf → DefOf → Result Lines Refusal) → MatchResult result
+        (λ found. with_def (place_of kind name.now policy.now) policy.now next ≡ next found.0 found.1.now found.2.now)
+        (λ fault. with_def (place_of kind name.now policy.now) policy.now next ≡ Err fault) }
+    ensures found { IfOk result (λ found. IsDefAt kind name.now policy.now found.0 found.1.now found.2.now) }
+{
+    let Some(place) = policy.definition(kind, name) else {
         return Err(EditFault::NoAlias);
     };
-    if place >= defs.len() {
-        return Err(EditFault::NoPlace);
+    let Some(line) = policy.lines().get(place.line) else {
+        return Err(EditFault::NoAlias);
+    };
+    let Node::Alias { defs, .. } = &line.node else {
+        return Err(EditFault::NoAlias);
+    };
+    match defs.as_slice().get(place.def) {
+        Some(def) => Ok((place, line, def)),
+        None => Err(EditFault::NoAlias),
     }
-    if defs.len() == 1 {
-        return Err(EditFault::OnlyOne);
+}
+
+/// The line of a number, and its definitions.
+fn defs_at(policy: &Policy, number: usize) -> Result<(&Line, &[Def]), EditFault>
+    ensures outcome { (next : LineOf → List DefOf → Result Lines Refusal) → MatchResult result
+        (λ found. with_defs number policy.now next ≡ next found.0.now found.1.now)
+        (λ fault. with_defs number policy.now next ≡ Err fault) }
+    ensures found { IfOk result (λ found. (slice_get policy.now number ≡ Some found.0.now)
+        × (defs_of found.0.now.node ≡ Some found.1.now)) }
+{
+    let Some(line) = policy.lines().get(number) else {
+        return Err(EditFault::NoLine);
+    };
+    match &line.node {
+        Node::Alias { defs, .. } => Ok((line, defs.as_slice())),
+        _ => Err(EditFault::NoAlias),
     }
-    let (Some(from), Some(to)) = (
-        seam(defs.as_slice(), place),
-        owned_stop(defs.as_slice(), place),
-    ) else {
+}
+
+/// A line with one more, which stands at a place and has these bytes.
+fn put_in(
+    alloc: Global,
+    among: Among,
+    at: usize,
+    from: usize,
+    splice: &[u8],
+    old: &Line,
+) -> Result<Vec<u8>, EditFault>
+    ensures put { IfOk result (λ text. PutIn among at from splice.now old.now text.items) }
+    ensures outcome { (n : ℕ) (policy : List LineOf) → MatchResult result
+        (λ text. with_more among at from n splice.now old.now policy ≡ changed_or_refusal n text.items (texts policy))
+        (λ fault. Refuses fault (with_more among at from n splice.now old.now policy)) }
+{
+    if from > old.text.len() {
+        return Err(EditFault::BadSplice);
+    }
+    let text = line_with(alloc, old.text.as_slice(), from, splice)?;
+    let Some(new) = read_line(alloc, text.as_slice())? else {
         return Err(EditFault::BadSplice);
     };
+    let to = from + splice.len();
+    let one = OneMore { at, from, to };
+    if !one.is_more(among, &new, &old.node) {
+        return Err(EditFault::BadSplice);
+    }
+    Ok(text)
+}
+
+/// A line without one that stands at a place and has these bytes.
+fn cut_out(
+    alloc: Global,
+    among: Among,
+    at: usize,
+    from: usize,
+    to: usize,
+    old: &Line,
+) -> Result<Vec<u8>, EditFault>
+    ensures cut { IfOk result (λ text. CutOut among at from to old.now text.items) }
+    ensures outcome { (n : ℕ) (policy : List LineOf) → MatchResult result
+        (λ text. with_less among at from to n old.now policy ≡ changed_or_refusal n text.items (texts policy))
+        (λ fault. Refuses fault (with_less among at from to n old.now policy)) }
+{
     if from > to || to > old.text.len() {
         return Err(EditFault::BadSplice);
     }
@@ -85,17 +242,11 @@ pub fn def_dropped(policy: &Policy, line: u32, at: u32) -> Result<Landed, EditFa
     let Some(new) = read_line(alloc, text.as_slice())? else {
         return Err(EditFault::BadSplice);
     };
-    let more = OneMore {
-        at: place,
-        from,
-        to,
-    };
-    if !more.is_def(&old.node, &new) {
+    let one = OneMore { at, from, to };
+    if !one.is_more(among, &old.node, &new) {
         return Err(EditFault::BadSplice);
     }
-    let splice = Text::from_slice(alloc, &old.text.as_slice()[from..to])?;
-    let inverse = Edits::one(alloc, Edit::AddDef { line, at, splice })?;
-    line_replaced(policy, number, text.as_slice(), inverse)
+    Ok(text)
 }
 
 /// A line changed that reads as it should.
@@ -132,4 +283,14 @@ fn leaves_open(policy: &Policy, at: usize, text: &[u8]) -> bool
         return false;
     }
     policy.len() - at > 1
+}
+
+/// A law: the lines of a policy are known from what they say.
+fn is_known(policy: &Policy)
+    ensures { IsKnown policy.now }
+{
+    is_sound(policy);
+    policy.is_policy();
+    lines_are_said();
+    line_alone_size();
 }

@@ -1,7 +1,10 @@
 -- A line alone is one logical line.
-use Rattle.std.proofs.Common.{◌≡◌, ℕ, ◌<◌, ◌≤◌, true, List, [], ◌∷◌, ◌++◌, length, Some, Result, Ok, refl, sym, ap, subst, ◌∙◌, arith, append-nil}
+use Rattle.std.proofs.Common.{◌≡◌, ℕ, ◌<◌, ◌≤◌, Bool, true, false, not, List, [], ◌∷◌, ◌++◌, length, Some, Result, Ok, refl, sym, ap, subst, ◌∙◌, arith, append-nil}
 use Rattle.std.specs.Prelude.{slice_get}
-use Rattle.sudoers_text.specs.Line.{join, Cuts, IsOpen}
+use Rattle.std.proofs.lemmas.Bool.{or_parts}
+use Rattle.std.specs.List.{AllByRecursion}
+use Rattle.sudoers_text.specs.Ended.{ends_in_lf, has_unended_inside}
+use Rattle.sudoers_text.specs.Line.{join, Cuts, IsOpen, IsLine, AreLines}
 use Rattle.sudoers_text.specs.Fault.{IsCut, IsLong, EndsOpen, StandsIn, IsOutcome, text_limit, line_limit}
 use Rattle.sudoers_text.specs.Whole.{IsLogicalLine}
 use Rattle.sudoers_text.specs.declared.fault.TextFault.{TextFault}
@@ -34,3 +37,24 @@ alone line is fits = record { fits = omega (arith, fits); cuts = is.cuts; sound 
         let same : stands.1.last ≡ line = only line stands.1.last stands.1.before [] stands.1.place in
         is.closed (subst IsOpen same stands.1.unfinished)
     sound NoMemory at stands = stands
+
+-- what the law of closed lines says
+abbrev pub ClosedLaw : Type 0
+ClosedLaw = (line other : List ℕ) → IsLine line [] → ends_in_lf line ≡ true → (IsOpen line → ⊥) → IsLine line other
+
+not_false : (b : Bool) → not b ≡ false → b ≡ true
+not_false true h = refl
+not_false false h = cc
+
+alone_line : (line : List ℕ) → IsLogicalLine line → IsLine line []
+alone_line line is = is.cuts.each.0
+
+are_lines : ClosedLaw → (lines : List (List ℕ)) → AllByRecursion IsLogicalLine lines → has_unended_inside lines ≡ false → AreLines lines
+are_lines law [] all ended = tt
+are_lines law (line ∷ []) all ended = (alone_line line all.0, tt)
+are_lines law (line ∷ next ∷ lines) all ended =
+    let parts = or_parts (not (ends_in_lf line)) (has_unended_inside (next ∷ lines)) ended in
+    (law line (join (next ∷ lines)) (alone_line line all.0) (not_false (ends_in_lf line) parts.0) all.0.closed, are_lines law (next ∷ lines) all.1 parts.1)
+
+pub whole_lines : ClosedLaw → (lines : List (List ℕ)) → AllByRecursion IsLogicalLine lines → has_unended_inside lines ≡ false → Cuts (join lines) lines
+whole_lines law lines all ended = record { joined = refl; each = are_lines law lines all ended }

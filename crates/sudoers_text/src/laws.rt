@@ -1,6 +1,7 @@
 //! Laws of logical lines, for the layers above. Each is the contract of a function that does nothing.
 
 ghost use Rattle.std.specs.Prelude.{◌≡◌, ◌≢◌, ◌<◌, ◌≤◌, ℕ, List, [], ◌∷◌, ◌++◌, length, Result, Ok, true, false};
+ghost use Rattle.std.specs.List.{AllByRecursion};
 ghost use Rattle.sudoers_text.specs.Line.{IsLine, IsOpen, Cuts, join};
 ghost use Rattle.sudoers_text.specs.Ended.{ends_in_lf, has_unended_inside};
 ghost use Rattle.sudoers_text.specs.Fault.{IsOutcome, text_limit, line_limit};
@@ -100,4 +101,12 @@ pub fn line_alone_is_whole()
     cut_is();
     one_outcome();
     whole_line_is();
+}
+
+/// Lines that are each one logical line, all but the last ending in LF, are the lines of their join.
+pub fn whole_lines_of_join()
+    ensures { (lines : List (List ℕ)) → AllByRecursion IsLogicalLine lines → has_unended_inside lines ≡ false
+        → Cuts (join lines) lines }
+{
+    closed_line_anywhere();
 }

@@ -24,7 +24,7 @@ pub use fault::TextFault;
 pub use laws::{
     closed_line_anywhere, cut_is, inner_line_ends, lf_behind_last_line, lf_from_last_line,
     line_alone, line_alone_is_whole, line_alone_size, line_anywhere, lines_of_join,
-    lines_stand_alone, one_list, one_outcome, some_list, whole_line_is,
+    lines_stand_alone, one_list, one_outcome, some_list, whole_line_is, whole_lines_of_join,
 };
 pub use line::{Lines, cut};
 pub use meaning::{blanks_len, value};

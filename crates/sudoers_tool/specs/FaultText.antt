@@ -71,6 +71,12 @@ abbrev pub text_of_edit : ℕ → EditFault → List ℕ → List ℕ
 text_of_edit place edit.NoLine file = edit_name place (codes "NoLine")
 text_of_edit place edit.NotOneLine file = edit_name place (codes "NotOneLine")
 text_of_edit place edit.OpenLine file = edit_name place (codes "OpenLine")
+text_of_edit place edit.NoAlias file = edit_name place (codes "NoAlias")
+text_of_edit place edit.NoPlace file = edit_name place (codes "NoPlace")
+text_of_edit place edit.OnlyOne file = edit_name place (codes "OnlyOne")
+text_of_edit place edit.BadName file = edit_name place (codes "BadName")
+text_of_edit place edit.NameTaken file = edit_name place (codes "NameTaken")
+text_of_edit place edit.BadSplice file = edit_name place (codes "BadSplice")
 text_of_edit place edit.EndAsIs file = edit_name place (codes "EndAsIs")
 text_of_edit place edit.TooLarge file = edit_name place (codes "TooLarge")
 text_of_edit place (edit.NotPolicy fault) file = edit_name place (codes "NotPolicy: ") ++ text_of_read fault file

@@ -28,6 +28,12 @@ abbrev pub layer_of_edit : ℕ → EditFault → LayerFault
 layer_of_edit place edit.NoLine = layer.Edit place edit.NoLine
 layer_of_edit place edit.NotOneLine = layer.Edit place edit.NotOneLine
 layer_of_edit place edit.OpenLine = layer.Edit place edit.OpenLine
+layer_of_edit place edit.NoAlias = layer.Edit place edit.NoAlias
+layer_of_edit place edit.NoPlace = layer.Edit place edit.NoPlace
+layer_of_edit place edit.OnlyOne = layer.Edit place edit.OnlyOne
+layer_of_edit place edit.BadName = layer.Edit place edit.BadName
+layer_of_edit place edit.NameTaken = layer.Edit place edit.NameTaken
+layer_of_edit place edit.BadSplice = layer.Edit place edit.BadSplice
 layer_of_edit place edit.EndAsIs = layer.Edit place edit.EndAsIs
 layer_of_edit place edit.TooLarge = layer.Edit place edit.TooLarge
 layer_of_edit place (edit.NotPolicy fault) = layer.Edit place (edit.NotPolicy fault)

@@ -276,6 +276,12 @@ fn edit_fault_text(
         EditFault::NoLine => at_edit(alloc, place, b"NoLine"),
         EditFault::NotOneLine => at_edit(alloc, place, b"NotOneLine"),
         EditFault::OpenLine => at_edit(alloc, place, b"OpenLine"),
+        EditFault::NoAlias => at_edit(alloc, place, b"NoAlias"),
+        EditFault::NoPlace => at_edit(alloc, place, b"NoPlace"),
+        EditFault::OnlyOne => at_edit(alloc, place, b"OnlyOne"),
+        EditFault::BadName => at_edit(alloc, place, b"BadName"),
+        EditFault::NameTaken => at_edit(alloc, place, b"NameTaken"),
+        EditFault::BadSplice => at_edit(alloc, place, b"BadSplice"),
         EditFault::EndAsIs => at_edit(alloc, place, b"EndAsIs"),
         EditFault::TooLarge => at_edit(alloc, place, b"TooLarge"),
         EditFault::NotPolicy(fault) => {
