@@ -13,7 +13,9 @@ mod OneSpelling
 mod PhysicalLemmas
 mod PlaceLemmas
 mod PolicyLemmas
+mod PruneLemmas
 mod ReadingLemmas
+mod RenameLemmas
 mod ReplaceLemmas
 mod ReplacedLemmas
 mod ScriptLemmas

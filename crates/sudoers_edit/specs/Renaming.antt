@@ -15,7 +15,7 @@ use Rattle.sudoers_tree.specs.declared.line.Line.{Line}
 use Rattle.sudoers_tree.specs.declared.place.Span.{Span}
 use Rattle.sudoers_tree.specs.Definition.{is_kind, place_of}
 use Rattle.sudoers_tree.specs.Fault.{is_some}
-use Rattle.sudoers_tree.specs.Mention.{members_in, mentions, spans_of}
+use Rattle.sudoers_tree.specs.Mention.{members_in, mentions, span_of}
 use Rattle.sudoers_tree.specs.Policy.{texts}
 use Rattle.sudoers_edit.specs.Alike.{are_alike}
 use Rattle.sudoers_edit.specs.Landing.{refuse_if, is_too_long, policy_or_refusal, policy_of}
@@ -24,9 +24,13 @@ use Rattle.sudoers_edit.specs.declared.edit.EditFault.TheVariants.{NoAlias, BadN
 
 -- WHERE THE NAME STANDS
 
--- where it is mentioned by one of these members: at which bytes of the line
+-- where it is mentioned by this member: at which bytes of the line
+abbrev pub starts_of : List ℕ → Member → List ℕ
+starts_of name m = map (λ (s : Span). s.start) (span_of 0 name m m.atom)
+
+-- where it is mentioned by one of these members
 abbrev pub starts_among : List ℕ → List Member → List ℕ
-starts_among name members = map (λ (s : Span). s.start) (spans_of 0 name members)
+starts_among name members = flat_map (starts_of name) members
 
 -- where it stands in a definition: as the name that is defined, and in the members
 abbrev pub starts_in_def : List ℕ → Def → List ℕ

@@ -6,9 +6,10 @@ ghost use Rattle.sudoers_edit.specs.Editing.{run};
 ghost use Rattle.sudoers_edit.specs.Leading.{Lands};
 
 use crate::edit::{Edit, EditFault, Edits};
-use crate::landing::{Landed, is_sound};
+use crate::landing::{Landed, copied};
 use crate::line_edits::{end_closed, end_opened, line_deleted, line_inserted, line_moved};
-use crate::reread::reread;
+use crate::pruning::pruned;
+use crate::renaming::alias_renamed;
 use crate::splice_edits::{def_added, def_dropped, member_added, member_dropped};
 use crate::text::Text;
 use std::alloc::{AllocError, Global};
@@ -183,15 +184,6 @@ fn after_all(policy: &Policy, edits: &[Edit]) -> Result<Policy, EditFault>
     Ok(after)
 }
 
-/// A copy of a policy.
-fn copied(policy: &Policy) -> Result<Policy, EditFault>
-    ensures { MatchResult result (λ new. texts new ≡ texts policy.now) (λ fault. fault ≡ EditFault.NoMemory) }
-{
-    is_sound(policy);
-    policy.is_policy();
-    reread(policy.allocator(), policy.text()?.as_slice())
-}
-
 /// What comes of an edit.
 fn landed(policy: &Policy, edit: &Edit) -> Result<Landed, EditFault>
     ensures { Lands edit.now (texts policy.now) result }
@@ -211,9 +203,12 @@ fn landed(policy: &Policy, edit: &Edit) -> Result<Landed, EditFault>
         }
         Edit::AddDef { line, at, splice } => def_added(policy, *line, *at, splice.as_slice()),
         Edit::DropDef { line, at } => def_dropped(policy, *line, *at),
+        Edit::Rename { kind, name, fresh } => {
+            alias_renamed(policy, *kind, name.as_slice(), fresh.as_slice())
+        }
         Edit::EndLine => end_closed(policy),
         Edit::OpenEnd => end_opened(policy),
-        _ => Err(EditFault::NoMemory),
+        Edit::Prune => pruned(policy),
     }
 }
 

@@ -1,5 +1,5 @@
 //! Where edits lead: to a policy, with the edits that lead back.
-ghost use Rattle.std.specs.Prelude.{◌≡◌, false, List, ℕ, Ok};
+ghost use Rattle.std.specs.Prelude.{◌≡◌, false, List, ℕ, Ok, MatchResult};
 ghost use Rattle.sudoers_text.specs.Line.{join};
 ghost use Rattle.sudoers_text.specs.Ended.{has_unended_inside};
 ghost use Rattle.sudoers_text.specs.Cut.{StandAlone};
@@ -30,6 +30,15 @@ pub fn land(alloc: Global, whole: &[u8], inverse: Edits) -> Result<Landed, EditF
     reads_lines();
     let policy = reread(alloc, whole)?;
     Ok(Landed { policy, inverse })
+}
+
+/// A copy of a policy.
+pub fn copied(policy: &Policy) -> Result<Policy, EditFault>
+    ensures { MatchResult result (λ new. texts new ≡ texts policy.now) (λ fault. fault ≡ EditFault.NoMemory) }
+{
+    is_sound(policy);
+    policy.is_policy();
+    reread(policy.allocator(), policy.text()?.as_slice())
 }
 
 /// A law: what the lines of a policy are.

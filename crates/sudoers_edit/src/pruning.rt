@@ -1,4 +1,23 @@
 //! Prune.
+ghost use Rattle.std.specs.Prelude.{◌≡◌, ◌≤◌, ◌<◌, ◌^◌, ◌++◌, map, length, ℕ, List, IfOk, OnOk};
+ghost use Rattle.std.specs.List.{All};
+ghost use Rattle.sudoers_line.specs.declared.node.Kind.{Kind as AKind};
+ghost use Rattle.sudoers_text.specs.Fault.{text_limit};
+ghost use Rattle.sudoers_tree.specs.declared.place.Place.{Place as APlace};
+ghost use Rattle.sudoers_tree.specs.Definition.{Definition, definitions, definitions_in};
+ghost use Rattle.sudoers_tree.specs.Policy.{texts, alias_limit};
+ghost use Rattle.sudoers_edit.specs.Leading.{Lands};
+ghost use Rattle.sudoers_edit.specs.Pruning.{edit_of, removals as the_removals};
+ghost use Rattle.sudoers_edit.specs.PruneOrder.{front_count, removals_at};
+
+use crate::edit::{Edit, EditFault, Edits};
+use crate::landing::{Landed, copied, is_sound};
+use crate::line_edits::line_deleted;
+use crate::splice_edits::def_dropped;
+use std::alloc::{AllocError, Global};
+use sudoers_check::unused;
+use sudoers_text::line_alone_size;
+use sudoers_tree::{Kind, Node, Place, Policy};
 
 /// What Prune takes out.
 #[derive(Clone, Copy, Debug, PartialEq, Eq)]
@@ -7,4 +26,121 @@ pub enum Removal {
     Line { at: u32 },
     /// A definition of a line.
     Def { line: u32, at: u32 },
+}
+
+/// All definitions of aliases that are unused taken out, one after another, each from what the one before left.
+pub fn pruned(policy: &Policy) -> Result<Landed, EditFault>
+    ensures { Lands Edit.Prune (texts policy.now) result }
+{
+    policy.is_policy();
+    let alloc = policy.allocator();
+    let removals = removals(alloc, policy)?;
+    let mut back = Vec::new(alloc);
+    let mut after = copied(policy)?;
+    for removal in removals.as_slice() {
+        let landed = removed(&after, *removal)?;
+        append_edits(&mut back, landed.inverse)?;
+        after = landed.policy;
+    }
+    back.reverse();
+    Ok(Landed {
+        policy: after,
+        inverse: Edits::from_vec(back),
+    })
+}
+
+/// The policy without what is taken out.
+fn removed(policy: &Policy, removal: Removal) -> Result<Landed, EditFault>
+    ensures { Lands (edit_of removal) (texts policy.now) result }
+{
+    match removal {
+        Removal::Line { at } => line_deleted(policy, at),
+        Removal::Def { line, at } => def_dropped(policy, line, at),
+    }
+}
+
+fn append_edits(to: &mut Vec<Edit>, edits: Edits) -> Result<(), AllocError>
+    ensures { OnOk result (to.new.items ≡ to.old.items ++ edits) }
+{
+    let mut items = edits.into_vec();
+    to.append(&mut items)
+}
+
+/// What Prune takes out of a policy, in its order.
+pub fn removals(alloc: Global, policy: &Policy) -> Result<Vec<Removal>, AllocError>
+    ensures { IfOk result (λ removals. removals.items ≡ the_removals policy.now) }
+{
+    places_fit(policy);
+    let places = unused(alloc, policy)?;
+    let mut removals = Vec::new(alloc);
+    let mut rest = places.as_slice();
+    for (number, line) in policy.lines().iter().enumerate() {
+        let (here, behind) = rest.split_at(count_in_front(rest, number));
+        append_removals(number, definitions_of(&line.node), here, &mut removals)?;
+        rest = behind;
+    }
+    removals.reverse();
+    Ok(removals)
+}
+
+/// How many of the first places are in the line.
+fn count_in_front(places: &[(Kind, Place)], line: usize) -> usize
+    ensures is { result ≡ front_count line places.now }
+    ensures within { result ≤ length places.now }
+{
+    let mut count: usize = 0;
+    for (_, place) in places {
+        if place.line != line {
+            break;
+        }
+        count += 1;
+    }
+    count
+}
+
+/// How many definitions a line has.
+fn definitions_of(node: &Node) -> usize
+    ensures { (n : ℕ) → result ≡ length (definitions_in n node.now) }
+{
+    match node {
+        Node::Alias { defs, .. } => defs.len(),
+        _ => 0,
+    }
+}
+
+/// Adds what goes of a line with so many definitions, of which those at these places are unused.
+fn append_removals(
+    line: usize,
+    count: usize,
+    here: &[(Kind, Place)],
+    removals: &mut Vec<Removal>,
+) -> Result<(), AllocError>
+    requires line { line < 2 ^ 32 }
+    requires defs { All (λ (p : AKind × APlace). p.1.def < 2 ^ 32) here.now }
+    ensures { OnOk result (removals.new.items ≡ removals.old.items ++ removals_at line count here.now) }
+{
+    if here.is_empty() {
+        return Ok(());
+    }
+    if here.len() == count {
+        removals.push(Removal::Line { at: line as u32 })?;
+        return Ok(());
+    }
+    for (_, place) in here {
+        removals.push(Removal::Def {
+            line: line as u32,
+            at: place.def as u32,
+        })?;
+    }
+    Ok(())
+}
+
+/// A law: how many lines a policy has, and which definition of its line each is, fit the numbers of edits.
+fn places_fit(policy: &Policy)
+    ensures lines { length policy.now ≤ text_limit }
+    ensures defs { All (λ (d : Definition). d.place.def < alias_limit) (definitions policy.now) }
+{
+    is_sound(policy);
+    policy.is_policy();
+    line_alone_size();
 }

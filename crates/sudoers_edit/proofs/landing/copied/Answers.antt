@@ -1,6 +1,6 @@
 use Rattle.std.proofs.Common.{◌∙◌}
 use Rattle.sudoers_edit.proofs.PolicyLemmas.{read_again_gives}
-use Rattle.sudoers_edit.proofs.editor.copied.Goals as goal
+use Rattle.sudoers_edit.proofs.landing.copied.Goals as goal
 
 pub returns : goal.returns
 returns c =

@@ -1,0 +1,52 @@
+use Rattle.std.proofs.Common.{◌≡◌, ◌∙◌, ◌++◌, ◌<◌, ◌+◌, [], ◌∷◌, ℕ, List, take, drop, map, reverse, slice_index_or, ap, ap₂, sym, subst, arith, append-nil}
+use Rattle.std.proofs.lemmas.List.{drop_more, drop_all}
+use Rattle.std.proofs.lemmas.List.Elements.{All-map, All-filter, All-weaker, All-same, All-drop}
+use Rattle.std.specs.List.{All, filter}
+use Rattle.std.specs.Prelude.{◌^◌}
+use Rattle.sudoers_line.specs.declared.node.Kind.{Kind}
+use Rattle.sudoers_tree.specs.declared.line.Line.{Line}
+use Rattle.sudoers_tree.specs.declared.place.Place.{Place}
+use Rattle.sudoers_tree.specs.Definition.{Definition, definitions}
+use Rattle.sudoers_tree.specs.Policy.{alias_limit}
+use Rattle.sudoers_check.specs.Led.{is_unused, unused_of}
+use Rattle.sudoers_edit.specs.PruneOrder.{removals_along}
+use Rattle.sudoers_edit.proofs.PruneLemmas.{place_in, removals_are, along_more}
+use Rattle.sudoers_edit.proofs.pruning.removals.Goals as goal
+
+pub loop-number-init : goal.loop-number-init
+loop-number-init c =
+    let policy : List Line = c.args.policy.now in
+    let places : c.as_slice-rest.result.now ≡ map place_in (unused_of policy) = c.as_slice-rest.ensures.value ∙ c.in_ok-places.ensures in (
+      ap (λ xs. xs ++ removals_along 0 c.lines-line-items.result.now c.as_slice-rest.result.now) c.new-removals.ensures.items,
+      All-same (λ (p : Kind × Place). p.1.def < 2 ^ 32) c.as_slice-rest.result.now (map place_in (unused_of policy)) places
+          (All-map (λ (p : Kind × Place). p.1.def < 2 ^ 32) place_in (unused_of policy)
+          (All-filter (is_unused policy) (λ (d : Definition). d.place.def < 2 ^ 32) (definitions policy)
+          (All-weaker (λ (d : Definition). d.place.def < alias_limit) (λ (d : Definition). d.place.def < 2 ^ 32) (λ d less. omega (arith, less)) (definitions policy) c.places_fit.ensures.defs))),
+    )
+
+pub loop-number-preserved : goal.loop-number-preserved
+loop-number-preserved c =
+    let items : List Line = c.lines-line-items.result.now in
+    let i : ℕ = c.loop-number.number in
+    let line : Line = c.line-item.result in
+    let rest : List (Kind × Place) = c.loop-number.rest.now in
+    let whole : drop i items ≡ line ∷ drop (i + 1) items =
+    drop_more items i line c.loop-number-test.true ∙ ap (λ (l : Line). l ∷ drop (i + 1) items) (sym c.line-item.is) in (
+      along_more c.loop-number.removals.items c.append_removals.new.removals.items i c.count_in_front.result c.definitions_of.result line (drop (i + 1) items) (drop i items)
+          rest c.split_at.result.0.now c.split_at.result.1.now c.in_ok-append_removals.ensures c.count_in_front.ensures.is (c.definitions_of.ensures i)
+          c.split_at.ensures.front c.split_at.ensures.back whole ∙ c.loop-number.invariant.0,
+      All-same (λ (p : Kind × Place). p.1.def < 2 ^ 32) c.split_at.result.1.now (drop c.count_in_front.result rest) c.split_at.ensures.back
+          (All-drop (λ (p : Kind × Place). p.1.def < 2 ^ 32) c.count_in_front.result rest c.loop-number.invariant.1),
+    )
+
+pub returns : goal.returns
+returns c =
+    let policy : List Line = c.args.policy.now in
+    let items : List Line = c.lines-line-items.result.now in
+    let places : c.as_slice-rest.result.now ≡ map place_in (unused_of policy) = c.as_slice-rest.ensures.value ∙ c.in_ok-places.ensures in
+    let none : drop c.loop-number.number items ≡ [] = drop_all c.loop-number.number items c.loop-number-test.false in
+    c.reverse.ensures.items
+    ∙ ap reverse (sym (append-nil c.loop-number.removals.items)
+    ∙ ap (λ ls. c.loop-number.removals.items ++ removals_along c.loop-number.number ls c.loop-number.rest.now) (sym none)
+    ∙ c.loop-number.invariant.0 ∙ ap₂ (removals_along 0) c.lines-line-items.ensures places)
+    ∙ removals_are policy

@@ -1,0 +1,260 @@
+//! An alias given another name, where it is defined and where it is mentioned.
+ghost use Rattle.std.specs.Prelude.{◌≡◌, ◌∷◌, [], take, drop, Ok, IfOk, MatchResult};
+ghost use Rattle.std.specs.List.{list_any};
+ghost use Rattle.std.specs.Str.{bytes_eq};
+ghost use Rattle.sudoers_text.specs.Line.{join};
+ghost use Rattle.sudoers_tree.specs.Policy.{texts};
+ghost use Rattle.sudoers_edit.specs.Alike.{are_alike as alike_lists};
+ghost use Rattle.sudoers_edit.specs.Editing.{Refuses};
+ghost use Rattle.sudoers_edit.specs.Landing.{is_too_long, policy_or_refusal};
+ghost use Rattle.sudoers_edit.specs.Leading.{Lands};
+ghost use Rattle.sudoers_edit.specs.Renaming.{put_at, renamed_line, renamed, no_way_back as the_fault, if_lines, is_lines, is_taken as taken, rename_once};
+
+use crate::edit::{Edit, EditFault, Edits};
+use crate::landing::Landed;
+use crate::name_places::name_starts;
+use crate::reread::reread;
+use crate::text::Text;
+use std::alloc::{AllocError, Global};
+use sudoers_text::{LINE_LIMIT, is_name, is_reserved};
+use sudoers_tree::{Kind, Line, Policy, ReadFault, Why};
+
+/// An alias given another name.
+pub fn alias_renamed(
+    policy: &Policy,
+    kind: Kind,
+    name: &[u8],
+    fresh: &[u8],
+) -> Result<Landed, EditFault>
+    ensures { Lands (Edit.Rename kind name.now fresh.now) (texts policy.now) result }
+{
+    policy.is_policy();
+    let inverse = rename_back(policy.allocator(), kind, name, fresh)?;
+    let new = renamed_once(policy, kind, name, fresh)?;
+    new.is_policy();
+    if !is_restored(policy, &new, kind, name, fresh)? {
+        return Err(no_way_back());
+    }
+    Ok(Landed {
+        policy: new,
+        inverse,
+    })
+}
+
+fn rename_back(alloc: Global, kind: Kind, name: &[u8], fresh: &[u8]) -> Result<Edits, AllocError>
+    ensures { IfOk result (λ edits. edits ≡ Edit.Rename kind fresh.now name.now ∷ []) }
+{
+    let back = Edit::Rename {
+        kind,
+        name: Text::from_slice(alloc, fresh)?,
+        fresh: Text::from_slice(alloc, name)?,
+    };
+    Edits::one(alloc, back)
+}
+
+/// What is told where the way back would not lead back.
+fn no_way_back() -> EditFault
+    ensures { result ≡ the_fault }
+{
+    EditFault::NotPolicy(ReadFault::Syntax {
+        line: 1,
+        col: 1,
+        why: Why::UnexpectedToken,
+    })
+}
+
+/// Whether the old name, given back, leads to the lines before.
+fn is_restored(
+    policy: &Policy,
+    new: &Policy,
+    kind: Kind,
+    name: &[u8],
+    fresh: &[u8],
+) -> Result<bool, AllocError>
+    ensures { IfOk result (λ is. is ≡ is_lines (texts policy.now) (rename_once kind fresh.now name.now new.now)) }
+{
+    match renamed_once(new, kind, fresh, name) {
+        Ok(old) => Ok(are_same_lines(old.lines(), policy.lines())),
+        Err(EditFault::NoMemory) => Err(AllocError),
+        Err(_) => Ok(false),
+    }
+}
+
+/// The policy with another name for an alias, whether or not a way leads back.
+fn renamed_once(policy: &Policy, kind: Kind, name: &[u8], fresh: &[u8]) -> Result<Policy, EditFault>
+    ensures { MatchResult result (λ new. rename_once kind name.now fresh.now policy.now ≡ Ok (texts new))
+        (λ fault. Refuses fault (rename_once kind name.now fresh.now policy.now)) }
+{
+    if policy.definition(kind, name).is_none() {
+        return Err(EditFault::NoAlias);
+    }
+    if !is_name(fresh) || is_reserved(fresh) {
+        return Err(EditFault::BadName);
+    }
+    if is_taken(policy, kind, fresh)? {
+        return Err(EditFault::NameTaken);
+    }
+    let lines = renamed_lines(policy, kind, name, fresh)?;
+    if is_one_too_long(lines.as_slice()) {
+        return Err(EditFault::TooLarge);
+    }
+    policy_of_lines(policy.allocator(), lines.as_slice())
+}
+
+/// Whether the name is defined or mentioned in the kind.
+fn is_taken(policy: &Policy, kind: Kind, fresh: &[u8]) -> Result<bool, AllocError>
+    ensures { IfOk result (λ is. is ≡ taken kind fresh.now policy.now) }
+{
+    if policy.definition(kind, fresh).is_some() {
+        return Ok(true);
+    }
+    Ok(!policy.mentions(kind, fresh)?.is_empty())
+}
+
+/// The policy that lines are, if the lines that are read are these.
+fn policy_of_lines(alloc: Global, lines: &[Text]) -> Result<Policy, EditFault>
+    ensures { MatchResult result (λ new. if_lines lines.now (policy_or_refusal (join lines.now)) ≡ Ok (texts new))
+        (λ fault. Refuses fault (if_lines lines.now (policy_or_refusal (join lines.now)))) }
+{
+    let text = joined(alloc, lines)?;
+    let new = reread(alloc, text.as_slice())?;
+    if !are_lines(new.lines(), lines) {
+        return Err(no_way_back());
+    }
+    Ok(new)
+}
+
+/// The lines of a policy with another name for an alias.
+fn renamed_lines(
+    policy: &Policy,
+    kind: Kind,
+    name: &[u8],
+    fresh: &[u8],
+) -> Result<Vec<Text>, AllocError>
+    ensures { IfOk result (λ lines. lines.items ≡ renamed kind name.now fresh.now policy.now) }
+{
+    let alloc = policy.allocator();
+    let mut lines = Vec::new(alloc);
+    for line in policy.lines() {
+        lines.push(line_renamed(alloc, line, kind, name, fresh)?)?;
+    }
+    Ok(lines)
+}
+
+fn line_renamed(
+    alloc: Global,
+    line: &Line,
+    kind: Kind,
+    name: &[u8],
+    fresh: &[u8],
+) -> Result<Text, AllocError>
+    ensures { IfOk result (λ text. text ≡ renamed_line kind name.now fresh.now line.now) }
+{
+    let starts = name_starts(alloc, kind, name, &line.node)?;
+    let text = with_others(
+        alloc,
+        line.text.as_slice(),
+        starts.as_slice(),
+        name.len(),
+        fresh,
+    )?;
+    Ok(Text::from_vec(text))
+}
+
+/// The line with other bytes where at these places so many stand.
+fn with_others(
+    alloc: Global,
+    line: &[u8],
+    starts: &[usize],
+    size: usize,
+    others: &[u8],
+) -> Result<Vec<u8>, AllocError>
+    ensures { IfOk result (λ text. text.items ≡ put_at 0 size others.now starts.now line.now) }
+{
+    let mut text = Vec::new(alloc);
+    let mut from: usize = 0;
+    for start in starts {
+        text.extend_from_slice(front(behind(line, from), start.saturating_sub(from)))?;
+        text.extend_from_slice(others)?;
+        from = start.saturating_add(size);
+    }
+    text.extend_from_slice(behind(line, from))?;
+    Ok(text)
+}
+
+/// So many of the first bytes, or all.
+fn front(bytes: &[u8], size: usize) -> &[u8]
+    ensures { result.now ≡ take size bytes.now }
+{
+    let (front, _) = bytes.split_at(size.min(bytes.len()));
+    front
+}
+
+/// What stands behind so many bytes.
+fn behind(bytes: &[u8], size: usize) -> &[u8]
+    ensures { result.now ≡ drop size bytes.now }
+{
+    let (_, behind) = bytes.split_at(size.min(bytes.len()));
+    behind
+}
+
+/// Whether a line is past the limit.
+fn is_one_too_long(lines: &[Text]) -> bool
+    ensures { result ≡ list_any is_too_long lines.now }
+{
+    for line in lines {
+        if line.len() > LINE_LIMIT {
+            return true;
+        }
+    }
+    false
+}
+
+/// The text of lines.
+fn joined(alloc: Global, lines: &[Text]) -> Result<Vec<u8>, AllocError>
+    ensures { IfOk result (λ text. text.items ≡ join lines.now) }
+{
+    let mut text = Vec::new(alloc);
+    for line in lines {
+        text.extend_from_slice(line.as_slice())?;
+    }
+    Ok(text)
+}
+
+/// Whether the lines have these texts.
+fn are_lines(lines: &[Line], others: &[Text]) -> bool
+    ensures { result ≡ alike_lists bytes_eq (texts lines.now) others.now }
+{
+    let mut rest = lines;
+    let mut left = others;
+    while let Some((line, behind)) = rest.split_first() {
+        let Some((other, after)) = left.split_first() else {
+            return false;
+        };
+        if line.text.as_slice() != other.as_slice() {
+            return false;
+        }
+        rest = behind;
+        left = after;
+    }
+    left.is_empty()
+}
+
+/// Whether the lines of one list have the texts of the other's.
+fn are_same_lines(lines: &[Line], others: &[Line]) -> bool
+    ensures { result ≡ alike_lists bytes_eq (texts lines.now) (texts others.now) }
+{
+    let mut rest = lines;
+    let mut left = others;
+    while let Some((line, behind)) = rest.split_first() {
+        let Some((other, after)) = left.split_first() else {
+            return false;
+        };
+        if line.text.as_slice() != other.text.as_slice() {
+            return false;
+        }
+        rest = behind;
+        left = after;
+    }
+    left.is_empty()
+}
