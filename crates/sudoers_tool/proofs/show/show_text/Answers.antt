@@ -1,5 +1,4 @@
 use Rattle.std.proofs.Common.{◌∙◌, Ok, sym, ap}
-use Rattle.sudoers_tool.specs.ShownOutline.{shown_outlines}
 use Rattle.sudoers_tool.proofs.ShowLemmas.{shows}
 use Rattle.sudoers_tool.proofs.show.show_text.Goals as goal
 
