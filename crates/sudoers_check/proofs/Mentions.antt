@@ -18,7 +18,8 @@ use Rattle.sudoers_tree.specs.declared.line.Line.{Line}
 use Rattle.sudoers_tree.specs.declared.place.Span.{Span}
 use Rattle.sudoers_tree.specs.Definition.{is_kind}
 use Rattle.sudoers_tree.specs.Mention.{span_of, of_runas, in_group, members_in, mentions_since, mentions}
-use Rattle.sudoers_check.specs.Mentioned.{Listed, Mention, mention_of, mentions_among, mentioned_in, mentioned_since, mentioned, listed_as, listed_runas, listed_command, listed_group, is_of}
+use Rattle.sudoers_line.specs.Listed.{Listed, listed_as, listed_runas, listed_command, listed_group}
+use Rattle.sudoers_check.specs.Mentioned.{Mention, mention_of, mentions_among, mentioned_in, mentioned_since, mentioned, is_of}
 
 pub flat_append : {X Y : Type 0} (f : X → List Y) (xs ys : List X) → flat_map f (xs ++ ys) ≡ flat_map f xs ++ flat_map f ys
 flat_append f [] ys = refl

@@ -20,7 +20,8 @@ use Rattle.sudoers_tree.specs.Policy.{texts}
 use Rattle.sudoers_tree.specs.Fault.{is_some}
 use Rattle.sudoers_check.specs.declared.report.Note.{Note}
 use Rattle.sudoers_check.specs.Chain.{Has}
-use Rattle.sudoers_check.specs.Mentioned.{Listed, Mention, mention_of, listed, mentioned_in, mentioned_since, is_of}
+use Rattle.sudoers_line.specs.Listed.{Listed, listed}
+use Rattle.sudoers_check.specs.Mentioned.{Mention, mention_of, mentioned_in, mentioned_since, is_of}
 use Rattle.sudoers_check.specs.Numbers.{count_in, picked}
 use Rattle.sudoers_check.specs.Report.{note_at, note_of_mention, note_of_definition, is_first_undefined, undefined_behind, undefined_of, text_at}
 use Rattle.sudoers_check.specs.Noting.{note_in, noted_defs, noted_node, noted_from, noted_mentions, undefined_from, places_from, unmarked_places, places_since, Agrees}

@@ -1,53 +1,16 @@
 -- What the lists of a policy mention, in file order.
-use Rattle.std.specs.Prelude.{ℕ, ◌+◌, ◌-◌, ◌&&◌, Bool, List, [], ◌∷◌, ◌++◌, length, map, Option, Some, None}
+use Rattle.std.specs.Prelude.{ℕ, ◌+◌, ◌-◌, ◌&&◌, Bool, List, [], ◌∷◌, ◌++◌, length}
 use Rattle.std.specs.List.{flat_map}
 use Rattle.std.specs.Str.{bytes_eq}
 use Rattle.sudoers_line.specs.declared.node.Kind.{Kind}
-use Rattle.sudoers_line.specs.declared.node.Kind.TheVariants.{User, Runas, Host, Cmnd}
 use Rattle.sudoers_line.specs.declared.node.Atom.{Atom}
 use Rattle.sudoers_line.specs.declared.node.Atom.TheVariants as atom
 use Rattle.sudoers_line.specs.declared.node.Member.{Member}
-use Rattle.sudoers_line.specs.declared.node.Def.{Def}
-use Rattle.sudoers_line.specs.declared.node.RunasSpec.{RunasSpec}
-use Rattle.sudoers_line.specs.declared.node.CmdSpec.{CmdSpec}
-use Rattle.sudoers_line.specs.declared.node.HostGroup.{HostGroup}
-use Rattle.sudoers_line.specs.declared.node.Scope.{Scope}
 use Rattle.sudoers_line.specs.declared.node.Node.{Node}
-use Rattle.sudoers_line.specs.declared.node.Node.TheVariants as node
+use Rattle.sudoers_line.specs.Listed.{Listed, listed}
 use Rattle.sudoers_tree.specs.declared.line.Line.{Line}
 use Rattle.sudoers_tree.specs.declared.place.Span.{Span}
 use Rattle.sudoers_tree.specs.Definition.{is_kind}
-
--- a member of a list of this kind
-abbrev pub Listed : Type 0
-Listed = Kind × Member
-
-abbrev pub listed_as : Kind → List Member → List Listed
-listed_as k members = map (λ (m : Member). (k, m)) members
-
-abbrev pub listed_runas : Option RunasSpec → List Listed
-listed_runas None = []
-listed_runas (Some r) = listed_as Runas r.users ++ listed_as Runas r.groups
-
-abbrev pub listed_command : CmdSpec → List Listed
-listed_command c = listed_runas c.runas ++ (Cmnd, c.member) ∷ []
-
-abbrev pub listed_group : HostGroup → List Listed
-listed_group g = listed_as Host g.hosts ++ flat_map listed_command g.commands
-
-abbrev pub listed_scope : Option Scope → List Listed
-listed_scope None = []
-listed_scope (Some s) = listed_as s.kind s.members
-
--- the members of all lists in what a line says, in the order in which they stand there (sudoers(5), Aliases, Defaults, User
--- Specification)
-abbrev pub listed : Node → List Listed
-listed (node.Defaults scope params) = listed_scope scope
-listed (node.Alias k defs) = flat_map (λ (d : Def). listed_as k d.members) defs
-listed (node.Spec users groups) = listed_as User users ++ flat_map listed_group groups
-listed node.Blank = []
-listed node.Comment = []
-listed (node.Include dir path) = []
 
 -- a name that stands as a member of a list of this kind, and where
 pub record Mention : Type 0 where

@@ -1,5 +1,5 @@
 -- A device of the proof, which no public contract cites: notes line by line.
-use Rattle.std.specs.Prelude.{◌≡◌, ℕ, ◌+◌, Bool, true, false, List, [], ◌∷◌, ◌++◌, take, drop, map, None}
+use Rattle.std.specs.Prelude.{◌≡◌, ℕ, ◌+◌, Bool, true, false, not, List, [], ◌∷◌, ◌++◌, take, drop, map, None}
 use Rattle.std.specs.List.{list_any}
 use Rattle.sudoers_text.specs.Fault.{lf_count}
 use Rattle.sudoers_line.specs.declared.node.Kind.{Kind}
@@ -19,6 +19,12 @@ use Rattle.sudoers_check.specs.Seen.{has_seen}
 -- a note in a line that begins on this physical line
 abbrev pub note_in : ℕ → List ℕ → Kind → List ℕ → ℕ → Note
 note_in row text k name start = record { kind = k; name = name; line = row + lf_count (take start text); col = column_behind (take start text) }
+
+-- the first of the marks is this one
+abbrev pub first_is : Bool → List Bool → Bool
+first_is wanted [] = false
+first_is true (m ∷ ms) = m
+first_is false (m ∷ ms) = not m
 
 -- notes of those of a line's definitions that have this mark
 abbrev pub noted_defs : Bool → ℕ → List ℕ → Kind → List Bool → List Def → List Note

@@ -1,7 +1,9 @@
 //! The checks.
 
-ghost use Rattle.std.specs.Prelude.{◌≡◌, ◌++◌, true, false, length, map, IfOk, OnOk};
+ghost use Rattle.std.specs.Prelude.{◌≡◌, ◌++◌, ◌⊎◌, List, true, false, length, map, Ok, Err, IfOk, IfErr, OnOk};
+ghost use Rattle.sudoers_tree.specs.declared.line.Line.{Line as LineOf};
 ghost use Rattle.sudoers_tree.specs.Definition.{definitions, Definition};
+ghost use Rattle.sudoers_tree.specs.Reading.{read_of};
 ghost use Rattle.sudoers_check.specs.Led.{unused_of, cyclic_of};
 ghost use Rattle.sudoers_check.specs.Numbers.{picked, graph_of};
 ghost use Rattle.sudoers_check.specs.Noting.{places_from, unmarked_places};
@@ -10,10 +12,12 @@ ghost use Rattle.sudoers_check.specs.Report.{report_of};
 use crate::cycles::on_cycles;
 use crate::graph::Graph;
 use crate::notes::{marked_notes, undefined_notes};
-use crate::numbers::{Numbers, count_in};
+use crate::numbers::Numbers;
 use crate::report::Report;
+use crate::subject::Subject;
+use crate::told::Told;
 use std::alloc::{AllocError, Global};
-use sudoers_tree::{Kind, Node, Place, Policy};
+use sudoers_tree::{Kind, OutlinedPolicy, Place, Policy, ReadFault};
 
 /// What is to be noted of the aliases of a policy (visudo(8)).
 ///
@@ -21,6 +25,37 @@ use sudoers_tree::{Kind, Node, Place, Policy};
 ///
 /// Want of memory alone.
 pub fn check(alloc: Global, policy: &Policy) -> Result<Report, AllocError>
+    ensures { IfOk result (λ report. report ≡ report_of policy.now) }
+{
+    let subject = Subject::whole(alloc, policy)?;
+    report_on(alloc, &subject)
+}
+
+/// What is to be noted of the aliases of the policy that a text is (visudo(8)), or why it is none.
+///
+/// # Errors
+///
+/// Those of [`Policy::read`](sudoers_tree::Policy::read).
+pub fn check_text(alloc: Global, text: &[u8]) -> Result<Report, ReadFault>
+    // The text is a policy, and this is to be noted of it.
+    ensures report { IfOk result (λ report. (policy : List LineOf) × (read_of text.now ≡ Ok policy) × (report ≡ report_of policy)) }
+    // A fault is the text's first, or memory ran out.
+    ensures fault { IfErr result (λ fault. (fault ≡ ReadFault.NoMemory) ⊎ (read_of text.now ≡ Err fault)) }
+{
+    let policy = OutlinedPolicy::read(alloc, text)?;
+    Ok(check_outlined(alloc, &policy)?)
+}
+
+/// What is to be noted of the aliases of a policy in outline.
+fn check_outlined(alloc: Global, policy: &OutlinedPolicy<'_>) -> Result<Report, AllocError>
+    ensures { IfOk result (λ report. report ≡ report_of policy.now) }
+{
+    let subject = Subject::outlined(alloc, policy)?;
+    report_on(alloc, &subject)
+}
+
+/// What is to be noted of the aliases of a policy.
+fn report_on(alloc: Global, policy: &Subject<'_>) -> Result<Report, AllocError>
     ensures { IfOk result (λ report. report ≡ report_of policy.now) }
 {
     let numbers = Numbers::new(alloc, policy)?;
@@ -42,14 +77,35 @@ pub fn check(alloc: Global, policy: &Policy) -> Result<Report, AllocError>
 pub fn unused(alloc: Global, policy: &Policy) -> Result<Vec<(Kind, Place)>, AllocError>
     ensures { IfOk result (λ places. places.items ≡ map (λ (d : Definition). (d.kind, d.place)) (unused_of policy.now)) }
 {
+    let subject = Subject::whole(alloc, policy)?;
+    unused_on(alloc, &subject)
+}
+
+/// The same of a policy as the checks see it.
+fn unused_on(alloc: Global, policy: &Subject<'_>) -> Result<Vec<(Kind, Place)>, AllocError>
+    ensures { IfOk result (λ places. places.items ≡ map (λ (d : Definition). (d.kind, d.place)) (unused_of policy.now)) }
+{
     let numbers = Numbers::new(alloc, policy)?;
     let graph = numbers.graph(alloc)?;
     let reached = reached(alloc, &numbers, &graph)?;
+    unmarked(alloc, policy, reached.as_slice())
+}
+
+/// The places of the definitions that have no mark, with their kinds.
+fn unmarked(
+    alloc: Global,
+    policy: &Subject<'_>,
+    marks: &[bool],
+) -> Result<Vec<(Kind, Place)>, AllocError>
+    requires { length marks.now ≡ length (definitions policy.now) }
+    ensures { IfOk result (λ places. places.items
+        ≡ map (λ (d : Definition). (d.kind, d.place)) (picked false marks.now (definitions policy.now))) }
+{
     let mut places = Vec::new(alloc);
-    let mut rest = reached.as_slice();
+    let mut rest = marks;
     for (number, line) in policy.lines().iter().enumerate() {
-        let (here, behind) = rest.split_at(count_in(&line.node));
-        append_unmarked(number, &line.node, here, &mut places)?;
+        let (here, behind) = rest.split_at(line.count());
+        append_unmarked(number, line, here, &mut places)?;
         rest = behind;
     }
     Ok(places)
@@ -82,16 +138,16 @@ fn cyclic(alloc: Global, numbers: &Numbers<'_>, graph: &Graph) -> Result<Vec<boo
 
 /// Adds the places of those of a line's definitions that have no mark.
 fn append_unmarked(
-    line: usize,
-    node: &Node,
+    number: usize,
+    line: &Told<'_>,
     marks: &[bool],
     places: &mut Vec<(Kind, Place)>,
 ) -> Result<(), AllocError>
-    ensures { OnOk result (places.new.items ≡ places.old.items ++ unmarked_places line marks.now node.now) }
+    ensures { OnOk result (places.new.items ≡ places.old.items ++ unmarked_places number marks.now line.now.node) }
 {
-    match node {
-        Node::Alias { kind, .. } => append_places(line, *kind, marks, places),
-        _ => Ok(()),
+    match line.kind() {
+        Some(kind) => append_places(number, kind, marks, places),
+        None => Ok(()),
     }
 }
 

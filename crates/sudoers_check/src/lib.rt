@@ -11,7 +11,9 @@ mod notes;
 mod numbers;
 mod report;
 mod seen;
+mod subject;
+mod told;
 
-pub use checking::{check, unused};
+pub use checking::{check, check_text, unused};
 pub use laws::{chains_are, mentions_are};
 pub use report::{Note, Report, report_text};

@@ -3,7 +3,8 @@
 ghost use Rattle.std.specs.Prelude.{◌≡◌, ◌++◌, [], IfOk, OnOk};
 ghost use Rattle.std.specs.List.{flat_map};
 ghost use Rattle.sudoers_line.specs.declared.node.Def.{Def as DefOf};
-ghost use Rattle.sudoers_check.specs.Mentioned.{mention_of, mentions_among, mentioned_in, listed_as, listed_runas, listed_command, listed_group, listed_scope};
+ghost use Rattle.sudoers_line.specs.Listed.{listed_as, listed_runas, listed_command, listed_group, listed_scope};
+ghost use Rattle.sudoers_check.specs.Mentioned.{mention_of, mentions_among, mentioned_in};
 
 use std::alloc::{AllocError, Global};
 use std::marker::Model;

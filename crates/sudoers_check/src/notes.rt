@@ -9,15 +9,16 @@ ghost use Rattle.sudoers_tree.specs.Policy.{texts};
 ghost use Rattle.sudoers_check.specs.Report.{note_of_mention, note_of_definition, undefined_of, undefined_behind, is_first_undefined};
 ghost use Rattle.sudoers_check.specs.Mentioned.{mentioned_in as mentions_of, Mention as MentionOf};
 ghost use Rattle.sudoers_check.specs.Numbers.{picked, count_in as count_of};
-ghost use Rattle.sudoers_check.specs.Noting.{note_in, noted_defs, noted_node, noted_from, noted_mentions, undefined_from, Agrees};
+ghost use Rattle.sudoers_check.specs.Noting.{first_is, note_in, noted_defs, noted_node, noted_from, noted_mentions, undefined_from, Agrees};
 
 use crate::cursor::Cursor;
-use crate::mentioned::{Mention, mentioned_in};
-use crate::numbers::count_in;
+use crate::mentioned::Mention;
 use crate::report::Note;
 use crate::seen::Seen;
+use crate::subject::Subject;
+use crate::told::{Says, Told};
 use std::alloc::{AllocError, Global};
-use sudoers_tree::{Def, Items, Kind, Line, Node, Policy, lf_count};
+use sudoers_tree::{Def, Items, Kind, Node};
 
 /// The notes of the definitions with this mark; there is a mark for each definition.
 ///
@@ -26,7 +27,7 @@ use sudoers_tree::{Def, Items, Kind, Line, Node, Policy, lf_count};
 /// Want of memory alone.
 pub fn marked_notes(
     alloc: Global,
-    policy: &Policy,
+    policy: &Subject<'_>,
     marks: &[bool],
     wanted: bool,
 ) -> Result<Items<Note>, AllocError>
@@ -39,16 +40,16 @@ pub fn marked_notes(
     let mut row = 1;
     let mut rest = marks;
     for line in policy.lines() {
-        let (here, behind) = rest.split_at(count_in(&line.node));
+        let (here, behind) = rest.split_at(line.count());
         note_line(alloc, line, row, here, wanted, &mut notes)?;
         rest = behind;
-        row += lf_count(line.text.as_slice());
+        row += line.ends();
     }
     Ok(Items::from_vec(notes))
 }
 
 /// A law: a policy's text is within the limit.
-fn within_limit(policy: &Policy)
+fn within_limit(policy: &Subject<'_>)
     ensures { length (join (texts policy.now)) ≤ text_limit }
 {
     policy.is_policy();
@@ -57,7 +58,7 @@ fn within_limit(policy: &Policy)
 /// Adds the notes of those of a line's definitions that have this mark.
 fn note_line(
     alloc: Global,
-    line: &Line,
+    line: &Told<'_>,
     row: usize,
     marks: &[bool],
     wanted: bool,
@@ -66,9 +67,9 @@ fn note_line(
     requires { row + length line.now.text < 2 ^ 62 }
     ensures { OnOk result (notes.new.items ≡ notes.old.items ++ noted_node wanted row line.now.text marks.now line.now.node) }
 {
-    match &line.node {
-        Node::Alias { kind, defs } => {
-            let mut cursor = Cursor::new(line.text.as_slice(), row);
+    let mut cursor = Cursor::new(line.text(), row);
+    match line.says() {
+        Says::Whole(Node::Alias { kind, defs }) => {
             note_defs(
                 alloc,
                 &mut cursor,
@@ -79,7 +80,26 @@ fn note_line(
                 notes,
             )
         }
-        _ => Ok(()),
+        Says::Alias {
+            kind,
+            name,
+            start,
+            ..
+        } if first_is(marks, wanted) => {
+            notes.push(note_at(alloc, &mut cursor, kind, name, start)?)?;
+            Ok(())
+        }
+        Says::Alias { .. } | Says::Spec(_) | Says::Whole(_) => Ok(()),
+    }
+}
+
+/// Whether the first of the marks is this one.
+fn first_is(marks: &[bool], wanted: bool) -> bool
+    ensures { result ≡ first_is wanted marks.now }
+{
+    match marks {
+        [first, ..] => *first == wanted,
+        [] => false,
     }
 }
 
@@ -113,7 +133,7 @@ fn note_defs(
 /// # Errors
 ///
 /// Want of memory alone.
-pub fn undefined_notes(alloc: Global, policy: &Policy) -> Result<Items<Note>, AllocError>
+pub fn undefined_notes(alloc: Global, policy: &Subject<'_>) -> Result<Items<Note>, AllocError>
     ensures { IfOk result (λ notes. notes ≡ map (note_of_mention policy.now) (undefined_of policy.now)) }
 {
     within_limit(policy);
@@ -121,8 +141,8 @@ pub fn undefined_notes(alloc: Global, policy: &Policy) -> Result<Items<Note>, Al
     let mut seen = Seen::new(alloc);
     let mut row = 1;
     for (number, line) in policy.lines().iter().enumerate() {
-        let mentions = mentioned_in(alloc, number, &line.node)?;
-        let mut cursor = Cursor::new(line.text.as_slice(), row);
+        let mentions = line.mentioned(alloc, number)?;
+        let mut cursor = Cursor::new(line.text(), row);
         note_undefined(
             alloc,
             policy,
@@ -131,7 +151,7 @@ pub fn undefined_notes(alloc: Global, policy: &Policy) -> Result<Items<Note>, Al
             &mut seen,
             &mut notes,
         )?;
-        row += lf_count(line.text.as_slice());
+        row += line.ends();
     }
     Ok(Items::from_vec(notes))
 }
@@ -139,7 +159,7 @@ pub fn undefined_notes(alloc: Global, policy: &Policy) -> Result<Items<Note>, Al
 /// Adds the notes of the undefined names of a line that were not seen yet.
 fn note_undefined(
     alloc: Global,
-    policy: &Policy,
+    policy: &Subject<'_>,
     mentions: &[Mention<'_>],
     cursor: &mut Cursor<'_>,
     seen: &mut Seen,
@@ -163,7 +183,7 @@ fn note_undefined(
 /// The name is not defined, and was not seen before.
 fn is_first(
     alloc: Global,
-    policy: &Policy,
+    policy: &Subject<'_>,
     mention: &Mention<'_>,
     seen: &mut Seen,
 ) -> Result<bool, AllocError>

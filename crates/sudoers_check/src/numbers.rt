@@ -2,20 +2,22 @@
 
 ghost use Rattle.std.specs.Prelude.{◌≡◌, ◌++◌, ℕ, List, length, map, IfOk, OnOk};
 ghost use Rattle.sudoers_line.specs.declared.node.Def.{Def as DefOf};
+ghost use Rattle.sudoers_line.specs.Listed.{AliasMember as AliasOf};
 ghost use Rattle.sudoers_tree.specs.Definition.{definitions, definitions_in};
 ghost use Rattle.sudoers_check.specs.Chains.{names_in};
-ghost use Rattle.sudoers_check.specs.Numbers.{count_in as count_of, firsts_since, number_of, numbers_of, nodes_of, graph_of, roots_since, is_rooting as may_root, numbers_among};
+ghost use Rattle.sudoers_check.specs.Numbers.{firsts_since, number_of, numbers_of, nodes_of, graph_of, roots_since, numbers_among};
 ghost use Rattle.sudoers_check.specs.Mentioned.{mentioned_in as mentions_of};
 
 use crate::graph::Graph;
-use crate::mentioned::mentioned_in;
+use crate::subject::Subject;
+use crate::told::{Says, Told};
 use std::alloc::{AllocError, Global};
-use sudoers_tree::{Atom, Def, Kind, Member, Node, Policy};
+use sudoers_tree::{AliasMember, Atom, Def, Kind, Member, Node};
 
 /// A policy, and for each of its lines how many definitions stand before it.
 #[derive(Drop)]
 pub struct Numbers<'a> {
-    pub policy: &'a Policy,
+    pub policy: &'a Subject<'a>,
     firsts: Vec<usize>,
     ghost firsts_are: { firsts.items ≡ firsts_since 0 policy.now },
 }
@@ -26,7 +28,7 @@ impl<'a> Numbers<'a> {
     /// # Errors
     ///
     /// Want of memory alone, as of all of these.
-    pub fn new(alloc: Global, policy: &'a Policy) -> Result<Numbers<'a>, AllocError>
+    pub fn new(alloc: Global, policy: &'a Subject<'a>) -> Result<Numbers<'a>, AllocError>
         ensures { IfOk result (λ numbers. numbers.policy.now ≡ policy.now) }
     {
         policy.is_policy();
@@ -34,7 +36,7 @@ impl<'a> Numbers<'a> {
         let mut count = 0;
         for line in policy.lines() {
             firsts.push(count)?;
-            count += count_in(&line.node);
+            count += line.count();
         }
         Ok(Numbers { policy, firsts })
     }
@@ -55,7 +57,7 @@ impl<'a> Numbers<'a> {
     {
         let mut nodes = Vec::new(alloc);
         for line in self.policy.lines() {
-            self.append_line(alloc, &line.node, &mut nodes)?;
+            self.append_line(alloc, line, &mut nodes)?;
         }
         Ok(Graph::from_nodes(nodes))
     }
@@ -65,14 +67,20 @@ impl<'a> Numbers<'a> {
     fn append_line(
         &self,
         alloc: Global,
-        node: &Node,
+        line: &Told<'_>,
         nodes: &mut Vec<Vec<usize>>,
     ) -> Result<(), AllocError>
         ensures { OnOk result ((n : ℕ) → map (λ edges. edges.items) nodes.new.items ≡ map (λ edges. edges.items) nodes.old.items
-            ++ nodes_of (definitions self.now.policy.now) (definitions_in n node.now)) }
+            ++ nodes_of (definitions self.now.policy.now) (definitions_in n line.now.node)) }
     {
-        match node {
-            Node::Alias { kind, defs } => self.append_nodes(alloc, *kind, defs.as_slice(), nodes),
+        match line.says() {
+            Says::Whole(Node::Alias { kind, defs }) => {
+                self.append_nodes(alloc, *kind, defs.as_slice(), nodes)
+            }
+            Says::Alias { kind, aliases, .. } => {
+                nodes.push(self.of_aliases(alloc, kind, aliases)?)?;
+                Ok(())
+            }
             _ => Ok(()),
         }
     }
@@ -114,6 +122,25 @@ impl<'a> Numbers<'a> {
         Ok(numbers)
     }
 
+    /// The numbers of the definitions that these name as aliases of this kind.
+    fn of_aliases(
+        &self,
+        alloc: Global,
+        kind: Kind,
+        aliases: &[AliasMember<'_>],
+    ) -> Result<Vec<usize>, AllocError>
+        ensures { IfOk result (λ numbers. numbers.items
+            ≡ numbers_of kind (map (λ (a : AliasOf). a.name) aliases.now) (definitions self.now.policy.now)) }
+    {
+        let mut numbers = Vec::new(alloc);
+        for alias in aliases {
+            if let Some(number) = self.of(kind, alias.name) {
+                numbers.push(number)?;
+            }
+        }
+        Ok(numbers)
+    }
+
     /// The numbers of the definitions that user specifications and Defaults lines mention.
     pub fn roots(&self, alloc: Global) -> Result<Vec<usize>, AllocError>
         ensures { IfOk result (λ roots. roots.items
@@ -121,8 +148,8 @@ impl<'a> Numbers<'a> {
     {
         let mut roots = Vec::new(alloc);
         for (number, line) in self.policy.lines().iter().enumerate() {
-            if is_rooting(&line.node) {
-                self.append_mentioned(alloc, number, &line.node, &mut roots)?;
+            if line.is_rooting() {
+                self.append_mentioned(alloc, number, line, &mut roots)?;
             }
         }
         Ok(roots)
@@ -131,35 +158,18 @@ impl<'a> Numbers<'a> {
     fn append_mentioned(
         &self,
         alloc: Global,
-        line: usize,
-        node: &Node,
+        number: usize,
+        line: &Told<'_>,
         numbers: &mut Vec<usize>,
     ) -> Result<(), AllocError>
         ensures { OnOk result (numbers.new.items ≡ numbers.old.items
-            ++ numbers_among (definitions self.now.policy.now) (mentions_of line node.now)) }
+            ++ numbers_among (definitions self.now.policy.now) (mentions_of number line.now.node)) }
     {
-        for mention in &mentioned_in(alloc, line, node)? {
+        for mention in &line.mentioned(alloc, number)? {
             if let Some(number) = self.of(mention.kind, mention.name) {
                 numbers.push(number)?;
             }
         }
         Ok(())
     }
-}
-
-/// How many definitions a line has.
-pub fn count_in(node: &Node) -> usize
-    ensures { result ≡ count_of node.now }
-{
-    match node {
-        Node::Alias { defs, .. } => defs.len(),
-        _ => 0,
-    }
-}
-
-/// It is a user specification or a Defaults line.
-fn is_rooting(node: &Node) -> bool
-    ensures { result ≡ may_root node.now }
-{
-    matches!(node, Node::Spec { .. } | Node::Defaults { .. })
 }

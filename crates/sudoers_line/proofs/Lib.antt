@@ -27,5 +27,6 @@ pub mod Contract
 pub mod Lines
 pub mod Words
 pub mod Recognized
+pub mod AliasMembers
 pub mod Outlines
 pub mod Counts

@@ -1,6 +1,6 @@
 -- A device of the proof, which no public contract cites: where the reader stands of a user specification whose parts are not
 -- kept.
-use Rattle.std.specs.Prelude.{◌≡◌, ◌≢◌, ◌≤◌, ◌⊎◌, ℕ, Bool, true, false, List, [], ◌∷◌, Option, Some, None, Result, Ok, codes, if◌then◌else◌}
+use Rattle.std.specs.Prelude.{◌≡◌, ◌≢◌, ◌≤◌, ◌⊎◌, ℕ, Bool, true, false, List, [], ◌∷◌, ◌++◌, Option, Some, None, Result, Ok, codes, if◌then◌else◌}
 use Rattle.std.specs.Str.{bytes_eq}
 use Rattle.sudoers_text.specs.Word.{is_name, is_reserved}
 use Rattle.sudoers_line.specs.declared.glance.SpecList.{SpecList}
@@ -8,7 +8,7 @@ use Rattle.sudoers_line.specs.declared.glance.SpecList.TheVariants as list
 use Rattle.sudoers_line.specs.declared.glance.Glance.{Glance}
 use Rattle.sudoers_line.specs.declared.glance.Glance.TheVariants as glance
 use Rattle.sudoers_line.specs.declared.node.Kind.{Kind}
-use Rattle.sudoers_line.specs.declared.node.Kind.TheVariants.{User, Runas, Host}
+use Rattle.sudoers_line.specs.declared.node.Kind.TheVariants.{User, Runas, Host, Cmnd}
 use Rattle.sudoers_line.specs.declared.node.Args.{Args}
 use Rattle.sudoers_line.specs.declared.node.Args.TheVariants.{Any}
 use Rattle.sudoers_line.specs.declared.node.Tag.{Tag}
@@ -18,6 +18,7 @@ use Rattle.sudoers_line.specs.declared.node.Node.{Node}
 use Rattle.sudoers_line.specs.declared.state.Signs.{Signs}
 use Rattle.sudoers_line.specs.declared.state.Row.{Row}
 use Rattle.sudoers_line.specs.declared.state.Head.{Head}
+use Rattle.sudoers_line.specs.declared.state.Stage.TheVariants as stage
 use Rattle.sudoers_line.specs.declared.state.Frame.{Frame}
 use Rattle.sudoers_line.specs.declared.state.Frame.TheVariants.{Users, Hosts, RunasUsers, RunasGroups}
 use Rattle.sudoers_line.specs.declared.state.Commands.TheVariants as commands
@@ -26,10 +27,12 @@ use Rattle.sudoers_line.specs.declared.state.Program.{Program}
 use Rattle.sudoers_line.specs.declared.state.State.{State}
 use Rattle.sudoers_line.specs.declared.state.State.TheVariants.{Begin, AtMember, BehindMember, AtCmdSpec, AtRunas, BehindTag, BehindProgram, BehindCommand, Ended}
 use Rattle.sudoers_line.specs.Outline.{IsSpec}
+use Rattle.sudoers_line.specs.Listed.{AliasMember, aliases_in}
+use Rattle.sudoers_line.specs.Aliases.{aliases_read, aliases_of_row, alias_by}
 use Rattle.sudoers_line.specs.Piece.{Piece, is_some, is_word, ends_with}
 use Rattle.sudoers_line.specs.Number.{address_number}
 use Rattle.sudoers_line.specs.Atom.{atom_of, plain_host}
-use Rattle.sudoers_line.specs.Machine.{Stop, step_on, finish}
+use Rattle.sudoers_line.specs.Machine.{Stop, step_on, behind_row, finish}
 
 -- The list is of this sort.
 abbrev pub IsFrame : SpecList → Frame → Type 0
@@ -55,7 +58,7 @@ abbrev pub Stands : Glance → State → Type 0
 Stands glance.Begin s = s ≡ Begin
 Stands (glance.AtMember l) s = (f : Frame) × (ms : List Member) × (sg : Signs) × IsFrame l f × (s ≡ AtMember f ms sg)
 Stands (glance.BehindMember l) s = (f : Frame) × (ms : List Member) × IsFrame l f × (s ≡ BehindMember f ms)
-Stands (glance.AtCommand at) s = (r : Row) × (h : Head) × (s ≡ AtCmdSpec r h at)
+Stands (glance.AtCommand at) s = (r : Row) × (h : Head) × (at ≡ stage.Runas → h.runas ≡ None) × (s ≡ AtCmdSpec r h at)
 Stands glance.AtRunas s = (r : Row) × (s ≡ AtRunas r)
 Stands glance.BehindTag s = (r : Row) × (h : Head) × (g : Tag) × (on : Bool) × (s ≡ BehindTag r h g on)
 Stands (glance.BehindProgram argued) s =
@@ -64,22 +67,33 @@ Stands (glance.BehindProgram argued) s =
 Stands glance.BehindCommand s = (r : Row) × (h : Head) × (m : Member) × (s ≡ BehindCommand (commands.Row r h) m)
 Stands glance.Ended s = (n : Node) × IsSpec n × (s ≡ Ended n)
 
--- A step leads there.
-abbrev pub Leads : Glance → Option State → Type 0
-Leads g o = (s : State) × (o ≡ Some s) × Stands g s
+-- A token that leads there adds to the aliases what it is itself, where it is a member.
+abbrev pub Adds : Glance → Piece → List AliasMember → List AliasMember → Type 0
+Adds (glance.BehindMember l) t before after = after ≡ before ++ alias_by (kind_of_list l) t
+Adds glance.BehindCommand t before after = after ≡ before ++ alias_by Cmnd t
+Adds g t before after = after ≡ before
 
--- What is read is a user specification.
-abbrev pub ReadsSpec : Result Node Stop → Type 0
-ReadsSpec r = (n : Node) × (r ≡ Ok n) × IsSpec n
+-- A step by this token leads there, and behind these aliases to those that it adds.
+abbrev pub Leads : Glance → List AliasMember → Piece → Option State → Type 0
+Leads g before t o = (s : State) × (o ≡ Some s) × Stands g s × Adds g t before (aliases_read s)
+
+-- What is read is a user specification in which these aliases stand.
+abbrev pub ReadsSpec : List AliasMember → Result Node Stop → Type 0
+ReadsSpec aliases r = (n : Node) × (r ≡ Ok n) × IsSpec n × (aliases ≡ aliases_in n)
 
 -- The line may end there as one.
 abbrev pub FinishesSpec : State → Type 0
-FinishesSpec s = (n : Node) × (finish s ≡ Some n) × IsSpec n
+FinishesSpec s = (n : Node) × (finish s ≡ Some n) × IsSpec n × (aliases_read s ≡ aliases_in n)
 
 -- A step by this token, that is no comment, leads there if any place is known.
 abbrev pub LeadsFrom : Glance → Option Glance → Piece → Type 0
 LeadsFrom g None t = Unit {0}
-LeadsFrom g (Some next) t = (s : State) → Stands g s → Leads next (step_on s t)
+LeadsFrom g (Some next) t = (s : State) → Stands g s → Leads next (aliases_read s) t (step_on s t)
+
+-- A step behind a command of this row leads there, if any place is known.
+abbrev pub LeadsBehindRow : Option Glance → Piece → Type 0
+LeadsBehindRow None t = Unit {0}
+LeadsBehindRow (Some next) t = (r : Row) → Leads next (aliases_of_row r) t (behind_row r t)
 
 -- behind a command's path
 abbrev pub behind_path : Piece → Glance

@@ -10,6 +10,8 @@ pub mod Machine
 pub mod Places
 pub mod Steps
 pub mod Outcome
+pub mod Listed
 pub mod Outline
+pub mod Aliases
 pub mod Glance
 pub mod Counted

@@ -8,6 +8,7 @@ use Rattle.sudoers_line.specs.declared.node.Node.{Node}
 use Rattle.sudoers_line.specs.declared.node.Node.TheVariants as node
 use Rattle.sudoers_line.specs.declared.outline.Outline.{Outline}
 use Rattle.sudoers_line.specs.declared.outline.Outline.TheVariants as outline
+use Rattle.sudoers_line.specs.Listed.{aliases_in}
 
 -- The line says who may run what.
 abbrev pub IsSpec : Node → Type 0
@@ -18,14 +19,15 @@ IsSpec (node.Include dir path) = ⊥
 IsSpec (node.Defaults scope params) = ⊥
 IsSpec (node.Alias k defs) = ⊥
 
--- The line defines one alias of this kind and name, with so many members.
-abbrev pub IsDefinitionOf : Kind → List ℕ → ℕ → Node → Type 0
-IsDefinitionOf k name count says = (d : Def) × (says ≡ node.Alias k (d ∷ [])) × (d.name ≡ name) × (length d.members ≡ count)
+-- The line defines one alias of this kind and name, that begins there and has so many members.
+abbrev pub IsDefinitionOf : Kind → List ℕ → ℕ → ℕ → Node → Type 0
+IsDefinitionOf k name start count says =
+    (d : Def) × (says ≡ node.Alias k (d ∷ [])) × (d.name ≡ name) × (d.start ≡ start) × (length d.members ≡ count)
 
 -- the outline of what a line says
 abbrev pub IsOutline : Outline → Node → Type 0
-IsOutline outline.Spec says = IsSpec says
-IsOutline (outline.Alias k name count) says = IsDefinitionOf k name count says
+IsOutline (outline.Spec aliases) says = IsSpec says × (aliases ≡ aliases_in says)
+IsOutline (outline.Alias k name start count aliases) says = IsDefinitionOf k name.now start count says × (aliases ≡ aliases_in says)
 IsOutline (outline.Whole n) says = n ≡ says
 
 -- What was returned is the outline of what the line says, or its first fault, unless memory ran out.

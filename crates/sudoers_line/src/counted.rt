@@ -1,7 +1,7 @@
-//! Definitions of aliases whose members are counted and not kept. Only frequent forms are told: one definition, and no `!`,
-//! digests, quotes or IDs.
+//! Definitions of aliases whose members are counted and not kept but for the aliases among them. Only frequent forms are told:
+//! one definition, and no `!`, digests, quotes or IDs.
 
-ghost use Rattle.std.specs.Prelude.{◌≡◌, ◌+◌, ◌<◌, ◌≤◌, ◌^◌, [], length, All, IfSome, IsTrue, Some};
+ghost use Rattle.std.specs.Prelude.{◌≡◌, ◌+◌, ◌<◌, ◌≤◌, ◌^◌, [], length, All, IfOk, IfSome, IsTrue, OnOk, Some};
 ghost use Rattle.sudoers_text.specs.Token.{IsWithin};
 ghost use Rattle.sudoers_line.specs.declared.node.Kind.{Kind as KindOf};
 ghost use Rattle.sudoers_line.specs.declared.state.Named.{Named as NamedOf};
@@ -11,12 +11,16 @@ ghost use Rattle.sudoers_line.specs.declared.counted.Place.TheVariants as places
 ghost use Rattle.sudoers_line.specs.Piece.{pieces};
 ghost use Rattle.sudoers_line.specs.Machine.{at_list, run, step, step_comment};
 ghost use Rattle.sudoers_line.specs.Seen.{seen};
+ghost use Rattle.sudoers_line.specs.Aliases.{aliases_read};
 ghost use Rattle.sudoers_line.specs.Glance.{IsMemberWord};
-ghost use Rattle.sudoers_line.specs.Counted.{Stands, Leads, LeadsFrom, LeadsToCommand, LeadsBehind, FinishesDefinition, ReadsMembers, IsDefinition};
+ghost use Rattle.sudoers_line.specs.Counted.{Stands, Adds, Leads, LeadsFrom, LeadsToCommand, LeadsBehind, FinishesDefinition, ReadsMembers, IsDefinition};
 
+use crate::alias::{AliasMember, add_alias};
 use crate::glance::{is_command_name, is_host, is_user};
+use crate::items::Items;
 use crate::node::Kind;
 use crate::part::{Part, begins_with, ends_with, part_of};
+use std::alloc::{AllocError, Global};
 use sudoers_text::{Token, TokenKind};
 
 /// Where the reader of a definition stands.
@@ -43,12 +47,21 @@ pub struct Counted {
     pub members: usize,
 }
 
-/// A definition: the kind of the alias, its name, and how many members it has.
-#[derive(Clone, Copy, Debug)]
+/// The members of a definition: how many they are, and the aliases among them.
+#[derive(Debug, Drop)]
+struct Members<'a> {
+    count: usize,
+    aliases: Items<AliasMember<'a>>,
+}
+
+/// A definition: the kind of the alias, its name and where it begins, how many members it has, and the aliases among them.
+#[derive(Debug, Drop)]
 pub struct Defined<'a> {
     pub kind: Kind,
     pub name: &'a [u8],
+    pub start: usize,
     pub members: usize,
+    pub aliases: Items<AliasMember<'a>>,
 }
 
 /// Whether the token is known to be a member of a list of this kind, which is not of commands.
@@ -71,6 +84,23 @@ fn at_command(part: &Part<'_>) -> Option<Place>
         TokenKind::Path => Some(Place::BehindProgram(false)),
         TokenKind::Word if is_command_name(part.text) => Some(Place::BehindCommand),
         _ => None,
+    }
+}
+
+impl Place {
+    /// Adds what a token that leads here is to the aliases, where it is a member of a list of this kind.
+    fn add_alias<'a>(
+        self,
+        kind: Kind,
+        part: &Part<'a>,
+        aliases: &mut Items<AliasMember<'a>>,
+    ) -> Result<(), AllocError>
+        ensures { OnOk result (Adds kind self (seen part.now) aliases.old aliases.new) }
+    {
+        match self {
+            Place::BehindMember | Place::BehindCommand => add_alias(kind, part, aliases),
+            _ => Ok(()),
+        }
     }
 }
 
@@ -155,9 +185,9 @@ impl Counted {
     }
 
     /// Where a comment leads, where that is known.
-    fn behind_comment(self) -> Option<Counted>
+    fn behind_comment(self, part: &Part<'_>) -> Option<Counted>
         requires { self.members + 1 < 2 ^ 64 }
-        ensures leads { IfSome result (λ next. (kind : KindOf) (name : NamedOf) (s : StateOf) → Stands kind name self s → Leads kind name next (step_comment s)) }
+        ensures leads { IfSome result (λ next. (kind : KindOf) (name : NamedOf) (s : StateOf) → Stands kind name self s → Leads kind name next (aliases_read s) (seen part.now) (step_comment s)) }
         ensures few { IfSome result (λ next. next.members ≤ self.members + 1) }
     {
         if self.place == Place::Ended {
@@ -172,11 +202,11 @@ impl Counted {
     /// Where a token leads, where that is known.
     fn behind(self, kind: Kind, part: &Part<'_>) -> Option<Counted>
         requires { self.members + 1 < 2 ^ 64 }
-        ensures leads { IfSome result (λ next. (name : NamedOf) (s : StateOf) → Stands kind name self s → Leads kind name next (step s (seen part.now))) }
+        ensures leads { IfSome result (λ next. (name : NamedOf) (s : StateOf) → Stands kind name self s → Leads kind name next (aliases_read s) (seen part.now) (step s (seen part.now))) }
         ensures few { IfSome result (λ next. next.members ≤ self.members + 1) }
     {
         if part.is_comment() {
-            self.behind_comment()
+            self.behind_comment(part)
         } else {
             self.behind_token(kind, part)
         }
@@ -195,34 +225,65 @@ fn begun(kind: Kind) -> Counted
     Counted { place, members: 0 }
 }
 
-/// How many members the tokens behind the `=` of a definition are, where they are known to be such.
-fn count_members(kind: Kind, line: &[u8], tokens: &[Token]) -> Option<usize>
+/// The members that the tokens behind the `=` of a definition are, where they are known to be such.
+fn members_of<'a>(
+    alloc: Global,
+    kind: Kind,
+    line: &'a [u8],
+    tokens: &[Token],
+) -> Result<Option<Members<'a>>, AllocError>
     requires { All (IsWithin (length line.now)) tokens.now }
-    ensures { IfSome result (λ members. (name : NamedOf) → ReadsMembers kind name members (run (at_list kind [] name) (pieces line.now tokens.now))) }
+    ensures { IfOk result (λ found. IfSome found (λ members. (name : NamedOf)
+        → ReadsMembers kind name members.count members.aliases (run (at_list kind [] name) (pieces line.now tokens.now)))) }
 {
     let mut here = begun(kind);
+    let mut aliases = Items::new(alloc);
     for token in tokens {
-        here = here.behind(kind, &part_of(line, token))?;
+        let part = part_of(line, token);
+        let Some(next) = here.behind(kind, &part) else {
+            return Ok(None);
+        };
+        next.place.add_alias(kind, &part, &mut aliases)?;
+        here = next;
     }
-    here.finished()
+    match here.finished() {
+        Some(count) => Ok(Some(Members { count, aliases })),
+        None => Ok(None),
+    }
 }
 
 /// The definition that the tokens of a line are, where they are known to be one.
-pub fn definition_of<'a>(line: &'a [u8], tokens: &[Token]) -> Option<Defined<'a>>
+///
+/// # Errors
+///
+/// A growth of memory was refused.
+pub fn definition_of<'a>(
+    alloc: Global,
+    line: &'a [u8],
+    tokens: &[Token],
+) -> Result<Option<Defined<'a>>, AllocError>
     requires { All (IsWithin (length line.now)) tokens.now }
-    ensures { IfSome result (λ defined. IsDefinition defined.kind defined.name.now defined.members (run State.Begin (pieces line.now tokens.now))) }
+    ensures { IfOk result (λ found. IfSome found (λ defined. IsDefinition defined.kind defined.name.now defined.start defined.members
+        defined.aliases (run State.Begin (pieces line.now tokens.now)))) }
 {
     let [first, second, third, rest @ ..] = tokens else {
-        return None;
+        return Ok(None);
     };
-    let kind = part_of(line, first).kind_word()?;
+    let Some(kind) = part_of(line, first).kind_word() else {
+        return Ok(None);
+    };
     let name = part_of(line, second);
     if !name.is_alias_name() || !part_of(line, third).is_mark(b'=') {
-        return None;
+        return Ok(None);
     }
-    Some(Defined {
+    let Some(members) = members_of(alloc, kind, line, rest)? else {
+        return Ok(None);
+    };
+    Ok(Some(Defined {
         kind,
         name: name.text,
-        members: count_members(kind, line, rest)?,
-    })
+        start: name.start,
+        members: members.count,
+        aliases: members.aliases,
+    }))
 }

@@ -1,21 +1,26 @@
-//! User specifications, told by their tokens and not kept. Only frequent forms are: no `!`, options, digests, quotes or IDs.
+//! User specifications, told by their tokens and not kept but for the aliases in them. Only frequent forms are: no `!`, options,
+//! digests, quotes or IDs.
 
-ghost use Rattle.std.specs.Prelude.{◌≡◌, length, All, IsTrue, IfSome, true, false, None};
+ghost use Rattle.std.specs.Prelude.{◌≡◌, length, All, IsTrue, IfOk, IfSome, OnOk, true, false, None};
 ghost use Rattle.sudoers_text.specs.Token.{IsWithin};
-ghost use Rattle.sudoers_line.specs.declared.state.Row.{Row as RowOf};
 ghost use Rattle.sudoers_line.specs.declared.state.State.{State as StateOf};
 ghost use Rattle.sudoers_line.specs.declared.state.State.TheVariants as State;
 ghost use Rattle.sudoers_line.specs.declared.glance.Glance.TheVariants as Glance;
 ghost use Rattle.sudoers_line.specs.declared.glance.SpecList.TheVariants as lists;
 ghost use Rattle.sudoers_line.specs.declared.node.Kind.TheVariants.{User, Host};
 ghost use Rattle.sudoers_line.specs.Piece.{pieces, is_word, is_mark, option_name};
-ghost use Rattle.sudoers_line.specs.Machine.{step, step_comment, behind_row, run};
+ghost use Rattle.sudoers_line.specs.Machine.{step, step_comment, run};
 ghost use Rattle.sudoers_line.specs.Seen.{seen};
-ghost use Rattle.sudoers_line.specs.Glance.{Stands, Leads, LeadsFrom, FinishesSpec, ReadsSpec, kind_of_list, behind_path, BeginsPlain, IsUserText, IsNumberedHost, IsHostText, IsCommandName, IsMemberWord};
+ghost use Rattle.sudoers_line.specs.Aliases.{aliases_read};
+ghost use Rattle.sudoers_line.specs.Glance.{Stands, Adds, Leads, LeadsFrom, LeadsBehindRow, FinishesSpec, ReadsSpec, kind_of_list, behind_path, BeginsPlain, IsUserText, IsNumberedHost, IsHostText, IsCommandName, IsMemberWord};
 
+use crate::alias::{AliasMember, add_alias};
+use crate::items::Items;
+use crate::node::Kind;
 use crate::number::{address, is_slashed, network};
 use crate::part::{Part, begins_with, ends_with, part_of};
 use crate::state::Stage;
+use std::alloc::{AllocError, Global};
 use sudoers_text::{Token, TokenKind, is_name, is_reserved};
 
 /// A list of a user specification.
@@ -109,6 +114,17 @@ pub fn is_command_name(text: &[u8]) -> bool
 }
 
 impl SpecList {
+    /// What its members are.
+    fn kind(self) -> Kind
+        ensures { result ≡ kind_of_list self }
+    {
+        match self {
+            SpecList::Users => Kind::User,
+            SpecList::Hosts => Kind::Host,
+            SpecList::RunasUsers | SpecList::RunasGroups => Kind::Runas,
+        }
+    }
+
     /// Whether the token is a member of the list.
     fn has_member(self, part: &Part<'_>) -> bool
         ensures { IsTrue result → IsMemberWord (kind_of_list self) (seen part.now) }
@@ -248,7 +264,7 @@ fn at_command(stage: Stage, part: &Part<'_>) -> Option<Glance>
 
 /// Behind a token behind a command.
 fn behind_command(part: &Part<'_>) -> Option<Glance>
-    ensures { IfSome result (λ next. (r : RowOf) → Leads next (behind_row r (seen part.now))) }
+    ensures { LeadsBehindRow result (seen part.now) }
 {
     if part.is_mark(b',') {
         Some(Glance::AtCommand(Stage::Runas))
@@ -301,8 +317,8 @@ impl Glance {
     }
 
     /// Where a comment leads, where that is known.
-    fn behind_comment(self) -> Option<Glance>
-        ensures { IfSome result (λ next. (s : StateOf) → Stands self s → Leads next (step_comment s)) }
+    fn behind_comment(self, part: &Part<'_>) -> Option<Glance>
+        ensures { IfSome result (λ next. (s : StateOf) → Stands self s → Leads next (aliases_read s) (seen part.now) (step_comment s)) }
     {
         match self {
             Glance::BehindProgram(_) | Glance::BehindCommand => Some(Glance::Ended),
@@ -312,27 +328,57 @@ impl Glance {
 
     /// Where a token leads, where that is known.
     fn behind(self, part: &Part<'_>) -> Option<Glance>
-        ensures { IfSome result (λ next. (s : StateOf) → Stands self s → Leads next (step s (seen part.now))) }
+        ensures { IfSome result (λ next. (s : StateOf) → Stands self s → Leads next (aliases_read s) (seen part.now) (step s (seen part.now))) }
     {
         if part.is_comment() {
-            self.behind_comment()
+            self.behind_comment(part)
         } else {
             self.behind_token(part)
         }
     }
+
+    /// Adds what a token that leads here is to the aliases, where it is a member.
+    fn add_alias<'a>(
+        self,
+        part: &Part<'a>,
+        aliases: &mut Items<AliasMember<'a>>,
+    ) -> Result<(), AllocError>
+        ensures { OnOk result (Adds self (seen part.now) aliases.old aliases.new) }
+    {
+        match self {
+            Glance::BehindMember(list) => add_alias(list.kind(), part, aliases),
+            Glance::BehindCommand => add_alias(Kind::Cmnd, part, aliases),
+            _ => Ok(()),
+        }
+    }
 }
 
-/// Whether the tokens of a line are known to be those of a user specification.
-pub fn is_spec(line: &[u8], tokens: &[Token]) -> bool
+/// The aliases in a line, if its tokens are known to be those of a user specification.
+///
+/// # Errors
+///
+/// A growth of memory was refused.
+pub fn aliases_of_spec<'a>(
+    alloc: Global,
+    line: &'a [u8],
+    tokens: &[Token],
+) -> Result<Option<Items<AliasMember<'a>>>, AllocError>
     requires { All (IsWithin (length line.now)) tokens.now }
-    ensures { IsTrue result → ReadsSpec (run State.Begin (pieces line.now tokens.now)) }
+    ensures { IfOk result (λ found. IfSome found (λ aliases. ReadsSpec aliases (run State.Begin (pieces line.now tokens.now)))) }
 {
     let mut here = Glance::Begin;
+    let mut aliases = Items::new(alloc);
     for token in tokens {
-        here = match here.behind(&part_of(line, token)) {
-            Some(next) => next,
-            None => return false,
+        let part = part_of(line, token);
+        let Some(next) = here.behind(&part) else {
+            return Ok(None);
         };
+        next.add_alias(&part, &mut aliases)?;
+        here = next;
     }
-    here.ends_spec()
+    if here.ends_spec() {
+        Ok(Some(aliases))
+    } else {
+        Ok(None)
+    }
 }

@@ -1,6 +1,7 @@
 //! The reading of one line of a sudoers policy.
 #![tactic(auto)]
 
+mod alias;
 mod atom;
 mod awaited;
 mod cause;
@@ -22,6 +23,7 @@ mod reading;
 mod state;
 mod step;
 
+pub use alias::AliasMember;
 pub use fault::{LineFault, Why};
 pub use items::Items;
 pub use laws::{no_fault, one_fault, one_reading, outcome_is, some_outcome, words_agree};

@@ -50,24 +50,24 @@ tells_check (Some input) file strict told status is one large =
 
 same_word : (o : Outline) (says : Node) → IsOutline o says → outline_word o ≡ kind_word (line_kind says)
 same_word (outline.Whole n) says is = ap (λ (m : Node). kind_word (line_kind m)) is
-same_word (outline.Alias k name count) says (d, is, named, counted) = rw is refl
-same_word outline.Spec (node.Spec users groups) is = refl
-same_word outline.Spec node.Blank is = absurd is
-same_word outline.Spec node.Comment is = absurd is
-same_word outline.Spec (node.Include dir path) is = absurd is
-same_word outline.Spec (node.Defaults scope params) is = absurd is
-same_word outline.Spec (node.Alias k defs) is = absurd is
+same_word (outline.Alias k name start count aliases) says (def, same) = rw def.1 refl
+same_word (outline.Spec aliases) (node.Spec users groups) is = refl
+same_word (outline.Spec aliases) node.Blank is = absurd is.0
+same_word (outline.Spec aliases) node.Comment is = absurd is.0
+same_word (outline.Spec aliases) (node.Include dir path) is = absurd is.0
+same_word (outline.Spec aliases) (node.Defaults scope params) is = absurd is.0
+same_word (outline.Spec aliases) (node.Alias k defs) is = absurd is.0
 
 same_rest : (line : ℕ) (o : Outline) (says : Node) → IsOutline o says → shown_outlined line o ≡ shown_node line says
 same_rest line (outline.Whole n) says is = ap (shown_node line) is
-same_rest line (outline.Alias k name count) says (d, is, named, counted) =
+same_rest line (outline.Alias k name start count aliases) says ((d, is, named, starts, counted), same) =
     rw is (ap (λ (n : List ℕ). shown_alias k line 1 n count) (sym named) ∙ ap (λ (m : ℕ). shown_alias k line 1 d.name m) (sym counted) ∙ sym (append-nil (shown_def k line 1 d)))
-same_rest line outline.Spec (node.Spec users groups) is = refl
-same_rest line outline.Spec node.Blank is = absurd is
-same_rest line outline.Spec node.Comment is = absurd is
-same_rest line outline.Spec (node.Include dir path) is = absurd is
-same_rest line outline.Spec (node.Defaults scope params) is = absurd is
-same_rest line outline.Spec (node.Alias k defs) is = absurd is
+same_rest line (outline.Spec aliases) (node.Spec users groups) is = refl
+same_rest line (outline.Spec aliases) node.Blank is = absurd is.0
+same_rest line (outline.Spec aliases) node.Comment is = absurd is.0
+same_rest line (outline.Spec aliases) (node.Include dir path) is = absurd is.0
+same_rest line (outline.Spec aliases) (node.Defaults scope params) is = absurd is.0
+same_rest line (outline.Spec aliases) (node.Alias k defs) is = absurd is.0
 
 shown_one : (line row : ℕ) (o : OutlinedLine) (says : Node) → o.row ≡ row → IsOutline o.outline says → shown_outline line o ≡ shown_line line row says
 shown_one line row o says at is = rw (at, same_word o.outline says is, same_rest line o.outline says is) refl
@@ -78,8 +78,8 @@ shown_is line row [] [] are = refl
 shown_is line row [] (l ∷ lines) are = absurd are
 shown_is line row (o ∷ os) [] are = absurd are
 shown_is line row (o ∷ os) (l ∷ lines) are =
-    ap (λ text. text ++ shown_outlines (line + 1) os) (shown_one line row o l.node are.0 are.1)
-    ∙ ap (λ rest. shown_line line row l.node ++ rest) (shown_is (line + 1) (row + lf_count l.text) os lines are.2)
+    ap (λ text. text ++ shown_outlines (line + 1) os) (shown_one line row o l.node are.0 are.4)
+    ∙ ap (λ rest. shown_line line row l.node ++ rest) (shown_is (line + 1) (row + lf_count l.text) os lines are.5)
 
 pub shows : (input : List ℕ) (lines : List Line) (os : List OutlinedLine) → read_of input ≡ Ok lines → AreOutlines 1 os lines → show_output input ≡ Ok (shown_outlines 1 os)
 shows input lines os is are = ap show_read is ∙ ap Ok (sym (shown_is 1 1 os lines are))

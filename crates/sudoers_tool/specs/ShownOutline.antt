@@ -17,13 +17,13 @@ shown_alias k line number name count =
 
 -- the kind of a line in outline
 abbrev pub outline_word : Outline → List ℕ
-outline_word outline.Spec = kind_word kind.Spec
-outline_word (outline.Alias k name count) = kind_word kind.Alias
+outline_word (outline.Spec aliases) = kind_word kind.Spec
+outline_word (outline.Alias k name start count aliases) = kind_word kind.Alias
 outline_word (outline.Whole says) = kind_word (line_kind says)
 
 abbrev pub shown_outlined : ℕ → Outline → List ℕ
-shown_outlined line outline.Spec = []
-shown_outlined line (outline.Alias k name count) = shown_alias k line 1 name count
+shown_outlined line (outline.Spec aliases) = []
+shown_outlined line (outline.Alias k name start count aliases) = shown_alias k line 1 name.now count
 shown_outlined line (outline.Whole says) = shown_node line says
 
 -- a line in outline

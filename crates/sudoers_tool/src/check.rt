@@ -6,15 +6,15 @@ ghost use Rattle.sudoers_tree.specs.Reading.{read_of};
 ghost use Rattle.sudoers_tool.specs.Device.{Rose, AppendsFront, TakesExactly};
 ghost use Rattle.sudoers_tool.specs.Program.{pull_limit};
 ghost use Rattle.sudoers_tool.specs.FaultText.{text_of_read};
-ghost use Rattle.sudoers_tool.specs.Check.{TellsCheck, check_text, check_status, check_output, IsCheckFault, StopsCheck, NeedsFile};
+ghost use Rattle.sudoers_tool.specs.Check.{TellsCheck, check_text as text_of_check, check_status, check_output, IsCheckFault, StopsCheck, NeedsFile};
 
 use crate::device::{Sink, Source};
 use crate::fault::{ToolFault, read_fault_text};
 use crate::program::{read_all, write_all};
 use std::alloc::{AllocError, Global};
-use sudoers_check::{check, report_text};
+use sudoers_check::{check_text, report_text};
 use sudoers_text::{TEXT_LIMIT, TextFault};
-use sudoers_tree::{Policy, ReadFault};
+use sudoers_tree::ReadFault;
 
 /// Reads a policy file and writes what is to be noted of its aliases, or, where the file is no policy, its fault. The status
 /// is 0 where the file is fine, and else 1; with `strict`, undefined names and cyclic aliases are faults. With `quiet`,
@@ -116,15 +116,14 @@ fn outcome_of<R: Source>(
 
 /// The report on the policy that a text is, or its fault.
 fn checked(alloc: Global, input: &[u8], file: &[u8], strict: bool) -> Result<Outcome, AllocError>
-    ensures text { IfOk result (λ outcome. outcome.text.items ≡ check_text file.now strict (read_of input.now)) }
+    ensures text { IfOk result (λ outcome. outcome.text.items ≡ text_of_check file.now strict (read_of input.now)) }
     ensures status { IfOk result (λ outcome. outcome.status ≡ check_status strict (read_of input.now)) }
 {
-    let policy = match Policy::read(alloc, input) {
-        Ok(policy) => policy,
+    let report = match check_text(alloc, input) {
+        Ok(report) => report,
         Err(ReadFault::NoMemory) => return Err(AllocError),
         Err(fault) => return refused(alloc, &fault, file),
     };
-    let report = check(alloc, &policy)?;
     let text = report_text(alloc, &report, file, strict)?;
     let status = if report.is_fine(strict) { 0 } else { 1 };
     Ok(Outcome { text, status })

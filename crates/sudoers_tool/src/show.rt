@@ -14,7 +14,7 @@ use crate::program::{read_all, write_all};
 use std::alloc::{AllocError, Global};
 use sudoers_line::{Def, Kind, Node, Outline};
 use sudoers_text::{TEXT_LIMIT, TextFault};
-use sudoers_tree::{LineKind, OutlinedLine, ReadFault, kind_word, outline_policy};
+use sudoers_tree::{LineKind, OutlinedLine, OutlinedPolicy, ReadFault, kind_word};
 
 /// Reads a policy file, and writes for each of its lines its number, its kind and the number of its first physical line, and
 /// for each definition of an alias its numbers, its kind, its name and how many members it has. All numbers count from 1.
@@ -80,12 +80,12 @@ fn show_text(alloc: Global, input: &[u8]) -> Result<Vec<u8>, LayerFault>
         (λ fault. TellsLayer fault (show_output input.now) × IsFileFault fault) }
     ensures size { IfErr result (λ fault. fault ≡ LayerFault.Policy (ReadFault.Text TextFault.TooLarge) → text_limit < length input.now) }
 {
-    let lines = outline_policy(alloc, input)?;
-    Ok(shown(alloc, lines.as_slice())?)
+    let policy = OutlinedPolicy::read(alloc, input)?;
+    Ok(shown(alloc, policy.lines())?)
 }
 
 /// What is shown of a policy, by its outline.
-fn shown(alloc: Global, lines: &[OutlinedLine]) -> Result<Vec<u8>, AllocError>
+fn shown(alloc: Global, lines: &[OutlinedLine<'_>]) -> Result<Vec<u8>, AllocError>
     ensures { IfOk result (λ out. out.items ≡ shown_outlines 1 lines.now) }
 {
     let mut out = Vec::new(alloc);
@@ -100,7 +100,7 @@ fn append_line(
     alloc: Global,
     out: &mut Vec<u8>,
     number: usize,
-    line: &OutlinedLine,
+    line: &OutlinedLine<'_>,
 ) -> Result<(), AllocError>
     ensures { OnOk result (out.new.items ≡ out.old.items ++ shown_outline number line.now) }
 {
@@ -113,7 +113,8 @@ fn append_line(
             kind,
             name,
             members,
-        } => { append_alias(alloc, out, *kind, (number, 1), name.as_slice(), *members) }
+            ..
+        } => { append_alias(alloc, out, *kind, (number, 1), name, *members) }
         Outline::Whole(Node::Alias { kind, defs }) => {
             append_defs(alloc, out, *kind, number, defs.as_slice())
         }
@@ -181,11 +182,11 @@ fn append_between_blanks(out: &mut Vec<u8>, word: &[u8]) -> Result<(), AllocErro
 }
 
 /// The word for the kind of a line.
-fn outline_word(outline: &Outline) -> &'static [u8]
+fn outline_word(outline: &Outline<'_>) -> &'static [u8]
     ensures { result.now ≡ word_of_outline outline.now }
 {
     match outline {
-        Outline::Spec => line_word(LineKind::Spec),
+        Outline::Spec { .. } => line_word(LineKind::Spec),
         Outline::Alias { .. } => line_word(LineKind::Alias),
         Outline::Whole(node) => line_word(LineKind::of(node)),
     }

@@ -1,4 +1,5 @@
 pub mod Columns
+pub mod LineEnds
 pub mod Entries
 pub mod Joined
 pub mod Taken

@@ -52,22 +52,22 @@ defines_none index before line (node.Include dir path) is spec = absurd spec
 defines_none index before line (node.Defaults scope params) is spec = absurd spec
 defines_none index before line (node.Alias k defs) is spec = absurd spec
 
-outlines_push : (row : ℕ) (os : List OutlinedLine) (lines : List Line) (o : OutlinedLine) (line : Line) → AreOutlines row os lines → o.row ≡ row + lf_count (join (texts lines)) → IsOutline o.outline line.node
-    → AreOutlines row (os ++ o ∷ []) (lines ++ line ∷ [])
-outlines_push row [] [] o line are at is = (omega (arith, at), is, tt)
-outlines_push row [] (x ∷ lines) o line are at is = absurd are
-outlines_push row (p ∷ os) [] o line are at is = absurd are
-outlines_push row (p ∷ os) (x ∷ lines) o line are at is =
-    (are.0, are.1, outlines_push (row + lf_count x.text) os lines o line are.2 (omega (arith, at, lf_append x.text (join (texts lines)))) is)
+outlines_push : (row : ℕ) (os : List OutlinedLine) (lines : List Line) (o : OutlinedLine) (line : Line) → AreOutlines row os lines → o.row ≡ row + lf_count (join (texts lines)) → o.text.now ≡ line.text
+    → o.ends ≡ lf_count line.text → outcome_of line.text ≡ Ok line.node → IsOutline o.outline line.node → AreOutlines row (os ++ o ∷ []) (lines ++ line ∷ [])
+outlines_push row [] [] o line are at same ends says is = (omega (arith, at), same, ends, says, is, tt)
+outlines_push row [] (x ∷ lines) o line are at same ends says is = absurd are
+outlines_push row (p ∷ os) [] o line are at same ends says is = absurd are
+outlines_push row (p ∷ os) (x ∷ lines) o line are at same ends says is =
+    (are.0, are.1, are.2, are.3, are.4, outlines_push (row + lf_count x.text) os lines o line are.5 (omega (arith, at, lf_append x.text (join (texts lines)))) same ends says is)
 
 -- one line more
-pub outlining_more : (kept new : Outlining) (before : List Line) (line : Line) (o : OutlinedLine) → IsOutlining kept before → IsOutline o.outline line.node → o.row ≡ kept.row
+pub outlining_more : (kept new : Outlining) (before : List Line) (line : Line) (o : OutlinedLine) → IsOutlining kept before → o.text.now ≡ line.text → o.ends ≡ lf_count line.text → outcome_of line.text ≡ Ok line.node → IsOutline o.outline line.node → o.row ≡ kept.row
     → new.row ≡ kept.row + lf_count line.text → new.lines.items ≡ kept.lines.items ++ o ∷ [] → Indexes new.index (definitions before ++ definitions_in (length before) line.node) → IsOutlining new (before ++ line ∷ [])
-outlining_more kept new before line o is outlines at row items index =
+outlining_more kept new before line o is same ends says outlines at row items index =
     record {
       index = subst (Indexes new.index) (sym (definitions_push before line)) index;
       row = row ∙ row_more before line kept.row (lf_count line.text) is.row refl;
-      outlines = subst (λ os. AreOutlines 1 os (before ++ line ∷ [])) (sym items) (outlines_push 1 kept.lines.items before o line is.outlines (omega (arith, at, is.row)) outlines);
+      outlines = subst (λ os. AreOutlines 1 os (before ++ line ∷ [])) (sym items) (outlines_push 1 kept.lines.items before o line is.outlines (omega (arith, at, is.row)) same ends says outlines);
       count = ap length items ∙ omega (arith, is.count, length-append kept.lines.items (o ∷ []), length-append before (line ∷ []));
     }
 

@@ -1,7 +1,8 @@
 -- A policy in outline.
-use Rattle.std.specs.Prelude.{◌≡◌, ℕ, ◌+◌, List, [], ◌∷◌}
+use Rattle.std.specs.Prelude.{◌≡◌, ℕ, ◌+◌, List, [], ◌∷◌, Ok}
 use Rattle.sudoers_text.specs.Fault.{lf_count}
 use Rattle.sudoers_line.specs.Outline.{IsOutline}
+use Rattle.sudoers_line.specs.Outcome.{outcome_of}
 use Rattle.sudoers_tree.specs.declared.line.Line.{Line}
 use Rattle.sudoers_tree.specs.declared.outline.OutlinedLine.{OutlinedLine}
 
@@ -11,4 +12,5 @@ AreOutlines row [] [] = Unit {0}
 AreOutlines row [] (line ∷ lines) = ⊥
 AreOutlines row (o ∷ os) [] = ⊥
 AreOutlines row (o ∷ os) (line ∷ lines) =
-    (o.row ≡ row) × IsOutline o.outline line.node × AreOutlines (row + lf_count line.text) os lines
+    (o.row ≡ row) × (o.text.now ≡ line.text) × (o.ends ≡ lf_count line.text) × (outcome_of line.text ≡ Ok line.node)
+    × IsOutline o.outline line.node × AreOutlines (row + lf_count line.text) os lines

@@ -80,16 +80,14 @@ impl Index {
         &mut self,
         alloc: Global,
         line: usize,
-        outline: &Outline,
+        outline: &Outline<'_>,
     ) -> Result<(), ReadFault>
         ensures { (before : List Definition) (says : NodeOf) → Indexes self.old before → IsOutline outline.now says
             → Enters result self.new before (definitions_in line says) }
     {
         match outline {
-            Outline::Spec => Ok(()),
-            Outline::Alias { kind, name, .. } => {
-                self.enter_alias(alloc, *kind, line, name.as_slice())
-            }
+            Outline::Spec { .. } => Ok(()),
+            Outline::Alias { kind, name, .. } => self.enter_alias(alloc, *kind, line, name),
             Outline::Whole(node) => self.enter(alloc, line, node),
         }
     }

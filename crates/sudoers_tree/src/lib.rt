@@ -24,12 +24,13 @@ pub use index::ALIAS_LIMIT;
 pub use kind::{LineKind, kind_word};
 pub use laws::{lines_are_said, one_outcome, policy_is_cut, read_is};
 pub use line::Line;
-pub use outline::{OutlinedLine, outline_policy};
+pub use outline::{OutlinedLine, OutlinedPolicy};
 pub use place::{Place, Span};
 pub use policy::Policy;
 pub use position::lf_count;
 pub use single::read_line;
 pub use sudoers_line::{
-    Address, Args, Atom, CmdSpec, Def, Digest, DigestKind, HostGroup, Items, Kind, LineFault, Mask,
-    Member, Node, Operator, OptionName, Param, RunasSpec, Scope, Setting, Tag, Why,
+    Address, AliasMember, Args, Atom, CmdSpec, Def, Digest, DigestKind, HostGroup, Items, Kind,
+    LineFault, Mask, Member, Node, Operator, OptionName, Outline, Param, RunasSpec, Scope, Setting,
+    Tag, Why,
 };

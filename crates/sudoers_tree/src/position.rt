@@ -4,7 +4,7 @@ ghost use Rattle.std.specs.Prelude.{◌≡◌, ◌≤◌, ◌+◌, ◌-◌, leng
 ghost use Rattle.sudoers_text.specs.Fault.{lf_count};
 ghost use Rattle.sudoers_tree.specs.Physical.{column_behind};
 
-use memchr::memrchr;
+use memchr::{memchr, memrchr};
 
 /// How many LF there are.
 pub fn lf_count(bytes: &[u8]) -> usize
@@ -12,8 +12,10 @@ pub fn lf_count(bytes: &[u8]) -> usize
     ensures within { result ≤ length bytes.now }
 {
     let mut count = 0;
-    for byte in bytes {
-        count += usize::from(*byte == b'\n');
+    let mut rest = bytes;
+    while let Some(at) = memchr(b'\n', rest) {
+        count += 1;
+        rest = &rest[at + 1..];
     }
     count
 }

@@ -5,7 +5,7 @@
 use std::alloc::{AllocError, Global};
 use std::process::Abort;
 use std::test::Fail;
-use sudoers_check::{Note, check, report_text, unused};
+use sudoers_check::{Note, check, check_text, report_text, unused};
 use sudoers_tree::Policy;
 
 /// The name of the file in the reports of the tables.
@@ -34,6 +34,17 @@ pub fn text_of(alloc: Global, case: &str) -> Result<String, AllocError> {
 pub fn report_of(alloc: Global, text: &[u8], file: &[u8], strict: bool) -> Result<Vec<u8>, Fail> {
     let policy = Policy::read(alloc, text)?;
     let report = check(alloc, &policy)?;
+    Ok(report_text(alloc, &report, file, strict)?)
+}
+
+/// The same by the text alone.
+pub fn report_of_text(
+    alloc: Global,
+    text: &[u8],
+    file: &[u8],
+    strict: bool,
+) -> Result<Vec<u8>, Fail> {
+    let report = check_text(alloc, text)?;
     Ok(report_text(alloc, &report, file, strict)?)
 }
 
@@ -67,7 +78,7 @@ fn cases(alloc: Global, table: &str) -> Result<Vec<(&str, String)>, AllocError> 
     Ok(cases)
 }
 
-/// Each policy of the table has the report in the rows below it.
+/// Each policy of the table has the report in the rows below it, whether it is read whole or in outline.
 fn have_reports(rt: &impl Abort, alloc: Global, strict: bool, table: &str) -> Result<(), Fail> {
     for (case, wanted) in cases(alloc, table)? {
         let text = text_of(alloc, case)?;
@@ -77,6 +88,8 @@ fn have_reports(rt: &impl Abort, alloc: Global, strict: bool, table: &str) -> Re
             Ok(wanted.as_str()),
             "of {case}"
         );
+        let outlined = report_of_text(alloc, text.as_bytes(), FILE, strict)?;
+        assert_eq!(rt; outlined, found, "in outline, of {case}");
     }
     Ok(())
 }

@@ -3,21 +3,40 @@
 use std::alloc::{AllocError, Global};
 use std::process::Abort;
 use std::test::Fail;
-use sudoers_line::{LineFault, Outline, parse_outline};
+use sudoers_line::{AliasMember, LineFault, Outline, parse_outline};
 
-/// The outline of a line in words: of a definition its kind, how long its name is and how many members it has.
+/// Puts aliases behind a text, each as the kind of its list, its name and where it ends.
+fn put_aliases(text: &mut String, aliases: &[AliasMember<'_>]) -> Result<(), AllocError> {
+    for alias in aliases {
+        let name = str::from_utf8(alias.name).unwrap_or("?");
+        write!(text, " {:?} {name} {}", alias.kind, alias.stop)?;
+    }
+    Ok(())
+}
+
+/// The outline of a line in words: of a definition its kind, its name, where it begins and how many members it has; and the
+/// aliases that the line mentions.
 fn outlined(alloc: Global, line: &[u8]) -> Result<String, AllocError> {
     let outline = parse_outline(alloc, line);
     let mut text = String::new(alloc);
     match &outline {
-        Ok(Outline::Spec) => text.push_str("spec")?,
+        Ok(Outline::Spec { aliases }) => {
+            text.push_str("spec")?;
+            put_aliases(&mut text, aliases.as_slice())?;
+        }
         Ok(
             Outline::Alias {
                 kind,
                 name,
+                start,
                 members,
+                aliases,
             },
-        ) => write!(text, "{kind:?} {} {members}", name.len())?,
+        ) => {
+            let name = str::from_utf8(name).unwrap_or("?");
+            write!(text, "{kind:?} {name} {start} {members}")?;
+            put_aliases(&mut text, aliases.as_slice())?;
+        }
         Ok(Outline::Whole(_)) => text.push_str("whole")?,
         Err(LineFault::Syntax { at, why }) => write!(text, "{at} {why:?}")?,
         Err(LineFault::NoMemory) => return Err(AllocError),
@@ -47,7 +66,7 @@ fn frequent_specifications_are_only_told(rt: HostRuntime) -> Result<(), Fail> {
             ),
             (
                 "bob h = (root, ann : adm) NOPASSWD: NOEXEC: /bin/a x \"\" : h2 = SHELLS # on call\n",
-                "spec",
+                "spec Cmnd SHELLS 69",
             ),
             ("bob h = /b \"\", /c ^", "18 Regex"),
         ],
@@ -60,17 +79,17 @@ fn members_of_frequent_definitions_are_counted(rt: HostRuntime) -> Result<(), Fa
         &rt,
         rt.alloc(),
         &[
-            ("User_Alias TEAM = bob, %wheel, ALL\n", "User 4 3"),
-            ("Runas_Alias R = root", "Runas 1 1"),
+            ("User_Alias TEAM = bob, %wheel, ALL\n", "User TEAM 11 3"),
+            ("Runas_Alias R = root", "Runas R 12 1"),
             (
                 "Host_Alias H = web, \\\n    10.0.0.1, 10.1.0.0/16 # three\n",
-                "Host 1 3",
+                "Host H 11 3",
             ),
             (
                 "Cmnd_Alias C = /bin/a, /usr/bin/, /b x y, ALL, SHELLS\n",
-                "Cmnd 1 5",
+                "Cmnd C 11 5 Cmnd SHELLS 53",
             ),
-            ("Cmd_Alias C = /bin/a -l", "Cmnd 1 1"),
+            ("Cmd_Alias C = /bin/a -l", "Cmnd C 10 1"),
             ("User_Alias A =\n", "14 EndOfLine"),
         ],
     )
@@ -90,6 +109,27 @@ fn other_lines_are_read_whole(rt: HostRuntime) -> Result<(), Fail> {
             ("#5 h = sha224:ab /bin/a\n", "whole"),
             ("User_Alias A = x : B = y\n", "whole"),
             ("Host_Alias H = !web\n", "whole"),
+        ],
+    )
+}
+
+#[test]
+fn aliases_in_frequent_forms_are_told(rt: HostRuntime) -> Result<(), Fail> {
+    are_outlined(
+        &rt,
+        rt.alloc(),
+        &[
+            (
+                "TEAM, bob HOSTS = (ROLES, root : GROUP) NOPASSWD: TOOLS, /bin/a : H2 = T2",
+                "spec User TEAM 4 Host HOSTS 15 Runas ROLES 24 Runas GROUP 38 Cmnd TOOLS 55 Host H2 68 Cmnd T2 73",
+            ),
+            ("bob ALL = (ALL) TOOLS\n", "spec Cmnd TOOLS 21"),
+            (
+                "User_Alias TEAM = bob, OTHERS, ALL, NOPASSWD\n",
+                "User TEAM 11 4 User OTHERS 29 User NOPASSWD 44",
+            ),
+            ("User_Alias A = !OTHERS\n", "whole"),
+            ("bob h = !TOOLS\n", "whole"),
         ],
     )
 }

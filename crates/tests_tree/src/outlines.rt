@@ -3,15 +3,15 @@
 use std::alloc::{AllocError, Global};
 use std::process::Abort;
 use std::test::Fail;
-use sudoers_tree::{ReadFault, outline_policy};
+use sudoers_tree::{OutlinedPolicy, ReadFault};
 
 /// The physical lines on which the lines of a policy begin, or that a name is defined twice in it.
 fn rows(alloc: Global, text: &[u8]) -> Result<String, AllocError> {
-    let policy = outline_policy(alloc, text);
+    let policy = OutlinedPolicy::read(alloc, text);
     let mut found = String::new(alloc);
     match &policy {
-        Ok(lines) => {
-            for line in lines {
+        Ok(policy) => {
+            for line in policy.lines() {
                 write!(found, "{} ", line.row)?;
             }
         }

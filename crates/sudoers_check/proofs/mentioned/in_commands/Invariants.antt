@@ -1,5 +1,6 @@
 use Rattle.std.proofs.Common.{◌≡◌, ◌++◌, drop, flat_map}
-use Rattle.sudoers_check.specs.Mentioned.{mentions_among, listed_command}
+use Rattle.sudoers_line.specs.Listed.{listed_command}
+use Rattle.sudoers_check.specs.Mentioned.{mentions_among}
 use Rattle.sudoers_check.proofs.mentioned.in_commands.Given as goal
 
 abbrev pub invariant-loop-command : goal.invariant-loop-command

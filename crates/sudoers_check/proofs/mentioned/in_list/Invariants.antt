@@ -1,5 +1,6 @@
 use Rattle.std.proofs.Common.{◌≡◌, ◌++◌, drop}
-use Rattle.sudoers_check.specs.Mentioned.{mentions_among, listed_as}
+use Rattle.sudoers_line.specs.Listed.{listed_as}
+use Rattle.sudoers_check.specs.Mentioned.{mentions_among}
 use Rattle.sudoers_check.proofs.mentioned.in_list.Given as goal
 
 abbrev pub invariant-loop-member : goal.invariant-loop-member

@@ -25,24 +25,24 @@ loop-number-preserved c =
     let ms : List Mention = mentioned_in l.number line.node in
     let here = c.in_ok-note_undefined.ensures.notes was.0 was.1 in
     let seen = c.in_ok-note_undefined.ensures.seen was.0 was.1 in
-    let found : c.as_slice-in-loop-number.result.now ≡ ms = c.as_slice-in-loop-number.ensures.value ∙ c.in_ok-mentions.ensures in
-    let text : c.new-cursor.result.text.now ≡ line.text = c.new-cursor.ensures.text ∙ c.as_slice.ensures in
-    let count : c.lf_count-row.result ≡ lf_count line.text = c.lf_count-row.ensures.count ∙ ap lf_count c.as_slice-in-loop-number-2.ensures in
+    let found : c.as_slice.result.now ≡ ms = c.as_slice.ensures.value ∙ c.in_ok-mentions.ensures in
+    let text : c.new-cursor.result.text.now ≡ line.text = c.new-cursor.ensures.text ∙ c.text.ensures in
+    let count : c.ends-row.result ≡ lf_count line.text = c.ends-row.ensures.count in
     let notes : List Note = l.notes.items in
     let first : List Note = noted_mentions l.row line.text (undefined_behind ds was.0 ms) in
     let added : c.note_undefined.new.notes.items ≡ notes ++ first =
-    here ∙ ap (λ r. notes ++ noted_mentions r c.new-cursor.result.text.now (undefined_behind ds was.0 c.as_slice-in-loop-number.result.now)) c.new-cursor.ensures.row
-    ∙ ap (λ t. notes ++ noted_mentions l.row t (undefined_behind ds was.0 c.as_slice-in-loop-number.result.now)) text
+    here ∙ ap (λ r. notes ++ noted_mentions r c.new-cursor.result.text.now (undefined_behind ds was.0 c.as_slice.result.now)) c.new-cursor.ensures.row
+    ∙ ap (λ t. notes ++ noted_mentions l.row t (undefined_behind ds was.0 c.as_slice.result.now)) text
     ∙ ap (λ xs. notes ++ noted_mentions l.row line.text (undefined_behind ds was.0 xs)) found in
     let more = undefined_from ds (l.row + lf_count line.text) (was.0 ++ ms) (l.number + 1) rest in (
       (
         was.0 ++ ms,
         subst (λ xs. Agrees ds c.note_undefined.new.seen (was.0 ++ xs)) found seen,
-        ap (λ xs. xs ++ undefined_from ds (l.row + c.lf_count-row.result) (was.0 ++ ms) (l.number + 1) rest) added
+        ap (λ xs. xs ++ undefined_from ds (l.row + c.ends-row.result) (was.0 ++ ms) (l.number + 1) rest) added
             ∙ ap (λ n. (notes ++ first) ++ undefined_from ds (l.row + n) (was.0 ++ ms) (l.number + 1) rest) count ∙ append_assoc notes first more
             ∙ ap (λ xs. notes ++ undefined_from ds l.row was.0 l.number xs) (sym next) ∙ was.2,
       ),
-      omega (arith, l.invariant.1, ap (λ ls. length (join (texts ls))) next, length-append line.text (join (texts rest)), c.lf_count-row.ensures.within, ap length c.as_slice-in-loop-number-2.ensures),
+      omega (arith, l.invariant.1, ap (λ ls. length (join (texts ls))) next, length-append line.text (join (texts rest)), c.ends-row.ensures.within),
     )
 
 pub returns : goal.returns

@@ -1,3 +1,6 @@
+use Rattle.std.specs.Prelude.{IfSome}
+use Rattle.sudoers_line.specs.Listed.{AliasMember}
+use Rattle.sudoers_line.specs.declared.counted.Defined.{Defined}
 use Rattle.std.proofs.Common.{◌≡◌, ℕ, List, subst, sym, refl, Ok, Err, rules}
 use Rattle.sudoers_text.specs.declared.token.Token.{Token}
 use Rattle.sudoers_text.specs.LineMode.{line_mode}
@@ -16,16 +19,6 @@ use Rattle.sudoers_line.specs.Outline.{OutlineGives}
 use Rattle.sudoers_line.proofs.Contract.{gives}
 use Rattle.sudoers_line.proofs.Outlines.{spec_given, definition_given, fault_given}
 use Rattle.sudoers_line.proofs.outline.parse_outline.Goals as goal
-
--- the tokens are those that are computed
-same : (c : goal.After-drop-tokens) → c.in-Ok.tokens.items ≡ tokens_of (line_mode c.args.line.now) c.args.line.now
-same c = subst (λ m. c.in-Ok.tokens.items ≡ tokens_of m c.args.line.now) c.line_mode.ensures c.in-Ok.ensures.outcome
-
-pub returns-then-is_spec : goal.returns-then-is_spec
-returns-then-is_spec c =
-    let line : List ℕ = c.args.line.now in
-    spec_given line c.in-Ok.tokens.items (same c)
-    (subst (λ (ts : List Token). ReadsSpec (run Begin (pieces line ts))) c.as_slice.ensures.value (c.is_spec.ensures c.if-is_spec.true))
 
 pub returns-in_err-read_tokens : goal.returns-in_err-read_tokens
 returns-in_err-read_tokens c =
@@ -53,5 +46,17 @@ returns-in-Some c =
     let line : List ℕ = c.args.line.now in
     let tokens : c.in-Ok.tokens.items ≡ tokens_of (line_mode line) line =
     subst (λ m. c.in-Ok.tokens.items ≡ tokens_of m line) c.line_mode.ensures c.in-Ok.ensures.outcome in
-    definition_given line c.in-Ok.tokens.items c.in-Some.defined.kind c.in-Some.defined.name.now c.in_ok-from_slice.field-0 c.in-Some.defined.members tokens c.in_ok-from_slice.ensures
-    (subst (λ (ts : List Token). IsDefinition c.in-Some.defined.kind c.in-Some.defined.name.now c.in-Some.defined.members (run Begin (pieces line ts))) c.as_slice-2.ensures.value c.in-Some.ensures)
+    let read : ReadsSpec c.in-Some.aliases (run Begin (pieces line c.as_slice.result.now)) =
+    subst (λ o. IfSome o (λ (aliases : List AliasMember). ReadsSpec aliases (run Begin (pieces line c.as_slice.result.now)))) c.in-Some.is c.in_ok-aliases.ensures in
+    spec_given line c.in-Ok.tokens.items c.in-Some.aliases tokens (subst (λ (ts : List Token). ReadsSpec c.in-Some.aliases (run Begin (pieces line ts))) c.as_slice.ensures.value read)
+
+pub returns-in-Some-2 : goal.returns-in-Some-2
+returns-in-Some-2 c =
+    let line : List ℕ = c.args.line.now in
+    let tokens : c.in-Ok.tokens.items ≡ tokens_of (line_mode line) line =
+    subst (λ m. c.in-Ok.tokens.items ≡ tokens_of m line) c.line_mode.ensures c.in-Ok.ensures.outcome in
+    let d : Defined = c.in-Some-2.defined in
+    let read : IsDefinition d.kind d.name.now d.start d.members d.aliases (run Begin (pieces line c.as_slice-2.result.now)) =
+    subst (λ o. IfSome o (λ (e : Defined). IsDefinition e.kind e.name.now e.start e.members e.aliases (run Begin (pieces line c.as_slice-2.result.now)))) c.in-Some-2.is c.in_ok-defined.ensures in
+    definition_given line c.in-Ok.tokens.items d.kind d.name d.start d.members d.aliases tokens
+    (subst (λ (ts : List Token). IsDefinition d.kind d.name.now d.start d.members d.aliases (run Begin (pieces line ts))) c.as_slice-2.ensures.value read)

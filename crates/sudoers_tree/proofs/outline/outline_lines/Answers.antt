@@ -9,6 +9,8 @@ use Rattle.sudoers_tree.specs.declared.fault.ReadFault.TheVariants.{NoMemory}
 use Rattle.sudoers_tree.specs.Policy.{texts}
 use Rattle.sudoers_tree.specs.Reading.{read_behind}
 use Rattle.sudoers_tree.specs.Outline.{AreOutlines}
+use Rattle.sudoers_tree.specs.Index.{Indexes}
+use Rattle.sudoers_tree.specs.Definition.{definitions}
 use Rattle.sudoers_tree.proofs.Joined.{fits_before, drop_none}
 use Rattle.sudoers_tree.proofs.Taken.{next_texts, next_read, stops}
 use Rattle.sudoers_tree.proofs.Outlined.{told}
@@ -64,7 +66,7 @@ returns-in_err-take_line c =
     let next = at_next lines c.len-in-loop-text.result (length read) (Some c.in-Some.text.now) count c.in-Some.ensures in
     let fault : ReadFault = c.in_err-take_line.field-0.0 in
     let same : c.from_residual-in_err-take_line.result ≡ Err fault = search rules in
-    subst (λ r. MatchResult r (λ (kept : Outlining). (policy : List Line) × (read_behind [] lines ≡ Ok policy) × AreOutlines 1 kept.lines.items policy)
+    subst (λ r. MatchResult r (λ (kept : Outlining). (policy : List Line) × (read_behind [] lines ≡ Ok policy) × AreOutlines 1 kept.lines.items policy × Indexes kept.index (definitions policy))
     (λ (e : ReadFault). (e ≡ NoMemory) ⊎ (read_behind [] lines ≡ Err e))) (sym same)
     (told fault (read_behind [] lines)
     (stops lines read read c.in-Some.text.now fault next c.loop-text.invariant.3 (c.in_err-take_line.ensures read c.loop-text.invariant.1)))
@@ -76,4 +78,4 @@ returns c =
     let held : c.len-in-loop-text.result ≡ length c.loop-text.outlining.lines.items = search rules in
     let count : c.len-in-loop-text.result ≡ length read = held ∙ c.loop-text.invariant.1.count in
     let none = at_next lines c.len-in-loop-text.result (length read) None count c.in_default.ensures in
-    (read, sym (ap (read_behind read) (sym (drop_none lines (length read) none)) ∙ c.loop-text.invariant.3), c.loop-text.invariant.1.outlines)
+    (read, sym (ap (read_behind read) (sym (drop_none lines (length read) none)) ∙ c.loop-text.invariant.3), c.loop-text.invariant.1.outlines, c.loop-text.invariant.1.index)

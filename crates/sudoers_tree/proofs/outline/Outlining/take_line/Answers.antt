@@ -43,6 +43,6 @@ returns c = λ before is.
     (c.in_ok-enter_outline.ensures (definitions before) says.0 is.index says.2) in (
       line,
       stands before text says.0 says.1 entered.1,
-      outlining_more c.args.self.now (record { lines = c.push.new.self; index = c.enter_outline.new.self; row = c.args.self.now.row + c.lf_count.result }) before line
-          (record { row = c.args.self.now.row; outline = c.in-Ok.outline }) is says.2 refl (ap (λ n. c.args.self.now.row + n) c.lf_count.ensures.count) c.in_ok-push.ensures.items entered.0,
+      outlining_more c.args.self.now (record { lines = c.push.new.self; index = c.enter_outline.new.self; row = c.args.self.now.row + c.lf_count-ends.result }) before line
+          (record { row = c.args.self.now.row; text = c.args.text; ends = c.lf_count-ends.result; outline = c.in-Ok.outline }) is refl c.lf_count-ends.ensures.count says.1 says.2 refl (ap (λ n. c.args.self.now.row + n) c.lf_count-ends.ensures.count) c.in_ok-push.ensures.items entered.0,
     )

@@ -1,7 +1,7 @@
 use Rattle.std.proofs.Common.{◌≡◌, ◌++◌, drop, length}
 use Rattle.sudoers_check.specs.Noting.{places_since}
 use Rattle.sudoers_check.proofs.Located.{total}
-use Rattle.sudoers_check.proofs.checking.unused.Given as goal
+use Rattle.sudoers_check.proofs.checking.unmarked.Given as goal
 
 abbrev pub invariant-loop-number : goal.invariant-loop-number
 invariant-loop-number l =
