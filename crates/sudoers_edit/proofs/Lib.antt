@@ -8,6 +8,7 @@ mod HistoryLemmas
 mod LastLemmas
 mod MemberLemmas
 mod MoreLemmas
+mod NamedLemmas
 mod NumberLemmas
 mod OneSpelling
 mod PhysicalLemmas

@@ -16,3 +16,4 @@ pub mod Reread
 pub mod Script
 pub mod ScriptReading
 pub mod ScriptStanding
+pub mod Named

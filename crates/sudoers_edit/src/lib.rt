@@ -8,6 +8,7 @@ mod editor;
 mod landing;
 mod line_edits;
 mod name_places;
+mod named;
 mod one_more;
 mod physical;
 mod pruning;
@@ -22,6 +23,7 @@ mod text;
 
 pub use edit::{Edit, EditFault, Edits};
 pub use editor::{Editor, Entry};
+pub use named::named_are_written;
 pub use physical::{first_line_len, physical_lines_join};
 pub use script::{MAX_EDITS, ScriptFault, read_script};
 pub use spelling::{

@@ -3,6 +3,7 @@ ghost use Rattle.std.specs.Prelude.{◌≡◌, ◌≢◌, ◌+◌, ◌<◌, ◌�
 ghost use Rattle.std.specs.Option.{option_map};
 ghost use Rattle.std.specs.Io.KnownBytes.{Keeps, Appends};
 ghost use Rattle.sudoers_tree.specs.Policy.{texts};
+ghost use Rattle.sudoers_edit.specs.Named.{AreNamed};
 ghost use Rattle.sudoers_tool.specs.Device.{Rose, AppendsFront, TakesAtMost, TakesExactly, counted_up};
 ghost use Rattle.sudoers_tool.specs.Program.{is_mark as is_mark_text, split_text, edit_output as output_of_edit, edited_output, output_of, output_text, input_limit, TellsLayer, TellsTool, NeedsEnd, StopsReading, IsReadFault, IsAnswerFault, pull_limit};
 
@@ -10,7 +11,8 @@ use crate::device::{DeviceFailed, Pulled, Sink, Source};
 use crate::fault::{LayerFault, ToolFault};
 use std::alloc::Global;
 use sudoers_edit::{
-    Edit, Editor, Edits, first_line_len, physical_lines_join, read_script, write_script,
+    Edit, Editor, Edits, first_line_len, named_are_written, physical_lines_join, read_script,
+    write_script,
 };
 use sudoers_tree::Policy;
 
@@ -176,6 +178,7 @@ fn edit_output(alloc: Global, script: &[u8], policy: &[u8]) -> Result<Vec<u8>, L
     ensures { MatchResult result (λ out. output_of_edit script.now policy.now ≡ Ok out.items)
         (λ fault. TellsLayer fault (output_of_edit script.now policy.now)) }
 {
+    named_are_written();
     let edits = read_script(alloc, script)?;
     let policy = Policy::read(alloc, policy)?;
     edited(alloc, edits.as_slice(), policy)
@@ -183,20 +186,24 @@ fn edit_output(alloc: Global, script: &[u8], policy: &[u8]) -> Result<Vec<u8>, L
 
 /// What comes of edits of a policy.
 fn edited(alloc: Global, edits: &[Edit], policy: Policy) -> Result<Vec<u8>, LayerFault>
+    requires { AreNamed edits.now }
     ensures { MatchResult result (λ out. edited_output edits.now (texts policy) ≡ Ok out.items)
         (λ fault. TellsLayer fault (edited_output edits.now (texts policy))) }
 {
     let mut editor = Editor::new(policy);
     editor.apply_all(edits)?;
     let inverse = editor.inverse()?;
+    named_are_written();
     output(alloc, &inverse, editor.policy())
 }
 
 /// A script, the mark and a policy.
 fn output(alloc: Global, inverse: &Edits, policy: &Policy) -> Result<Vec<u8>, LayerFault>
+    requires { AreNamed inverse.now }
     ensures { MatchResult result (λ out. output_text inverse.now (texts policy.now) ≡ Ok out.items)
         (λ fault. TellsLayer fault (output_text inverse.now (texts policy.now))) }
 {
+    named_are_written();
     let mut out = write_script(alloc, inverse.as_slice())?;
     out.extend_from_slice(MARK)?;
     out.extend_from_slice(policy.text()?.as_slice())?;

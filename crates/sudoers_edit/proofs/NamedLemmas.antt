@@ -1,0 +1,80 @@
+-- What takes named edits back is named, and named edits are written.
+use Rattle.std.proofs.Common.{◌≡◌, ℕ, ◌+◌, false, true, List, [], ◌∷◌, ◌++◌, length, refl, arith, inl, inr}
+use Rattle.std.specs.Prelude.{◌&&◌, nat_lt, Ok}
+use Rattle.std.specs.Result.{result_unwrap_or}
+use Rattle.std.specs.List.{prefix_len}
+use Rattle.std.proofs.lemmas.Bool.{and_right, le-ltb, cases_Bool, false≢true}
+use Rattle.sudoers_edit.specs.Editing.{removed, put_back, put_all_back, inv, after, inv_run}
+use Rattle.sudoers_edit.specs.Landing.{policy_of}
+use Rattle.sudoers_edit.specs.Pruning.{removals}
+use Rattle.sudoers_edit.specs.Named.{AreNamed, spelling_or_fault}
+use Rattle.sudoers_edit.specs.Script.{is_named, is_word, writing, AreSpellable}
+use Rattle.sudoers_edit.specs.ScriptReading.{reading}
+use Rattle.sudoers_edit.specs.declared.edit.Edit.{Edit}
+use Rattle.sudoers_edit.specs.declared.edit.Edit.TheVariants.{Insert, Delete, Move, AddMember, DropMember, AddDef, DropDef, Rename, EndLine, OpenEnd, Prune}
+use Rattle.sudoers_edit.specs.declared.pruning.Removal.{Removal}
+use Rattle.sudoers_edit.specs.declared.pruning.Removal.TheVariants as removal
+use Rattle.sudoers_edit.proofs.ScriptLemmas.{read_spelling}
+
+-- of two lists that are named the whole is
+named_append : (edits others : List Edit) → AreNamed edits → AreNamed others → AreNamed (edits ++ others)
+named_append [] others n m = m
+named_append (edit ∷ edits) others n m = (n.0, named_append edits others n.1 m)
+
+-- what is put in again has no names of its own
+named_removal : (one : Removal) (lines : List (List ℕ)) → is_named (put_back one lines) ≡ true
+named_removal (removal.Line at) lines = refl
+named_removal (removal.Def line at) lines = refl
+
+named_removals : (all : List Removal) (lines : List (List ℕ)) → AreNamed (put_all_back all lines)
+named_removals [] lines = tt
+named_removals (one ∷ more) lines =
+    let next : List (List ℕ) = result_unwrap_or (removed one lines) lines in
+    named_append (put_all_back more next) (put_back one lines ∷ []) (named_removals more next) (named_removal one lines, tt)
+
+-- both words of a renaming, the other way round
+both_words : (name fresh : List ℕ) → (is_word name && is_word fresh) ≡ true → (is_word fresh && is_word name) ≡ true
+both_words name fresh h =
+    elim (cases_Bool (is_word name)) [
+      | inl t ↦ let more = rw t at h in rw (t, more) refl
+      | inr f ↦ let none = rw f at h in absurd (false≢true none)
+    ]
+
+-- what takes a named edit back is named
+named_back : (edit : Edit) (lines : List (List ℕ)) → is_named edit ≡ true → AreNamed (inv edit lines)
+named_back (Insert at text) lines n = (refl, tt)
+named_back (Delete at) lines n = (refl, tt)
+named_back (Move from to) lines n = (refl, tt)
+named_back (AddMember kind name at splice) lines n = (n, tt)
+named_back (DropMember kind name at) lines n = (n, tt)
+named_back (AddDef line at splice) lines n = (refl, tt)
+named_back (DropDef line at) lines n = (refl, tt)
+named_back (Rename kind name fresh) lines n = (both_words name fresh n, tt)
+named_back EndLine lines n = (refl, tt)
+named_back OpenEnd lines n = (refl, tt)
+named_back Prune lines n = named_removals (removals (policy_of lines)) lines
+
+-- THE LAWS
+pub all_back : (edits : List Edit) (lines : List (List ℕ)) → AreNamed edits → AreNamed (inv_run edits lines)
+all_back [] lines n = tt
+all_back (edit ∷ edits) lines n =
+    named_append (inv_run edits (after edit lines)) (inv edit lines) (all_back edits (after edit lines) n.1) (named_back edit lines n.0)
+
+spellable_named : (edits : List Edit) → AreSpellable edits → AreNamed edits
+spellable_named [] s = tt
+spellable_named (edit ∷ edits) s = (s.0.1, spellable_named edits s.1)
+
+pub read_named : (text : List ℕ) (edits : List Edit) → reading text ≡ Ok edits → AreNamed edits
+read_named text edits e = let r = read_spelling text edits e in spellable_named edits r.2
+
+-- of named edits none has a name that is no word
+all_named : (edits : List Edit) → AreNamed edits → prefix_len is_named edits ≡ length edits
+all_named [] n = refl
+all_named (edit ∷ edits) n = let more = all_named edits n.1 in rw n.0 (omega (arith, more))
+
+pub named_written : (edits : List Edit) → AreNamed edits → writing edits ≡ spelling_or_fault edits
+named_written edits n =
+    let whole : prefix_len is_named edits ≡ length edits = all_named edits n in
+    let none : nat_lt (prefix_len is_named edits) (length edits) ≡ false = le-ltb (prefix_len is_named edits) (length edits) (omega (arith, whole)) in
+    let front : (nat_lt (prefix_len is_named edits) 65536 && nat_lt (prefix_len is_named edits) (length edits)) ≡ false = and_right (nat_lt (prefix_len is_named edits) 65536) (nat_lt (prefix_len is_named edits) (length edits)) none in
+    rw front refl
