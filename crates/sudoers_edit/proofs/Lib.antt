@@ -15,6 +15,7 @@ mod PlaceLemmas
 mod PolicyLemmas
 mod PruneLemmas
 mod ReadingLemmas
+mod RenameExamples
 mod RenameLemmas
 mod ReplaceLemmas
 mod ReplacedLemmas
