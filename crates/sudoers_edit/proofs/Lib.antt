@@ -13,9 +13,10 @@ mod OneSpelling
 mod PhysicalLemmas
 mod PlaceLemmas
 mod PolicyLemmas
+pub mod PruneExamples
 mod PruneLemmas
 mod ReadingLemmas
-mod RenameExamples
+pub mod RenameExamples
 mod RenameLemmas
 mod ReplaceLemmas
 mod ReplacedLemmas
