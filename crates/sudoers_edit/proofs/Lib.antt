@@ -14,8 +14,10 @@ mod OneSpelling
 mod PhysicalLemmas
 mod PlaceLemmas
 mod PolicyLemmas
+pub mod PruneExamples
 mod PruneLemmas
 mod ReadingLemmas
+pub mod RenameExamples
 mod RenameLemmas
 mod ReplaceLemmas
 mod ReplacedLemmas

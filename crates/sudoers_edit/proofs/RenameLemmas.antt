@@ -1,5 +1,5 @@
 -- An alias given another name, and the old one again.
-use Rattle.std.proofs.Common.{◌≡◌, ℕ, zero, suc, ◌+◌, ◌-◌, ◌≤◌, Bool, true, false, not, ◌||◌, ◌&&◌, List, [], ◌∷◌, ◌++◌, length, take, drop, Some, Result, Ok, Err, inl, inr, refl, sym, ap, ap₂, ◌∙◌, subst, arith, append_assoc}
+use Rattle.std.proofs.Common.{◌≡◌, ℕ, zero, suc, ◌+◌, ◌-◌, ◌≤◌, true, false, not, ◌||◌, List, [], ◌∷◌, ◌++◌, length, take, drop, Result, Ok, Err, inl, inr, refl, sym, ap, ap₂, ◌∙◌, arith, append_assoc}
 use Rattle.std.proofs.lemmas.List.{drop_all}
 use Rattle.std.proofs.lemmas.Slice.Eq.{bytes_eq-Decides}
 use Rattle.std.proofs.lemmas.Bool.{and_parts}
@@ -16,15 +16,13 @@ use Rattle.sudoers_tree.specs.Fault.{is_some}
 use Rattle.sudoers_tree.specs.Policy.{texts}
 use Rattle.sudoers_tree.specs.Reading.{read_of}
 use Rattle.sudoers_edit.specs.Alike.{are_alike}
-use Rattle.sudoers_edit.specs.declared.edit.Edit.{Edit}
 use Rattle.sudoers_edit.specs.declared.edit.Edit.TheVariants.{Rename}
 use Rattle.sudoers_edit.specs.declared.edit.EditFault.{EditFault}
-use Rattle.sudoers_edit.specs.declared.edit.EditFault.TheVariants.{NoAlias, BadName, NameTaken, TooLarge, NoMemory}
+use Rattle.sudoers_edit.specs.declared.edit.EditFault.TheVariants.{NoAlias, BadName, NameTaken, TooLarge}
 use Rattle.sudoers_edit.specs.Landing.{is_too_long, policy_or_refusal, policy_of}
 use Rattle.sudoers_edit.specs.Renaming.{put_at, renamed, no_way_back, if_lines, is_lines, is_taken, rename_once, if_restored, rename}
-use Rattle.sudoers_edit.specs.Editing.{Refuses, step, inv, run}
-use Rattle.sudoers_edit.specs.Leading.{IsLanded, Lands}
-use Rattle.sudoers_edit.specs.declared.landing.Landed.{Landed}
+use Rattle.sudoers_edit.specs.Editing.{Refuses, step}
+use Rattle.sudoers_edit.specs.Leading.{IsLanded}
 use Rattle.sudoers_edit.proofs.EditLemmas.{run_one}
 
 -- THE SAME LINES

@@ -3,7 +3,6 @@ use Rattle.std.specs.List.{list_any}
 use Rattle.std.specs.Option.{is_some as is_there}
 use Rattle.sudoers_text.specs.Line.{join}
 use Rattle.sudoers_text.specs.Word.{is_name, is_reserved}
-use Rattle.sudoers_tree.specs.declared.line.Line.{Line}
 use Rattle.sudoers_tree.specs.declared.place.Place.{Place}
 use Rattle.sudoers_tree.specs.Definition.{place_of}
 use Rattle.sudoers_tree.specs.Fault.{is_some}
@@ -11,7 +10,7 @@ use Rattle.sudoers_tree.specs.Policy.{texts}
 use Rattle.sudoers_edit.specs.declared.edit.EditFault.{EditFault}
 use Rattle.sudoers_edit.specs.Editing.{Refuses}
 use Rattle.sudoers_edit.specs.Landing.{is_too_long, policy_or_refusal}
-use Rattle.sudoers_edit.specs.Renaming.{is_taken, renamed, if_lines}
+use Rattle.sudoers_edit.specs.Renaming.{if_lines}
 use Rattle.sudoers_edit.proofs.RenameLemmas.{no_alias, bad_name, name_taken, line_too_long, renamed_by_lines}
 use Rattle.sudoers_edit.proofs.renaming.renamed_once.Goals as goal
 use Rattle.sudoers_edit.proofs.renaming.renamed_once.Goals.{then-not-is_name-via-then-not-is_name, then-not-is_name-via-else-not-is_name+then-is_reserved}

@@ -1,4 +1,4 @@
-use Rattle.std.proofs.Common.{◌≡◌, ◌∙◌, ◌+◌, ◌-◌, ◌++◌, ◌≤◌, List, ℕ, take, drop, length, slice_index_or, ap, ap₂, sym, arith}
+use Rattle.std.proofs.Common.{◌≡◌, ◌∙◌, ◌+◌, ◌-◌, ◌++◌, List, ℕ, take, drop, slice_index_or, ap, ap₂, sym, arith}
 use Rattle.std.proofs.lemmas.List.{drop_more}
 use Rattle.sudoers_edit.specs.Renaming.{put_at}
 use Rattle.sudoers_edit.proofs.RenameLemmas.{put_more}
