@@ -113,6 +113,7 @@ impl Editor {
         ensures taken { result ≡ Ok true → TakesLast self.old self.new }
         // Nothing is taken back exactly where there is nothing.
         ensures none { result ≡ Ok false → (self.old.journal ≡ []) × (self.new ≡ self.old) }
+        ensures empty { self.old.journal ≡ [] → result ≡ Ok false }
         ensures refused { IfErr result (λ fault. fault ≡ EditFault.NoMemory) }
         ensures unchanged { OnErr result (self.new ≡ self.old) }
         // What stands still leads back to the same lines.
