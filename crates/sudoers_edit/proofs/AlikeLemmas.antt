@@ -1,5 +1,5 @@
 -- Lists that are alike, in parts.
-use Rattle.std.proofs.Common.{◌≡◌, ℕ, zero, suc, ◌+◌, ◌-◌, ◌<◌, ◌≤◌, Bool, true, false, ◌&&◌, add-one, List, [], ◌∷◌, length, take, drop, remove, slice_index_or, refl, sym, ap, ◌∙◌, arith}
+use Rattle.std.proofs.Common.{◌≡◌, ℕ, zero, suc, ◌+◌, ◌<◌, ◌≤◌, Bool, true, false, ◌&&◌, add-one, List, [], ◌∷◌, length, take, drop, remove, refl, sym, ap, ◌∙◌, arith}
 use Rattle.sudoers_edit.specs.Alike.{are_alike}
 
 and_assoc : (a b c : Bool) → (a && (b && c)) ≡ ((a && b) && c)

@@ -1,28 +1,23 @@
 -- How one more in a line is taken out again, and how one that was taken out comes back.
-use Rattle.std.proofs.Common.{◌≡◌, ℕ, zero, suc, ◌+◌, ◌<◌, ◌≤◌, Bool, true, false, ◌&&◌, List, [], ◌∷◌, length, Some, None, Option, Result, Ok, Err, refl, sym, ap, subst, ◌∙◌, arith}
+use Rattle.std.proofs.Common.{◌≡◌, ℕ, ◌+◌, ◌≤◌, Bool, true, false, ◌&&◌, List, length, Some, Result, Ok, Err, refl, arith}
 use Rattle.std.proofs.lemmas.Bool.{le-ltb, lt-leb, le-leb, ne_eqb}
-use Rattle.std.proofs.lemmas.List.{length-map}
-use Rattle.std.specs.Prelude.{slice_get, nat_lt, nat_le, ◌==◌, not}
-use Rattle.sudoers_text.specs.Whole.{is_logical_line}
+use Rattle.std.specs.Prelude.{slice_get}
 use Rattle.sudoers_line.specs.declared.node.Def.{Def}
 use Rattle.sudoers_line.specs.declared.node.Kind.{Kind}
-use Rattle.sudoers_line.specs.declared.node.Member.{Member}
 use Rattle.sudoers_line.specs.declared.node.Node.{Node}
 use Rattle.sudoers_line.specs.declared.node.Node.TheVariants as node
 use Rattle.sudoers_tree.specs.declared.line.Line.{Line}
-use Rattle.sudoers_tree.specs.Definition.{is_kind}
 use Rattle.sudoers_tree.specs.Policy.{texts}
 use Rattle.sudoers_tree.specs.Single.{said}
-use Rattle.sudoers_edit.specs.Alike.{are_alike, is_same_def}
-use Rattle.sudoers_edit.specs.Splice.{Extent, def_extents, member_extents, extents_in, changed_at, less_member, seam, owned_stop, owns_exactly, slice, line_without, line_with, is_member_more, is_def_more}
-use Rattle.sudoers_edit.specs.SpliceEdits.{Lines, lie_in, place_to_add, place_to_drop, is_one_more, put_in, cut_out, defs_of, with_defs, add_def, drop_def}
+use Rattle.sudoers_edit.specs.Splice.{Extent, def_extents, seam, owned_stop, owns_exactly, line_without, line_with, is_def_more}
+use Rattle.sudoers_edit.specs.SpliceEdits.{Lines, place_to_add, place_to_drop, is_one_more, put_in, cut_out, defs_of, with_defs, add_def, drop_def}
 use Rattle.sudoers_edit.specs.declared.edit.EditFault.{EditFault}
 use Rattle.sudoers_edit.specs.declared.one_more.Among.{Among}
 use Rattle.sudoers_edit.specs.declared.one_more.Among.TheVariants as among
 use Rattle.sudoers_text.specs.Line.{join}
 use Rattle.sudoers_tree.specs.Reading.{read_of}
 use Rattle.sudoers_edit.specs.Landing.{changed_or_refusal, policy_of}
-use Rattle.sudoers_edit.proofs.SpliceLemmas.{is_at_true, seam_within, stop_within, without_with, with_without, size_with, size_without, size_slice}
+use Rattle.sudoers_edit.proofs.SpliceLemmas.{is_at_true, seam_within, stop_within}
 
 -- TRUTH
 

@@ -10,15 +10,13 @@ use Rattle.sudoers_text.specs.Cut.{StandAlone}
 use Rattle.sudoers_edit.specs.declared.edit.Edit.{Edit}
 use Rattle.sudoers_edit.specs.declared.edit.Edit.TheVariants.{Insert, Delete, Move}
 use Rattle.sudoers_edit.specs.declared.edit.EditFault.{EditFault}
-use Rattle.sudoers_edit.specs.declared.edit.EditFault.TheVariants.{NoLine, NotOneLine, OpenLine, EndAsIs, TooLarge, NotPolicy, NoMemory}
 use Rattle.sudoers_edit.specs.Landing.{lines_or_refusal, policy_or_refusal, where_policy}
 use Rattle.sudoers_edit.specs.LineEdits.{moved}
 use Rattle.sudoers_edit.specs.Editing.{Refuses, step, inv, run, IsUndoable, first_lines}
 use Rattle.sudoers_tree.specs.declared.line.Line.{Line}
 use Rattle.sudoers_edit.specs.OneLine.{is_one_line, IsAlone, IsSound}
 use Rattle.sudoers_tree.specs.Policy.{texts}
-use Rattle.sudoers_edit.specs.Leading.{Leads, IsLanded, Lands}
-use Rattle.sudoers_edit.specs.declared.landing.Landed.{Landed}
+use Rattle.sudoers_edit.specs.Leading.{Leads, IsLanded}
 use Rattle.sudoers_edit.specs.declared.editor.Entry.{Entry}
 
 or-false : (x : Bool) → (x || false) ≡ x

@@ -1,5 +1,5 @@
 -- Members put into the list of an alias and taken out of it.
-use Rattle.std.proofs.Common.{◌≡◌, ℕ, zero, suc, ◌+◌, ◌<◌, ◌≤◌, true, List, [], ◌∷◌, length, Some, None, Option, Result, Ok, Err, refl, sym, ap, subst, ◌∙◌, arith}
+use Rattle.std.proofs.Common.{◌≡◌, ℕ, zero, suc, ◌+◌, true, List, [], ◌∷◌, length, Some, None, Option, Result, Err, refl, sym, ap, ◌∙◌, arith}
 use Rattle.std.specs.Prelude.{slice_get}
 use Rattle.sudoers_line.specs.declared.node.Def.{Def}
 use Rattle.sudoers_line.specs.declared.node.Kind.{Kind}
@@ -7,22 +7,20 @@ use Rattle.sudoers_line.specs.declared.node.Node.{Node}
 use Rattle.sudoers_line.specs.declared.node.Node.TheVariants as node
 use Rattle.sudoers_tree.specs.declared.line.Line.{Line}
 use Rattle.sudoers_tree.specs.declared.place.Place.{Place}
-use Rattle.sudoers_tree.specs.Definition.{is_kind, place_of}
+use Rattle.sudoers_tree.specs.Definition.{place_of}
 use Rattle.sudoers_tree.specs.Policy.{texts}
 use Rattle.sudoers_edit.specs.declared.edit.Edit.TheVariants.{AddMember, DropMember}
 use Rattle.sudoers_edit.specs.declared.edit.EditFault.{EditFault}
 use Rattle.sudoers_edit.specs.declared.one_more.Among.TheVariants as among
-use Rattle.sudoers_edit.specs.Alike.{are_alike, is_same_def}
-use Rattle.sudoers_edit.specs.Splice.{Extent, member_extents, extents_in, changed_at, less_member, seam, owned_stop, slice, is_member_more}
+use Rattle.sudoers_edit.specs.Splice.{member_extents, extents_in, seam, owned_stop, slice, is_member_more}
 use Rattle.sudoers_edit.specs.SpliceEdits.{Lines, defs_of, with_def, place_to_add, place_to_drop, add_member, drop_member, put_in, cut_out, owned_member}
 use Rattle.sudoers_edit.specs.Landing.{changed_or_refusal}
-use Rattle.sudoers_tree.specs.Changed.{replaced}
-use Rattle.sudoers_edit.specs.Editing.{step, run}
+use Rattle.sudoers_edit.specs.Editing.{run}
 use Rattle.sudoers_edit.specs.Leading.{IsKnown, IsDefAt, PutIn, CutOut, Replaces}
 use Rattle.sudoers_edit.proofs.EditLemmas.{run_one}
 use Rattle.sudoers_edit.proofs.BackLemmas.{both, Owns, owns, adds, drops, def_of_policy}
 use Rattle.sudoers_edit.proofs.PlaceLemmas.{SameNames, changed_names, names_sym, kind_same, place_kept}
-use Rattle.sudoers_edit.proofs.ReplacedLemmas.{Swapped, line_put}
+use Rattle.sudoers_edit.proofs.ReplacedLemmas.{Swapped}
 use Rattle.sudoers_edit.proofs.SpliceLemmas.{seam_within}
 use Rattle.sudoers_edit.proofs.WayBackLemmas.{said_logical, swaps, put_back, cut_back}
 

@@ -1,5 +1,5 @@
 -- What takes named edits back is named, and named edits are written.
-use Rattle.std.proofs.Common.{◌≡◌, ℕ, ◌+◌, false, true, List, [], ◌∷◌, ◌++◌, length, refl, arith, inl, inr}
+use Rattle.std.proofs.Common.{◌≡◌, ℕ, false, true, List, [], ◌∷◌, ◌++◌, length, refl, arith, inl, inr}
 use Rattle.std.specs.Prelude.{◌&&◌, nat_lt, Ok}
 use Rattle.std.specs.Result.{result_unwrap_or}
 use Rattle.std.specs.List.{prefix_len}

@@ -1,10 +1,9 @@
 -- What Prune takes out, and that it comes back.
-use Rattle.std.proofs.Common.{◌≡◌, ℕ, zero, suc, ◌+◌, ◌<◌, ◌≤◌, Bool, true, false, List, [], ◌∷◌, ◌++◌, length, map, take, drop, reverse, Some, Result, Ok, Err, inl, inr, refl, sym, ap, ap₂, ◌∙◌, arith, eq-eqb, ne_eqb, option_and_then, append_assoc}
+use Rattle.std.proofs.Common.{◌≡◌, ℕ, suc, ◌+◌, ◌<◌, ◌≤◌, Bool, true, false, List, [], ◌∷◌, ◌++◌, length, map, take, drop, reverse, Some, Ok, inl, inr, refl, sym, ap, ap₂, ◌∙◌, arith, eq-eqb, ne_eqb, option_and_then, append_assoc}
 use Rattle.std.proofs.lemmas.List.{map-append, reverse-append, length-append, length-map, take_at, drop_at}
 use Rattle.std.proofs.lemmas.List.Elements.{filter-append}
 use Rattle.std.specs.List.{AllByRecursion, filter}
 use Rattle.std.specs.Prelude.{◌==◌, if◌then◌else◌}
-use Rattle.std.specs.Result.{result_unwrap_or}
 use Rattle.sudoers_text.specs.Line.{join}
 use Rattle.sudoers_text.specs.Cut.{cut_of, StandAlone}
 use Rattle.sudoers_text.specs.Fault.{line_limit}
@@ -24,11 +23,9 @@ use Rattle.sudoers_edit.specs.declared.edit.Edit.TheVariants.{Prune}
 use Rattle.sudoers_edit.specs.declared.edit.EditFault.{EditFault}
 use Rattle.sudoers_edit.specs.declared.pruning.Removal.{Removal}
 use Rattle.sudoers_edit.specs.declared.pruning.Removal.TheVariants as removal
-use Rattle.sudoers_edit.specs.OneLine.{IsSound}
-use Rattle.sudoers_edit.specs.Landing.{policy_of}
 use Rattle.sudoers_edit.specs.Pruning.{edit_of, removals_of, removals_since, removals}
 use Rattle.sudoers_edit.specs.PruneOrder.{front_count, removals_at, removals_along}
-use Rattle.sudoers_edit.specs.Editing.{Refuses, removed_all, put_all_back, put_back, step, inv, run}
+use Rattle.sudoers_edit.specs.Editing.{Refuses, removed_all, put_all_back, step, inv, run}
 use Rattle.sudoers_edit.proofs.HistoryLemmas.{run-append}
 
 -- LISTS

@@ -17,7 +17,7 @@ use Rattle.sudoers_line.specs.Pattern.{pattern_of}
 use Rattle.sudoers_line.specs.Piece.{is_mark, is_the_word, is_alias_name, kind_word, include_word, option_name, tag_of, digest_kind, operator_of, scope_sign}
 use Rattle.sudoers_tree.specs.Fault.{name_fault}
 use Rattle.sudoers_tree.specs.Reading.{line_behind, read_of}
-use Rattle.sudoers_line.specs.declared.node.Kind.TheVariants.{User, Host, Cmnd}
+use Rattle.sudoers_line.specs.declared.node.Kind.TheVariants.{Cmnd}
 use Rattle.sudoers_edit.specs.declared.edit.EditFault.TheVariants.{NoAlias, BadName, NameTaken}
 use Rattle.sudoers_edit.specs.Landing.{policy_of}
 use Rattle.sudoers_edit.specs.Renaming.{rename_once, rename}

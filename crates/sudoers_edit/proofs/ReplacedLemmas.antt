@@ -1,9 +1,9 @@
 -- Lines of which one is another.
-use Rattle.std.proofs.Common.{◌≡◌, ℕ, zero, suc, ◌+◌, ◌-◌, ◌<◌, ◌≤◌, ◌⊎◌, inl, inr, Bool, true, false, not, ◌||◌, List, [], ◌∷◌, ◌++◌, length, take, drop, Some, Result, Ok, refl, sym, ap, ap₂, subst, ◌∙◌, arith, append_assoc, add-one}
+use Rattle.std.proofs.Common.{◌≡◌, ℕ, zero, suc, ◌-◌, ◌<◌, ◌≤◌, ◌⊎◌, inl, inr, Bool, true, false, not, ◌||◌, List, [], ◌∷◌, length, Some, Ok, refl, sym, ap, ap₂, ◌∙◌, arith}
 use Rattle.std.proofs.lemmas.Bool.{le-ltb, or_parts as or_false}
 use Rattle.std.proofs.lemmas.Bool.Decides.{leb_tells}
 use Rattle.std.specs.List.{AllByRecursion}
-use Rattle.std.specs.Prelude.{slice_get, map, nat_lt}
+use Rattle.std.specs.Prelude.{slice_get, nat_lt}
 use Rattle.sudoers_text.specs.Line.{join}
 use Rattle.sudoers_text.specs.Ended.{has_unended_inside, ends_in_lf}
 use Rattle.sudoers_text.specs.Cut.{StandAlone}
@@ -14,7 +14,7 @@ use Rattle.sudoers_tree.specs.Policy.{texts}
 use Rattle.sudoers_tree.specs.Reading.{read_of}
 use Rattle.sudoers_tree.specs.Single.{said}
 use Rattle.sudoers_edit.specs.OneLine.{IsAlone, IsSound}
-use Rattle.sudoers_edit.specs.Landing.{is_too_long, changed_or_refusal, lines_or_refusal, policy_of}
+use Rattle.sudoers_edit.specs.Landing.{changed_or_refusal, lines_or_refusal, policy_of}
 use Rattle.sudoers_tree.specs.Changed.{replaced}
 use Rattle.sudoers_edit.proofs.EditLemmas.{settled}
 

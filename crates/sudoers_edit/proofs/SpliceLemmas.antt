@@ -1,9 +1,9 @@
 -- Bytes that are put into a line and taken out of it.
-use Rattle.std.proofs.Common.{◌≡◌, ℕ, zero, suc, ◌+◌, ◌-◌, ◌<◌, ◌≤◌, ◌&&◌, Bool, true, false, List, [], ◌∷◌, ◌++◌, length, take, drop, refl, sym, ap, ap₂, ◌∙◌, arith, append_assoc}
+use Rattle.std.proofs.Common.{◌≡◌, ℕ, zero, suc, ◌+◌, ◌-◌, ◌<◌, ◌≤◌, true, List, [], ◌∷◌, ◌++◌, length, take, drop, refl, sym, ap, ◌∙◌, arith}
 use Rattle.std.proofs.Math.Dec.{eqb-suc-zero}
 use Rattle.std.proofs.lemmas.Bool.{eqb-true}
 use Rattle.std.proofs.lemmas.List.{length-append, length-drop, length-take-le}
-use Rattle.std.specs.Prelude.{slice_get, Some, None, Option, option_map, map, nat_le, ◌==◌, if◌then◌else◌}
+use Rattle.std.specs.Prelude.{slice_get, Some, None, Option, option_map, ◌==◌, if◌then◌else◌}
 use Rattle.sudoers_edit.specs.Splice.{Extent, seam, owned_stop, slice, line_without, line_with, is_at}
 
 drop_front : (s line : List ℕ) (stop : ℕ) → stop ≡ length s → drop stop (s ++ line) ≡ line

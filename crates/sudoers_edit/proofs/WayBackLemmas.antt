@@ -1,5 +1,5 @@
 -- The way back of one more and of one less in a line, whatever it stands among.
-use Rattle.std.proofs.Common.{◌≡◌, ℕ, zero, suc, ◌+◌, ◌<◌, ◌≤◌, Bool, true, false, List, [], ◌∷◌, length, Some, None, Option, Result, Ok, Err, refl, sym, ap, subst, ◌∙◌, arith, if◌then◌else◌}
+use Rattle.std.proofs.Common.{◌≡◌, ℕ, zero, suc, ◌+◌, ◌≤◌, Bool, true, false, List, [], ◌∷◌, length, Some, None, Option, Ok, refl, sym, ap, subst, ◌∙◌, arith, if◌then◌else◌}
 use Rattle.std.specs.Prelude.{slice_get}
 use Rattle.std.specs.Result.{result_ok}
 use Rattle.sudoers_text.specs.Cut.{StandAlone}
@@ -13,8 +13,7 @@ use Rattle.sudoers_tree.specs.Reading.{read_of}
 use Rattle.sudoers_tree.specs.Single.{said}
 use Rattle.sudoers_edit.specs.OneLine.{IsAlone}
 use Rattle.sudoers_edit.specs.Splice.{slice, line_without, line_with}
-use Rattle.sudoers_edit.specs.SpliceEdits.{Lines, is_one_more, put_in, cut_out}
-use Rattle.sudoers_edit.specs.declared.edit.EditFault.{EditFault}
+use Rattle.sudoers_edit.specs.SpliceEdits.{is_one_more, put_in, cut_out}
 use Rattle.sudoers_edit.specs.declared.one_more.Among.{Among}
 use Rattle.sudoers_edit.specs.Landing.{changed_or_refusal}
 use Rattle.sudoers_tree.specs.Changed.{replaced}

@@ -1,7 +1,6 @@
 -- Members and definitions that say the same, wherever in their lines they stand.
-use Rattle.std.specs.Prelude.{ℕ, Bool, true, false, ◌&&◌, ◌==◌, List, [], ◌∷◌}
+use Rattle.std.specs.Prelude.{Bool, true, false, ◌&&◌, ◌==◌, List, [], ◌∷◌}
 use Rattle.std.specs.Str.{bytes_eq}
-use Rattle.sudoers_line.specs.declared.node.Address.{Address}
 use Rattle.sudoers_line.specs.declared.node.Args.{Args}
 use Rattle.sudoers_line.specs.declared.node.Args.TheVariants as args
 use Rattle.sudoers_line.specs.declared.node.Atom.{Atom}

@@ -1,5 +1,5 @@
 -- Edits of whole lines, and of the end of the last.
-use Rattle.std.specs.Prelude.{ℕ, Bool, false, ◌&&◌, ◌==◌, nat_lt, if◌then◌else◌, List, [], ◌∷◌, ◌++◌, length, insert, remove, slice_index_or, Option, Some, None, Result, Ok, Err}
+use Rattle.std.specs.Prelude.{ℕ, Bool, false, ◌&&◌, ◌==◌, nat_lt, if◌then◌else◌, List, [], ◌∷◌, ◌++◌, length, insert, remove, slice_index_or, Option, Some, None, Result, Err}
 use Rattle.std.specs.Option.{option_map}
 use Rattle.sudoers_text.specs.Ended.{ends_in_lf}
 use Rattle.sudoers_edit.specs.OneLine.{is_one_line}

@@ -1,12 +1,12 @@
 -- Which bytes of its line a member or a definition owns.
-use Rattle.std.specs.Prelude.{ℕ, zero, suc, ◌-◌, Bool, false, ◌&&◌, ◌==◌, nat_le, if◌then◌else◌, List, [], ◌∷◌, ◌++◌, length, take, drop, remove, map, Option, Some, None, slice_get}
+use Rattle.std.specs.Prelude.{ℕ, zero, suc, ◌-◌, Bool, false, ◌&&◌, ◌==◌, if◌then◌else◌, List, [], ◌∷◌, ◌++◌, take, drop, remove, map, Option, Some, None, slice_get}
 use Rattle.std.specs.Option.{option_map}
 use Rattle.sudoers_line.specs.declared.node.Def.{Def}
 use Rattle.sudoers_line.specs.declared.node.Member.{Member}
 use Rattle.sudoers_line.specs.declared.node.Node.{Node}
 use Rattle.sudoers_line.specs.declared.node.Node.TheVariants as node
 use Rattle.sudoers_tree.specs.Definition.{is_kind}
-use Rattle.sudoers_edit.specs.Alike.{are_alike, is_same_member, is_same_def}
+use Rattle.sudoers_edit.specs.Alike.{are_alike, is_same_def}
 
 -- where something stands in its line: its first byte, and the byte behind its last
 abbrev pub Extent : Type 0

@@ -21,7 +21,9 @@ use crate::splice::{line_with, line_without, place_to_add, place_to_drop};
 use crate::text::Text;
 use std::alloc::{AllocError, Global};
 use sudoers_text::{LINE_LIMIT, ends_in_lf, line_alone_is_whole, line_alone_size};
-use sudoers_tree::{Def, Kind, Line, Node, Place, Policy, lines_are_said, read_line, text_replaced};
+use sudoers_tree::{
+    Def, Kind, Line, Node, Place, Policy, lines_are_said, read_line, text_replaced,
+};
 
 /// A definition put into a line.
 pub fn def_added(policy: &Policy, line: u32, at: u32, splice: &[u8]) -> Result<Landed, EditFault>

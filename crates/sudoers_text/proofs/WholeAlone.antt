@@ -1,11 +1,11 @@
 -- A line alone is one logical line.
-use Rattle.std.proofs.Common.{◌≡◌, ℕ, ◌<◌, ◌≤◌, Bool, true, false, not, List, [], ◌∷◌, ◌++◌, length, Some, Result, Ok, refl, sym, ap, subst, ◌∙◌, arith, append-nil}
+use Rattle.std.proofs.Common.{◌≡◌, ℕ, ◌≤◌, Bool, true, false, not, List, [], ◌∷◌, ◌++◌, length, refl, sym, ap, subst, ◌∙◌, arith, append-nil}
 use Rattle.std.specs.Prelude.{slice_get}
 use Rattle.std.proofs.lemmas.Bool.{or_parts}
 use Rattle.std.specs.List.{AllByRecursion}
 use Rattle.sudoers_text.specs.Ended.{ends_in_lf, has_unended_inside}
 use Rattle.sudoers_text.specs.Line.{join, Cuts, IsOpen, IsLine, AreLines}
-use Rattle.sudoers_text.specs.Fault.{IsCut, IsLong, EndsOpen, StandsIn, IsOutcome, text_limit, line_limit}
+use Rattle.sudoers_text.specs.Fault.{IsCut, StandsIn, line_limit}
 use Rattle.sudoers_text.specs.Whole.{IsLogicalLine}
 use Rattle.sudoers_text.specs.declared.fault.TextFault.{TextFault}
 use Rattle.sudoers_text.specs.declared.fault.TextFault.TheVariants.{TooLarge, LineTooLong, Nul, OpenContinuation, NoMemory}

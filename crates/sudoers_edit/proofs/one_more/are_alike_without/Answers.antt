@@ -1,4 +1,4 @@
-use Rattle.std.proofs.Common.{◌≡◌, ◌∙◌, ap, ap₂, drop, take, List}
+use Rattle.std.proofs.Common.{◌∙◌, ap₂}
 use Rattle.sudoers_edit.specs.Alike.{are_alike}
 use Rattle.sudoers_edit.proofs.AlikeLemmas.{without_two}
 use Rattle.sudoers_edit.proofs.one_more.are_alike_without.Goals as goal

@@ -1,4 +1,4 @@
-use Rattle.std.proofs.Common.{◌≡◌, ◌+◌, ◌≤◌, drop, length}
+use Rattle.std.proofs.Common.{◌≡◌, ◌+◌, drop}
 use Rattle.sudoers_edit.specs.PruneOrder.{front_count}
 use Rattle.sudoers_edit.proofs.pruning.count_in_front.Given as goal
 

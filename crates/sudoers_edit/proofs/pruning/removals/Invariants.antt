@@ -1,4 +1,4 @@
-use Rattle.std.proofs.Common.{◌≡◌, ◌<◌, ◌++◌, drop, ℕ}
+use Rattle.std.proofs.Common.{◌≡◌, ◌<◌, ◌++◌, drop}
 use Rattle.std.specs.List.{All}
 use Rattle.std.specs.Prelude.{◌^◌}
 use Rattle.sudoers_line.specs.declared.node.Kind.{Kind}

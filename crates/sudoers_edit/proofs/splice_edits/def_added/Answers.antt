@@ -1,4 +1,4 @@
-use Rattle.std.proofs.Common.{◌≡◌, ◌∙◌, ◌<◌, ◌∷◌, [], inr, ap, sym, subst, List, ℕ, length}
+use Rattle.std.proofs.Common.{◌∙◌, ◌∷◌, [], inr, ap, sym, subst, List, ℕ}
 use Rattle.std.proofs.lemmas.Option.{slice_get_within}
 use Rattle.sudoers_tree.specs.declared.line.Line.{Line}
 use Rattle.sudoers_tree.specs.Policy.{texts}

@@ -1,4 +1,4 @@
-use Rattle.std.proofs.Common.{◌≡◌, ◌∙◌, ◌<◌, ◌≤◌, suc, length, inl, inr, sym, arith}
+use Rattle.std.proofs.Common.{◌∙◌, ◌<◌, length, inl, sym, arith}
 use Rattle.sudoers_tree.specs.Policy.{texts}
 use Rattle.sudoers_edit.proofs.PolicyLemmas.{count_texts}
 use Rattle.sudoers_edit.proofs.ReplacedLemmas.{ended_replaced, open_or_last}

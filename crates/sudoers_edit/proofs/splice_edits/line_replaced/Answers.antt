@@ -1,8 +1,8 @@
-use Rattle.std.proofs.Common.{◌≡◌, ◌∙◌, inl, inr, sym, ap}
+use Rattle.std.proofs.Common.{◌∙◌, inr, sym, ap}
 use Rattle.sudoers_text.specs.Line.{join}
 use Rattle.sudoers_tree.specs.Policy.{texts}
 use Rattle.sudoers_tree.specs.Changed.{replaced}
-use Rattle.sudoers_edit.proofs.ReplaceLemmas.{too_long, left_open, replace_leads}
+use Rattle.sudoers_edit.proofs.ReplaceLemmas.{left_open, replace_leads}
 use Rattle.sudoers_edit.proofs.splice_edits.line_replaced.Goals as goal
 
 pub returns-then-leaves_open : goal.returns-then-leaves_open

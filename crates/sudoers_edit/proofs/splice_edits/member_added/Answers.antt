@@ -1,6 +1,5 @@
-use Rattle.std.proofs.Common.{◌≡◌, ◌∙◌, ◌<◌, ◌∷◌, [], inr, ap, sym, subst, List, ℕ, length, Result}
+use Rattle.std.proofs.Common.{◌≡◌, ◌∙◌, ◌∷◌, [], inr, ap, sym, subst, List, ℕ, Result}
 use Rattle.std.proofs.lemmas.Option.{slice_get_within}
-use Rattle.sudoers_line.specs.declared.node.Def.{Def}
 use Rattle.sudoers_line.specs.declared.node.Kind.{Kind}
 use Rattle.sudoers_tree.specs.declared.line.Line.{Line}
 use Rattle.sudoers_tree.specs.declared.place.Place.{Place}

@@ -1,4 +1,4 @@
-use Rattle.std.proofs.Common.{◌≡◌, ◌∙◌, ap, ap₂}
+use Rattle.std.proofs.Common.{◌∙◌, ap₂}
 use Rattle.sudoers_edit.specs.Alike.{is_same_def, are_alike}
 use Rattle.sudoers_edit.specs.Splice.{less_member}
 use Rattle.sudoers_edit.proofs.ChangedLemmas.{changed_three, changed_past_more, changed_past_less}

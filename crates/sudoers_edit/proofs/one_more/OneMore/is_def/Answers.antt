@@ -1,4 +1,4 @@
-use Rattle.std.proofs.Common.{◌≡◌, ◌∙◌, ap, ap₂, remove}
+use Rattle.std.proofs.Common.{◌∙◌, ap₂, remove}
 use Rattle.sudoers_edit.specs.Alike.{is_same_def, are_alike}
 use Rattle.sudoers_edit.specs.Splice.{def_extents, owns_exactly}
 use Rattle.sudoers_edit.proofs.MoreLemmas.{def_more}
