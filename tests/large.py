@@ -13,6 +13,7 @@ LINE_LIMIT = 65_536
 EDIT_LIMIT = 65_536
 ALIAS_LIMIT = 4_096
 PRUNED = 256
+PRUNED_LINES = 1_024
 
 MARK = b"%%\n"
 SMALL = b"# a\n"
@@ -827,12 +828,15 @@ def drop_behind_the_last_of_very_many_members():
 
 # ---- what prune takes out ----------------------------------------------------
 
-UNUSED_LINES = b"".join(b"insert %d\n|User_Alias A%d = ALL\n" % (n, n) for n in range(1, ALIAS_LIMIT + 1))
+def put_in_again(policy):
+    """A script that inserts each line of a policy."""
+    return b"".join(b"insert %d\n|%s" % (n, line) for n, line in enumerate(policy.splitlines(keepends=True), 1))
 
 
 @case_of_prune
-def prune_of_as_many_definitions_as_allowed():
-    return accepted(b"prune\n", definitions(b"User_Alias", ALIAS_LIMIT), UNUSED_LINES, b"")
+def prune_of_very_many_lines_of_definitions():
+    policy = definitions(b"User_Alias", PRUNED_LINES)
+    return accepted(b"prune\n", policy, put_in_again(policy), b"")
 
 
 @case_of_prune
@@ -842,10 +846,9 @@ def prune_where_as_many_definitions_as_allowed_are_used():
 
 
 @case_of_prune
-def prune_of_a_chain_of_as_many_aliases_as_allowed_that_is_not_used():
-    policy = chain(b"Cmnd_Alias", ALIAS_LIMIT)
-    lines = policy.splitlines(keepends=True)
-    return accepted(b"prune\n", policy, b"".join(b"insert %d\n|%s" % (n, line) for n, line in enumerate(lines, 1)), b"")
+def prune_of_a_long_chain_that_is_not_used():
+    policy = chain(b"Cmnd_Alias", PRUNED_LINES)
+    return accepted(b"prune\n", policy, put_in_again(policy), b"")
 
 
 @case_of_prune
