@@ -92,6 +92,26 @@ def one_edit(lines):
     return b"insert %d\n|# one more line\n" % (len(lines) // 2)
 
 
+def edits_by_kind(lines):
+    """A script for each kind of edit, with its name: of each one edit, but that what DropDef, EndLine and Prune need is made first."""
+    half = len(lines) // 2
+    team = next(n for n, line in enumerate(lines, 1) if line.startswith(b"User_Alias TEAM1 "))
+    return (
+        ("a line inserted", one_edit(lines)),
+        ("a line deleted", b"delete %d\n" % half),
+        ("a line moved", b"move %d %d\n" % (half, half // 2)),
+        ("a member added", b"add user TEAM1 2\n>, zed\n"),
+        ("a member dropped", b"drop user TEAM1 2\n"),
+        ("a definition added", b"adddef %d 2\n> : ZED = zed\n" % team),
+        ("a definition added and dropped", b"adddef %d 2\n> : ZED = zed\ndropdef %d 2\n" % (team, team)),
+        ("a rename", b"rename user TEAM1 CREW1\n"),
+        ("the end opened", b"openend\n"),
+        ("the end opened and closed", b"openend\nendline\n"),
+        ("a prune of nothing", b"prune\n"),
+        ("an alias inserted and pruned", b"insert 1\n|User_Alias ZED = zed\nprune\n"),
+    )
+
+
 def spread_edits(lines, count):
     """`count` edits all over the text: a line deleted and a comment in its place, by turns."""
     script = []
