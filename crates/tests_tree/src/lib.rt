@@ -2,6 +2,8 @@
 #![tactic(auto)]
 
 #[cfg(test)]
+mod changed;
+#[cfg(test)]
 mod definitions;
 #[cfg(test)]
 mod duplicates;
