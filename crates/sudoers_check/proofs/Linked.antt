@@ -33,11 +33,6 @@ at_has [] i x e = absurd cc
 at_has (y ∷ ys) zero x e = inl (some_is y x e)
 at_has (y ∷ ys) (suc n) x e = inr (at_has ys n x e)
 
-pub within_at : {X : Type 0} (xs : List X) (i : ℕ) → i < length xs → (x : X) × (slice_get xs i ≡ Some x)
-within_at [] i l = absurd (omega arith)
-within_at (y ∷ ys) zero l = (y, refl)
-within_at (y ∷ ys) (suc n) l = within_at ys n (omega (arith, l))
-
 -- the definition with the number of a name is one of that name
 pub number_at : (k : Kind) (name : List ℕ) (ds : List Definition) (i : ℕ) (d : Definition) → number_of k name ds ≡ Some i → slice_get ds i ≡ Some d → defines k name d ≡ true
 number_at k name [] i d e at = absurd cc

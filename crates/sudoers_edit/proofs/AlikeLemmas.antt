@@ -2,7 +2,7 @@
 use Rattle.std.proofs.Common.{◌≡◌, ℕ, zero, suc, ◌+◌, ◌<◌, ◌≤◌, Bool, true, false, ◌&&◌, add-one, List, [], ◌∷◌, length, take, drop, remove, refl, sym, ap, ◌∙◌, arith}
 use Rattle.sudoers_edit.specs.Alike.{are_alike}
 
-and_assoc : (a b c : Bool) → (a && (b && c)) ≡ ((a && b) && c)
+pub and_assoc : (a b c : Bool) → (a && (b && c)) ≡ ((a && b) && c)
 and_assoc true b c = refl
 and_assoc false b c = refl
 

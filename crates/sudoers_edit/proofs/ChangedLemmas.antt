@@ -4,10 +4,7 @@ use Rattle.std.specs.Prelude.{slice_get, Some}
 use Rattle.sudoers_line.specs.declared.node.Def.{Def}
 use Rattle.sudoers_edit.specs.Alike.{are_alike}
 use Rattle.sudoers_edit.specs.Splice.{changed_at}
-
-and_assoc : (a b c : Bool) → (a && (b && c)) ≡ ((a && b) && c)
-and_assoc true b c = refl
-and_assoc false b c = refl
+use Rattle.sudoers_edit.proofs.AlikeLemmas.{and_assoc}
 
 -- a change past the end of either list is not seen
 pub changed_past_more : (alike : Def → Def → Bool) (change : Def → Def) (xs ys : List Def) (at : ℕ) → length xs ≤ at

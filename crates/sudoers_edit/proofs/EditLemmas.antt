@@ -25,9 +25,6 @@ or-false false = refl
 
 -- OPEN LINES
 
-open_cons : (l k : List ℕ) (ks : List (List ℕ)) → has_unended_inside (l ∷ k ∷ ks) ≡ (not (ends_in_lf l) || has_unended_inside (k ∷ ks))
-open_cons l k ks = refl
-
 open_tail : (l : List ℕ) (ls : List (List ℕ)) → has_unended_inside (l ∷ ls) ≡ false → has_unended_inside ls ≡ false
 open_tail l [] h = refl
 open_tail l (k ∷ ks) h = (or_false _ _ h).1
@@ -176,10 +173,6 @@ step_move ls from to l k = rw (lt-ltb from (length ls) l, lt-ltb to (length ls) 
 pub by_text : (ls : List (List ℕ)) → has_unended_inside ls ≡ false → lines_or_refusal ls ≡ where_policy ls (policy_or_refusal (join ls))
 by_text ls ended = rw ended refl
 
-pub refuses_lines : (f : EditFault) (ls : List (List ℕ)) (r : Result (List Line) EditFault) → Refuses f r → Refuses f (where_policy ls r)
-refuses_lines f ls r (inl none) = inl none
-refuses_lines f ls r (inr is) = inr (ap (where_policy ls) is)
-
 -- one step as a run
 pub run_one : (e : Edit) (ls new : List (List ℕ)) → step e ls ≡ Ok new → run (e ∷ []) ls ≡ Some new
 run_one e ls new h = rw h refl
@@ -206,29 +199,14 @@ back_move ls from to sound l k =
 
 -- JOURNALS
 
-undoable_more : (e : Edit) (entries : List Entry) (ls new : List (List ℕ)) → step e ls ≡ Ok new → run (inv e ls) new ≡ Some ls → IsUndoable entries ls → IsUndoable (record { edit = e; inverse = inv e ls } ∷ entries) new
-undoable_more e entries ls new forth back rest = rw back (forth, refl, rest)
-
 pushed : (journal later : List Entry) (x : Entry) → later ≡ journal ++ x ∷ [] → reverse later ≡ x ∷ reverse journal
 pushed journal later x e = ap reverse e ∙ reverse-append journal (x ∷ [])
-
-begins_same : (e : Entry) (entries : List Entry) (ls new : List (List ℕ)) → run e.inverse new ≡ Some ls → first_lines (e ∷ entries) new ≡ first_lines entries ls
-begins_same e entries ls new back = ap (λ (o : Option (List (List ℕ))). first_lines entries (unwrap_or o new)) back
 
 -- What an accepted edit leaves: the step, a journal that can be undone, and that leads back as before.
 pub record Leaves (e : Edit) (inverse : List Edit) (ls new : List (List ℕ)) (journal later : List Entry) : Type 0 where
   pub forth : step e ls ≡ Ok new
   pub undoable : IsUndoable (reverse later) new
   pub begun : first_lines (reverse later) new ≡ first_lines (reverse journal) ls
-
-left_by : (e : Edit) (ls new : List (List ℕ)) (journal later : List Entry) → step e ls ≡ Ok new → run (inv e ls) new ≡ Some ls → IsUndoable (reverse journal) ls → later ≡ journal ++ record { edit = e; inverse = inv e ls } ∷ [] → Leaves e (inv e ls) ls new journal later
-left_by e ls new journal later forth back undoable later_is =
-    let same = pushed journal later (record { edit = e; inverse = inv e ls }) later_is in
-    record {
-      forth = forth;
-      undoable = subst (λ (entries : List Entry). IsUndoable entries new) (sym same) (undoable_more e (reverse journal) ls new forth back undoable);
-      begun = ap (λ (entries : List Entry). first_lines entries new) same ∙ begins_same (record { edit = e; inverse = inv e ls }) (reverse journal) ls new back;
-    }
 
 -- the last line, as the code reads it
 pub last_decides : (ls : List (List ℕ)) (at : ℕ) (t x : List ℕ) → at ≡ length ls → 0 < at → slice_index_or ls (at - 1) x ≡ x → has_unended_inside ls ≡ false → not (ends_in_lf x) ≡ has_unended_inside (insert ls at t)
@@ -281,22 +259,3 @@ move_leads ls from to text sound inside within ended is = record {
 abbrev pub ReadsLaw : Type 0
 ReadsLaw = (lines : List (List ℕ)) (policy : List Line) → StandAlone lines → has_unended_inside lines ≡ false
     → policy_or_refusal (join lines) ≡ Ok policy → texts policy ≡ lines
-
--- The text is read as a policy.
-pub landed_by : ReadsLaw → (edit : Edit) (inverse : List Edit) (ls : List (List ℕ)) (text : List ℕ) (policy : List Line) → Leads edit inverse ls text
-    → policy_or_refusal text ≡ Ok policy → IsLanded edit ls (record { policy = policy; inverse = inverse })
-landed_by law edit inverse ls text policy leads read =
-    let whole : policy_or_refusal (join leads.new) ≡ Ok policy = ap policy_or_refusal (sym leads.joined) ∙ read in
-    let same : texts policy ≡ leads.new = law leads.new policy (leads.each policy whole) leads.ended whole in
-    record {
-      forth = leads.forth ∙ by_text leads.new leads.ended ∙ ap (where_policy leads.new) whole ∙ ap (λ z. Ok z) (sym same);
-      inverse_is = leads.inverse_is;
-      back = ap (run inverse) same ∙ leads.back policy whole;
-    }
-
--- A refusal of the text is one of the edit.
-pub refused_by : (edit : Edit) (inverse : List Edit) (ls : List (List ℕ)) (text : List ℕ) (f : EditFault) → Leads edit inverse ls text
-    → Refuses f (policy_or_refusal text) → Refuses f (step edit ls)
-refused_by edit inverse ls text f leads is =
-    subst (λ r. Refuses f r) (sym (leads.forth ∙ by_text leads.new leads.ended))
-    (refuses_lines f leads.new (policy_or_refusal (join leads.new)) (subst (λ t. Refuses f (policy_or_refusal t)) leads.joined is))

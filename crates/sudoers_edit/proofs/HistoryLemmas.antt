@@ -76,10 +76,6 @@ pub run_all_more : (es : List Edit) (k : ℕ) (d : Edit) (m n : List (List ℕ))
 run_all_more es k d m n l one =
     ap (λ z. run_all k z m) (drop_more es k d l) ∙ ap (then_or (run_all (k + 1) (drop (k + 1) es)) k) one
 
-pub run_all_stops : (es : List Edit) (k : ℕ) (d : Edit) (m : List (List ℕ)) (f : EditFault) → k < length es → step (slice_index_or es k d) m ≡ Err f → run_all k (drop k es) m ≡ Err (k, f)
-run_all_stops es k d m f l one =
-    ap (λ z. run_all k z m) (drop_more es k d l) ∙ ap (then_or (run_all (k + 1) (drop (k + 1) es)) k) one
-
 pub edits_more : (journal : List Entry) (e : Entry) → edits_of (journal ++ e ∷ []) ≡ edits_of journal ++ e.edit ∷ []
 edits_more journal e = map-append (λ (x : Entry). x.edit) journal (e ∷ [])
 

@@ -18,10 +18,6 @@ use Rattle.sudoers_edit.proofs.ReplacedLemmas.{each_replaced}
 abbrev pub AloneLaw : Type 0
 AloneLaw = (line : List ℕ) → is_logical_line line ≡ true → length line ≤ line_limit → IsAlone line
 
-pub too_long : (edit : Edit) (inverse : List Edit) (ls : List (List ℕ)) (at : ℕ) (t : List ℕ) → Replaces edit inverse ls at t → line_limit < length t
-    → step edit ls ≡ Err TooLarge
-too_long edit inverse ls at t r long = r.forth ∙ rw (lt-ltb line_limit (length t) long) refl
-
 pub left_open : (edit : Edit) (inverse : List Edit) (ls : List (List ℕ)) (at : ℕ) (t : List ℕ) → Replaces edit inverse ls at t → length t ≤ line_limit
     → has_unended_inside (replaced at t ls) ≡ true → step edit ls ≡ Err OpenLine
 left_open edit inverse ls at t r short open_ = r.forth ∙ rw (le-ltb line_limit (length t) short, open_) refl

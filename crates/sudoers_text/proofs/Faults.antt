@@ -19,15 +19,6 @@ pub record Checked (text : List ℕ) (spans : List Span) (i nul : ℕ) : Type 0 
   pub short : AllShort (texts text (take i spans))
   pub later : start ≤ nul
 
-pub checked_first : (text : List ℕ) (spans : List Span) (nul : ℕ) → Follow 0 spans (length text) → Checked text spans 0 nul
-checked_first text spans nul follow = record {
-  start = 0;
-  front = refl;
-  back = follow;
-  short = tt;
-  later = omega arith;
-}
-
 follow_push : (spans : List Span) (from middle : ℕ) (span : Span) → Follow from spans middle → span.start ≡ middle → span.start < span.stop → Follow from (spans ++ span ∷ []) span.stop
 follow_push [] from middle span follow start below = (start ∙ sym follow, below, refl)
 follow_push (first ∷ spans) from middle span follow start below = (follow.0, follow.1, follow_push spans first.stop middle span follow.2 start below)

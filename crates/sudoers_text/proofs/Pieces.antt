@@ -83,14 +83,6 @@ pub record Cutting (text : List ℕ) (spans : List Span) (start : ℕ) (continue
   pub inside : start ≤ length text
   pub last : start ≡ length text → (continues ≡ true) ↔ EndsOpen (texts text spans)
 
-pub cutting_first : (text : List ℕ) → Cutting text [] 0 false
-cutting_first text = record {
-  each = tt;
-  follow = refl;
-  inside = omega arith;
-  last = λ _. (λ e. cc, λ ends. absurd (open_none ends));
-}
-
 pub cutting_more : (text : List ℕ) (spans : List Span) (start stop : ℕ) (continues next : Bool) → Cutting text spans start continues → start < stop → stop ≤ length text → IsLine (slice_range text start stop) (drop stop text) → (stop ≡ length text → (next ≡ true) ↔ IsOpen (slice_range text start stop)) → Cutting text (spans ++ record { start = start; stop = stop } ∷ []) stop next
 cutting_more text spans start stop continues next cutting later inside line open_text =
     let here = slice_range text start stop in

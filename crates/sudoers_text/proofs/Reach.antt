@@ -136,12 +136,6 @@ next_unit unit within bytes len next is some inside so_far =
       same = omega (arith, so_far, step, e, ap (reach unit 0) rest);
     }
 
--- no more units begin the bytes
-pub no_more : (unit : List ℕ → ℕ) (bytes : List ℕ) (len next : ℕ) → next ≡ unit (take (length bytes - len) (drop len bytes)) → next ≡ 0 → len + reach unit 0 (drop len bytes) ≡ reach unit 0 bytes → len ≡ reach unit 0 bytes
-no_more unit bytes len next is none so_far =
-    let e : unit (drop len bytes) ≡ 0 = ap unit (sym (left len bytes)) ∙ sym is ∙ none in
-    omega (arith, so_far, front_ends unit (drop len bytes) e)
-
 pub run_within : (r : Rule) (bytes : List ℕ) → run_size r bytes ≤ length bytes
 unfolding run_size
 run_within r bytes = reach_within (unit_size r) (unit_within r) 0 bytes (omega arith)

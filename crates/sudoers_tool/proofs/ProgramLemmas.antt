@@ -26,10 +26,3 @@ appends_more None mid new xs ys a b = tt
 appends_more (Some o) None new xs ys a b = absurd a
 appends_more (Some o) (Some m) None xs ys a b = absurd b
 appends_more (Some o) (Some m) (Some n) xs ys a b = rw (b, a) (append_assoc o xs ys)
-
--- a write that keeps what is held
-pub appends_none : (old mid new : Option (List ℕ)) (xs : List ℕ) → Appends old mid xs → Keeps mid new → Appends old new xs
-appends_none None mid new xs a b = tt
-appends_none (Some o) None new xs a b = absurd a
-appends_none (Some o) (Some m) None xs a b = absurd b
-appends_none (Some o) (Some m) (Some n) xs a b = b ∙ a

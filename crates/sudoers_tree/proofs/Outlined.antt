@@ -43,15 +43,6 @@ pub not_outlined : (fault : LineFault) (outcome : Result Node LineFault) → Out
 not_outlined (line_fault.Syntax at why) outcome is = is
 not_outlined line_fault.NoMemory outcome is = tt
 
--- a user specification defines nothing
-pub defines_none : (index : Index) (before : List Definition) (line : ℕ) (says : Node) → Indexes index before → IsSpec says → Enters (Ok tt) index before (definitions_in line says)
-defines_none index before line (node.Spec users groups) is spec = (subst (Indexes index) (sym (append-nil before)) is, refl)
-defines_none index before line node.Blank is spec = absurd spec
-defines_none index before line node.Comment is spec = absurd spec
-defines_none index before line (node.Include dir path) is spec = absurd spec
-defines_none index before line (node.Defaults scope params) is spec = absurd spec
-defines_none index before line (node.Alias k defs) is spec = absurd spec
-
 outlines_push : (row : ℕ) (os : List OutlinedLine) (lines : List Line) (o : OutlinedLine) (line : Line) → AreOutlines row os lines → o.row ≡ row + lf_count (join (texts lines)) → o.text.now ≡ line.text
     → o.ends ≡ lf_count line.text → outcome_of line.text ≡ Ok line.node → IsOutline o.outline line.node → AreOutlines row (os ++ o ∷ []) (lines ++ line ∷ [])
 outlines_push row [] [] o line are at same ends says is = (omega (arith, at), same, ends, says, is, tt)
