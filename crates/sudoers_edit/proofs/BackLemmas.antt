@@ -53,15 +53,15 @@ drops at from to xs next here there =
     rw (lt-leb (length xs) at within.0, ne_eqb (length xs) 1 (λ e. absurd (omega (arith, e, within.1))), here, there) refl
 
 -- what is put in, where it reads as it should
-pub puts : (a : Among) (at from n : ℕ) (s : List ℕ) (line : Line) (policy : List Line) → from ≤ length line.text
+pub puts : (a : Among) (at from n : ℕ) (s : List ℕ) (line : Line) (policy : List Line)
     → is_one_more a at from (from + length s) (said (line_with from s line.text)) (Some line.node) ≡ true
     → put_in a at from n s line policy ≡ changed_or_refusal n (line_with from s line.text) (texts policy)
-puts a at from n s line policy inside reads = rw (le-leb from from (omega arith), le-leb from (length line.text) inside, reads) refl
+puts a at from n s line policy reads = rw reads refl
 
-pub cuts : (a : Among) (at from to n : ℕ) (line : Line) (policy : List Line) → from ≤ to → to ≤ length line.text
+pub cuts : (a : Among) (at from to n : ℕ) (line : Line) (policy : List Line)
     → is_one_more a at from to (Some line.node) (said (line_without from to line.text)) ≡ true
     → cut_out a at from to n line policy ≡ changed_or_refusal n (line_without from to line.text) (texts policy)
-cuts a at from to n line policy order inside reads = rw (le-leb from to order, le-leb to (length line.text) inside, reads) refl
+cuts a at from to n line policy reads = rw reads refl
 
 -- DEFINITIONS
 

@@ -15,6 +15,7 @@ mod PhysicalLemmas
 mod PlaceLemmas
 mod PolicyLemmas
 pub mod PruneExamples
+mod PruneLaw
 mod PruneLemmas
 mod ReadingLemmas
 pub mod RenameExamples
@@ -25,5 +26,6 @@ mod ScriptLemmas
 mod SpellingLemmas
 mod SpliceLemmas
 mod WayBackLemmas
+mod WithinLemmas
 mod WordLemmas
 mod WritingLemmas

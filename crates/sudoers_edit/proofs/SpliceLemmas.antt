@@ -1,9 +1,10 @@
 -- Bytes that are put into a line and taken out of it.
-use Rattle.std.proofs.Common.{◌≡◌, ℕ, zero, suc, ◌+◌, ◌-◌, ◌<◌, ◌≤◌, true, List, [], ◌∷◌, ◌++◌, length, take, drop, refl, sym, ap, ◌∙◌, arith}
+use Rattle.std.proofs.Common.{◌≡◌, ℕ, zero, suc, ◌+◌, ◌-◌, ◌<◌, ◌≤◌, true, List, [], ◌∷◌, ◌++◌, length, take, drop, refl, sym, ap, subst, ◌∙◌, arith}
 use Rattle.std.proofs.Math.Dec.{eqb-suc-zero}
 use Rattle.std.proofs.lemmas.Bool.{eqb-true}
 use Rattle.std.proofs.lemmas.List.{length-append, length-drop, length-take-le}
-use Rattle.std.specs.Prelude.{slice_get, Some, None, Option, option_map, ◌==◌, if◌then◌else◌}
+use Rattle.std.specs.Prelude.{map, slice_get, Some, None, Option, option_map, ◌==◌, if◌then◌else◌}
+use Rattle.sudoers_text.specs.Ascend.{Ascend}
 use Rattle.sudoers_edit.specs.Splice.{Extent, seam, owned_stop, slice, line_without, line_with, is_at}
 
 drop_front : (s line : List ℕ) (stop : ℕ) → stop ≡ length s → drop stop (s ++ line) ≡ line
@@ -40,18 +41,6 @@ with_without line from to order within = put_in line from to (to - from) order w
 
 -- SIZES
 
-pub size_with : (line s : List ℕ) (at : ℕ) → at ≤ length line → length (line_with at s line) ≡ length line + length s
-size_with line s at within =
-    let size : length ((take at line ++ s) ++ drop at line) ≡ length line + length s =
-    omega (arith, length-append (take at line ++ s) (drop at line), length-append (take at line) s, length-drop at line, length-take-le at line within, within) in
-    size
-
-pub size_without : (line : List ℕ) (from to : ℕ) → from ≤ to → to ≤ length line → from ≤ length (line_without from to line)
-size_without line from to order within =
-    let inside : from ≤ length line = omega (arith, order, within) in
-    let size : from ≤ length (take from line ++ drop to line) = omega (arith, length-append (take from line) (drop to line), length-take-le from line inside) in
-    size
-
 pub size_slice : (line : List ℕ) (from to : ℕ) → from ≤ to → to ≤ length line → from + length (slice from to line) ≡ to
 size_slice line from to order within =
     let inside : to - from ≤ length (drop from line) = omega (arith, length-drop from line, order, within) in
@@ -83,3 +72,76 @@ stop_within xs zero n h = let inner = found_within (λ (x : Extent). x.0) xs 1 n
 stop_within xs (suc at) n h =
     let inner = found_within (λ (x : Extent). x.1) xs (suc at) n (sym (if_not (option_map (λ (x : Extent). x.0) (slice_get xs 1)) (option_map (λ (x : Extent). x.1) (slice_get xs (suc at))) at) ∙ h) in
     (inner, omega (arith, inner))
+
+-- WITHIN THE LINE
+
+pub ascend_le : {X : Type 0} (begins ends : X → ℕ) (from to : ℕ) (xs : List X) → Ascend begins ends from to xs → from ≤ to
+ascend_le begins ends from to [] a = a
+ascend_le begins ends from to (x ∷ xs) a = omega (arith, a.0, a.1, ascend_le begins ends (ends x) to xs a.2)
+
+-- where things stand
+abbrev extents : {X : Type 0} → (X → ℕ) → (X → ℕ) → List X → List Extent
+extents begins ends xs = map (λ x. (begins x, ends x)) xs
+
+abbrev start_at : List Extent → ℕ → Option ℕ
+start_at xs at = option_map (λ (x : Extent). x.0) (slice_get xs at)
+
+abbrev stop_at : List Extent → ℕ → Option ℕ
+stop_at xs at = option_map (λ (x : Extent). x.1) (slice_get xs at)
+
+stop_in : {X : Type 0} (begins ends : X → ℕ) (from to : ℕ) (xs : List X) (at n : ℕ) → Ascend begins ends from to xs
+    → stop_at (extents begins ends xs) at ≡ Some n → (from ≤ n) × (n ≤ to)
+stop_in begins ends from to [] at n a h = absurd (cc)
+stop_in begins ends from to (x ∷ xs) zero n a h =
+    let e : ends x ≡ n = cc in
+    (omega (arith, a.0, a.1, e), omega (arith, ascend_le begins ends (ends x) to xs a.2, e))
+stop_in begins ends from to (x ∷ xs) (suc at) n a h =
+    let rest = stop_in begins ends (ends x) to xs at n a.2 h in
+    (omega (arith, a.0, a.1, rest.0), rest.1)
+
+-- the ends of two of which one stands behind the other
+stops_in : {X : Type 0} (begins ends : X → ℕ) (from to : ℕ) (xs : List X) (at n m : ℕ) → Ascend begins ends from to xs
+    → stop_at (extents begins ends xs) at ≡ Some n → stop_at (extents begins ends xs) (suc at) ≡ Some m → (n ≤ m) × (m ≤ to)
+stops_in begins ends from to [] at n m a h later = absurd (cc)
+stops_in begins ends from to (x ∷ xs) zero n m a h later =
+    let e : ends x ≡ n = cc in
+    let rest = stop_in begins ends (ends x) to xs 0 m a.2 later in
+    (omega (arith, rest.0, e), rest.1)
+stops_in begins ends from to (x ∷ xs) (suc at) n m a h later = stops_in begins ends (ends x) to xs at n m a.2 h later
+
+-- the starts of the first two
+starts_in : {X : Type 0} (begins ends : X → ℕ) (from to : ℕ) (xs : List X) (n m : ℕ) → Ascend begins ends from to xs
+    → start_at (extents begins ends xs) 0 ≡ Some n → start_at (extents begins ends xs) 1 ≡ Some m → (n ≤ m) × (m ≤ to)
+starts_in begins ends from to [] n m a h later = absurd (cc)
+starts_in begins ends from to (x ∷ []) n m a h later = absurd (cc)
+starts_in begins ends from to (x ∷ y ∷ xs) n m a h later =
+    let first : begins x ≡ n = cc in
+    let second : begins y ≡ m = cc in
+    let rest = ascend_le begins ends (ends y) to xs a.2.2 in
+    (omega (arith, a.1, a.2.0, first, second), omega (arith, a.2.1, rest, second))
+
+start_in : {X : Type 0} (begins ends : X → ℕ) (from to : ℕ) (xs : List X) (n : ℕ) → Ascend begins ends from to xs
+    → start_at (extents begins ends xs) 0 ≡ Some n → n ≤ to
+start_in begins ends from to [] n a h = absurd (cc)
+start_in begins ends from to (x ∷ xs) n a h =
+    let e : begins x ≡ n = cc in
+    omega (arith, a.1, ascend_le begins ends (ends x) to xs a.2, e)
+
+before_is : (xs : List Extent) (at n : ℕ) → seam (suc at) xs ≡ Some n → stop_at xs at ≡ Some n
+before_is xs at n h =
+    let there : stop_at xs (suc at - 1) ≡ Some n = sym (if_not (start_at xs 0) (stop_at xs (suc at - 1)) at) ∙ h in
+    subst (λ i. stop_at xs i ≡ Some n) (let e : suc at - 1 ≡ at = omega arith in e) there
+
+-- What one owns begins in the line,
+pub seam_in : {X : Type 0} (begins ends : X → ℕ) (from to : ℕ) (xs : List X) (at n : ℕ) → Ascend begins ends from to xs
+    → seam at (extents begins ends xs) ≡ Some n → n ≤ to
+seam_in begins ends from to xs zero n a h = start_in begins ends from to xs n a h
+seam_in begins ends from to xs (suc at) n a h = (stop_in begins ends from to xs at n a (before_is (extents begins ends xs) at n h)).1
+
+-- and goes on to a place in it.
+pub owned_in : {X : Type 0} (begins ends : X → ℕ) (from to : ℕ) (xs : List X) (at n m : ℕ) → Ascend begins ends from to xs
+    → seam at (extents begins ends xs) ≡ Some n → owned_stop at (extents begins ends xs) ≡ Some m → (n ≤ m) × (m ≤ to)
+owned_in begins ends from to xs zero n m a h later = starts_in begins ends from to xs n m a h later
+owned_in begins ends from to xs (suc at) n m a h later =
+    stops_in begins ends from to xs at n m a (before_is (extents begins ends xs) at n h)
+    (sym (if_not (start_at (extents begins ends xs) 1) (stop_at (extents begins ends xs) (suc at)) at) ∙ later)

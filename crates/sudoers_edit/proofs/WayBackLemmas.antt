@@ -20,7 +20,7 @@ use Rattle.sudoers_tree.specs.Changed.{replaced}
 use Rattle.sudoers_edit.specs.Leading.{IsKnown, PutIn, CutOut}
 use Rattle.sudoers_edit.proofs.BackLemmas.{puts, cuts}
 use Rattle.sudoers_edit.proofs.ReplacedLemmas.{AllSaid, Swapped, swapped}
-use Rattle.sudoers_edit.proofs.SpliceLemmas.{without_with, with_without, size_with, size_without, size_slice}
+use Rattle.sudoers_edit.proofs.SpliceLemmas.{without_with, with_without, size_slice}
 
 -- a line that says something is one logical line
 logical : (b : Bool) (o : Option Node) (n : Node) → (if b then o else None) ≡ Some n → b ≡ true
@@ -57,11 +57,8 @@ put_back a at from n s text policy after line known here put read same =
     let new : Line = record { text = text; node = put.new } in
     let again : line_without from to text ≡ line.text = ap (line_without from to) put.text_is ∙ without_with line.text s from put.inside in
     let says : said (line_without from to text) ≡ Some line.node = ap said again ∙ said_at policy n line (known.says (join (texts policy)) policy known.read) here in
-    let size : length text ≡ length line.text + length s = ap length put.text_is ∙ size_with line.text s from put.inside in
-    let inside : to ≤ length text = omega (arith, size, put.inside) in
-    let order : from ≤ to = omega arith in
     let swap = swaps policy after known n line text put.new here put.says read same in
-    cuts a at from to n new after order inside (ap (is_one_more a at from to (Some put.new)) says ∙ put.more)
+    cuts a at from to n new after (ap (is_one_more a at from to (Some put.new)) says ∙ put.more)
     ∙ ap (λ t. changed_or_refusal n t (texts after)) again ∙ swap.back
 
 -- what was taken out is put in
@@ -74,8 +71,7 @@ cut_back a at from to n s text policy after line known here cut is read same =
     ap (λ z. line_with from z text) is ∙ ap (line_with from (slice from to line.text)) cut.text_is ∙ with_without line.text from to cut.order cut.inside in
     let says : said (line_with from s text) ≡ Some line.node = ap said again ∙ said_at policy n line (known.says (join (texts policy)) policy known.read) here in
     let stop : from + length s ≡ to = ap (λ z. from + length z) is ∙ size_slice line.text from to cut.order cut.inside in
-    let inside : from ≤ length text = subst (λ z. from ≤ length z) (sym cut.text_is) (size_without line.text from to cut.order cut.inside) in
     let swap = swaps policy after known n line text cut.new here cut.says read same in
-    puts a at from n s new after inside
+    puts a at from n s new after
     (ap (λ z. is_one_more a at from (from + length s) z (Some cut.new)) says ∙ ap (λ z. is_one_more a at from z (Some line.node) (Some cut.new)) stop ∙ cut.more)
     ∙ ap (λ t. changed_or_refusal n t (texts after)) again ∙ swap.back

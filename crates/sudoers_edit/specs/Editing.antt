@@ -5,7 +5,7 @@ use Rattle.sudoers_edit.specs.Landing.{policy_of}
 use Rattle.sudoers_edit.specs.LineEdits.{with_line, without_line, with_move, with_last, with_end, without_lf, ended_or_refusal}
 use Rattle.sudoers_edit.specs.SpliceEdits.{add_member, drop_member, add_def, drop_def, owned_member, owned_def}
 use Rattle.sudoers_edit.specs.Renaming.{rename}
-use Rattle.sudoers_edit.specs.Pruning.{removals}
+use Rattle.sudoers_edit.specs.Pruning.{removals, edit_of}
 use Rattle.sudoers_edit.specs.declared.edit.Edit.{Edit}
 use Rattle.sudoers_edit.specs.declared.edit.Edit.TheVariants.{Insert, Delete, Move, AddMember, DropMember, AddDef, DropDef, Rename, EndLine, OpenEnd, Prune}
 use Rattle.sudoers_edit.specs.declared.edit.EditFault.{EditFault}
@@ -96,6 +96,15 @@ run_all place (edit ∷ edits) lines = then_or (run_all (place + 1) edits) place
 abbrev pub inv_run : List Edit → Lines → List Edit
 inv_run [] lines = []
 inv_run (edit ∷ edits) lines = inv_run edits (after edit lines) ++ inv edit lines
+
+-- the edits of which Prune is made, in its order
+abbrev pub prune_list : Lines → List Edit
+prune_list lines = map edit_of (removals (policy_of lines))
+
+-- the outcome of a run, but for the place of a refusal
+abbrev pub without_place : Result Lines (ℕ × EditFault) → Result Lines EditFault
+without_place (Ok lines) = Ok lines
+without_place (Err refused) = Err refused.1
 
 -- The entries, the newest first, are undone in turn from the present lines on: each inverse is defined there, and leads
 -- to the lines just before its edit, at which it is the edit's inverse.

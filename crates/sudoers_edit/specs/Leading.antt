@@ -20,6 +20,7 @@ use Rattle.sudoers_edit.specs.Splice.{line_with, line_without}
 use Rattle.sudoers_edit.specs.SpliceEdits.{is_one_more, defs_of}
 use Rattle.sudoers_line.specs.declared.node.Def.{Def}
 use Rattle.sudoers_line.specs.declared.node.Kind.{Kind}
+use Rattle.sudoers_line.specs.Ascend.{DefsAscend}
 use Rattle.sudoers_tree.specs.declared.place.Place.{Place}
 use Rattle.sudoers_tree.specs.Definition.{place_of}
 use Rattle.sudoers_line.specs.declared.node.Node.{Node}
@@ -46,11 +47,13 @@ pub record Replaces (edit : Edit) (inverse : List Edit) (lines : List (List ℕ)
   pub back : (policy : List Line) → read_of (join (replaced at text lines)) ≡ Ok policy → texts policy ≡ replaced at text lines
       → run inverse (replaced at text lines) ≡ Some lines
 
--- The lines are those of a policy; what is kept of a policy's lines is what their texts say, and a line alone is not too long.
+-- The lines are those of a policy; what is kept of a policy's lines is what their texts say, their definitions stand in them one
+-- behind another, and a line alone is not too long.
 pub record IsKnown (policy : List Line) : Type 0 where
   pub sound : IsSound (texts policy)
   pub read : read_of (join (texts policy)) ≡ Ok policy
   pub says : (text : List ℕ) (lines : List Line) → read_of text ≡ Ok lines → AllByRecursion (λ (line : Line). said line.text ≡ Some line.node) lines
+  pub ascend : (n : ℕ) (line : Line) (defs : List Def) → slice_get policy n ≡ Some line → defs_of line.node ≡ Some defs → DefsAscend 0 (length line.text) defs
   pub size : (line : List ℕ) → IsAlone line → (0 < length line) × (length line ≤ line_limit)
 
 -- The text is the line with a splice at a byte, and reads as it but for one more.

@@ -1,5 +1,5 @@
 -- Members and definitions put in and taken out. The lines of the policy come with what they say.
-use Rattle.std.specs.Prelude.{ℕ, ◌+◌, Bool, not, ◌&&◌, ◌==◌, nat_lt, nat_le, List, [], length, Option, Some, None, Result, option_and_then, slice_get, unwrap_or}
+use Rattle.std.specs.Prelude.{ℕ, ◌+◌, Bool, not, ◌==◌, nat_lt, nat_le, List, [], length, Option, Some, None, Result, option_and_then, slice_get, unwrap_or}
 use Rattle.std.specs.Option.{option_map}
 use Rattle.sudoers_line.specs.declared.node.Def.{Def}
 use Rattle.sudoers_line.specs.declared.node.Kind.{Kind}
@@ -30,10 +30,6 @@ place_to_drop at extents next =
     refuse_if (nat_le (length extents) at) NoPlace (refuse_if (length extents == 1) OnlyOne (
     or_refuse (seam at extents) BadSplice (λ from. or_refuse (owned_stop at extents) BadSplice (λ to. next from to))))
 
--- the bytes from one place to another are in the line
-abbrev pub lie_in : ℕ → ℕ → List ℕ → Bool
-lie_in from to line = nat_le from to && nat_le to (length line)
-
 -- the policy's lines with another at this place, if that reads as it should
 abbrev pub if_spliced : Bool → ℕ → List ℕ → List Line → Result Lines EditFault
 if_spliced reads at line policy = refuse_if (not reads) BadSplice (changed_or_refusal at line (texts policy))
@@ -46,15 +42,13 @@ is_one_more (among.Members def) at from to more less = is_member_more def at fro
 -- one more put into the line `n`, at a byte
 abbrev pub put_in : Among → ℕ → ℕ → ℕ → List ℕ → Line → List Line → Result Lines EditFault
 put_in among at from n splice line policy =
-    if_spliced (lie_in from from line.text
-    && is_one_more among at from (from + length splice) (said (line_with from splice line.text)) (Some line.node))
+    if_spliced (is_one_more among at from (from + length splice) (said (line_with from splice line.text)) (Some line.node))
     n (line_with from splice line.text) policy
 
 -- one taken out of the line `n`, with these bytes
 abbrev pub cut_out : Among → ℕ → ℕ → ℕ → ℕ → Line → List Line → Result Lines EditFault
 cut_out among at from to n line policy =
-    if_spliced (lie_in from to line.text
-    && is_one_more among at from to (Some line.node) (said (line_without from to line.text)))
+    if_spliced (is_one_more among at from to (Some line.node) (said (line_without from to line.text)))
     n (line_without from to line.text) policy
 
 -- DEFINITIONS

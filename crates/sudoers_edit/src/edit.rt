@@ -78,7 +78,7 @@ pub enum EditFault {
     /// A line without LF would stand before another.
     #[error("OpenLine")]
     OpenLine,
-    /// The alias is not defined, or the line defines none.
+    /// The alias is not defined in the kind, or the line defines none.
     #[error("NoAlias")]
     NoAlias,
     /// There is no such place in the list of members or definitions.
@@ -164,6 +164,10 @@ impl Model for Edits {
 
 impl Edit {
     /// A copy of the edit.
+    ///
+    /// # Errors
+    ///
+    /// Want of memory alone.
     pub fn copied(&self, alloc: Global) -> Result<Edit, AllocError>
         ensures { IfOk result (λ edit. edit ≡ self.now) }
     {
@@ -225,6 +229,10 @@ impl Edits {
     }
 
     /// One edit.
+    ///
+    /// # Errors
+    ///
+    /// Want of memory alone.
     pub fn one(alloc: Global, edit: Edit) -> Result<Edits, AllocError>
         ensures { IfOk result (λ edits. edits ≡ edit ∷ []) }
     {
@@ -234,6 +242,10 @@ impl Edits {
     }
 
     /// One edit more, at the end.
+    ///
+    /// # Errors
+    ///
+    /// Want of memory alone; the edits are then as they were.
     pub fn push(&mut self, edit: Edit) -> Result<(), AllocError>
         ensures ok { OnOk result (self.new ≡ self.old ++ edit ∷ []) }
         ensures err { OnErr result (self.new ≡ self.old) }

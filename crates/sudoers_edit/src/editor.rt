@@ -103,7 +103,7 @@ impl Editor {
         Ok(())
     }
 
-    /// Takes back the last edit that stands, whole, and tells that; where none stands it tells so.
+    /// Takes back the last edit that stands, whole, and answers true; where none stands, false.
     ///
     /// # Errors
     ///

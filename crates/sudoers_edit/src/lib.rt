@@ -25,6 +25,7 @@ pub use edit::{Edit, EditFault, Edits};
 pub use editor::{Editor, Entry};
 pub use named::named_are_written;
 pub use physical::{first_line_len, physical_lines_join};
+pub use pruning::prune_is_its_list;
 pub use script::{MAX_EDITS, ScriptFault, read_script};
 pub use spelling::{
     first_dead_line_is_told, front_is_by_bytes, one_spelling,

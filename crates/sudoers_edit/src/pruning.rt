@@ -6,6 +6,7 @@ ghost use Rattle.sudoers_text.specs.Fault.{text_limit};
 ghost use Rattle.sudoers_tree.specs.declared.place.Place.{Place as APlace};
 ghost use Rattle.sudoers_tree.specs.Definition.{Definition, definitions, definitions_in};
 ghost use Rattle.sudoers_tree.specs.Policy.{texts, alias_limit};
+ghost use Rattle.sudoers_edit.specs.Editing.{step as step_of, inv, run_all, inv_run, prune_list, without_place};
 ghost use Rattle.sudoers_edit.specs.Leading.{Lands};
 ghost use Rattle.sudoers_edit.specs.Pruning.{edit_of, removals as the_removals};
 ghost use Rattle.sudoers_edit.specs.PruneOrder.{front_count, removals_at};
@@ -48,6 +49,13 @@ pub fn pruned(policy: &Policy) -> Result<Landed, EditFault>
         inverse: Edits::from_vec(back),
     })
 }
+
+/// A law: Prune is the edits of its list, made one after another: it is refused as the first of them that is, and its inverse is
+/// theirs.
+pub fn prune_is_its_list()
+    ensures step { (lines : List (List ℕ)) → step_of Edit.Prune lines ≡ without_place (run_all 0 (prune_list lines) lines) }
+    ensures inverse { (lines : List (List ℕ)) → inv Edit.Prune lines ≡ inv_run (prune_list lines) lines }
+{}
 
 /// The policy without what is taken out.
 fn removed(policy: &Policy, removal: Removal) -> Result<Landed, EditFault>

@@ -250,7 +250,11 @@ impl Reading {
     }
 }
 
-/// The edits that a text spells, or its first fault.
+/// The edits that a text spells.
+///
+/// # Errors
+///
+/// The first cause of [`ScriptFault`], with the line where it is.
 pub fn read_script(alloc: Global, text: &[u8]) -> Result<Edits, ScriptFault>
     ensures edits { IfOk result (λ edits. (text.now ≡ spelling edits) × (length edits ≤ edit_limit)) }
     ensures reading { Reads result (reading text.now) }

@@ -210,6 +210,10 @@ fn line_count(text: &[u8]) -> usize
 }
 
 /// The text of a list of edits.
+///
+/// # Errors
+///
+/// BadWord for the first name without a spelling, with the line that its command would have; TooMany; want of memory.
 pub fn write_script(alloc: Global, edits: &[Edit]) -> Result<Vec<u8>, ScriptFault>
     ensures { MatchResult result (λ text. writing edits.now ≡ Ok text.items) (λ fault. Tells fault (writing edits.now)) }
 {

@@ -22,7 +22,8 @@ use crate::text::Text;
 use std::alloc::{AllocError, Global};
 use sudoers_text::{LINE_LIMIT, ends_in_lf, line_alone_is_whole, line_alone_size};
 use sudoers_tree::{
-    Def, Kind, Line, Node, Place, Policy, lines_are_said, read_line, text_replaced,
+    Def, Kind, Line, Node, Place, Policy, definitions_ascend, lines_are_said, read_line,
+    text_replaced,
 };
 
 /// A definition put into a line.
@@ -203,14 +204,12 @@ fn put_in(
     splice: &[u8],
     old: &Line,
 ) -> Result<Vec<u8>, EditFault>
+    requires { from ≤ length old.now.text }
     ensures put { IfOk result (λ text. PutIn among at from splice.now old.now text.items) }
     ensures outcome { (n : ℕ) (policy : List LineOf) → MatchResult result
         (λ text. with_more among at from n splice.now old.now policy ≡ changed_or_refusal n text.items (texts policy))
         (λ fault. Refuses fault (with_more among at from n splice.now old.now policy)) }
 {
-    if from > old.text.len() {
-        return Err(EditFault::BadSplice);
-    }
     let text = line_with(alloc, old.text.as_slice(), from, splice)?;
     let Some(new) = read_line(alloc, text.as_slice())? else {
         return Err(EditFault::BadSplice);
@@ -232,14 +231,12 @@ fn cut_out(
     to: usize,
     old: &Line,
 ) -> Result<Vec<u8>, EditFault>
+    requires { (from ≤ to) × (to ≤ length old.now.text) }
     ensures cut { IfOk result (λ text. CutOut among at from to old.now text.items) }
     ensures outcome { (n : ℕ) (policy : List LineOf) → MatchResult result
         (λ text. with_less among at from to n old.now policy ≡ changed_or_refusal n text.items (texts policy))
         (λ fault. Refuses fault (with_less among at from to n old.now policy)) }
 {
-    if from > to || to > old.text.len() {
-        return Err(EditFault::BadSplice);
-    }
     let text = line_without(alloc, old.text.as_slice(), from, to)?;
     let Some(new) = read_line(alloc, text.as_slice())? else {
         return Err(EditFault::BadSplice);
@@ -288,11 +285,13 @@ fn leaves_open(policy: &Policy, at: usize, text: &[u8]) -> bool
 }
 
 /// A law: the lines of a policy are known from what they say.
+#[tactic(auto, using(crate::proofs::WithinLemmas::known_ascend))]
 fn is_known(policy: &Policy)
     ensures { IsKnown policy.now }
 {
     is_sound(policy);
     policy.is_policy();
+    definitions_ascend();
     lines_are_said();
     line_alone_size();
 }

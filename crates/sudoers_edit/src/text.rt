@@ -34,6 +34,10 @@ impl Text {
     }
 
     /// A copy of the bytes.
+    ///
+    /// # Errors
+    ///
+    /// Want of memory alone.
     pub fn from_slice(alloc: Global, bytes: &[u8]) -> Result<Text, AllocError>
         ensures { IfOk result (λ text. text ≡ bytes.now) }
     {
@@ -42,6 +46,10 @@ impl Text {
     }
 
     /// More bytes at the end.
+    ///
+    /// # Errors
+    ///
+    /// Want of memory alone; the bytes are then as they were.
     pub fn extend_from_slice(&mut self, bytes: &[u8]) -> Result<(), AllocError>
         ensures ok { OnOk result (self.new ≡ self.old ++ bytes.now) }
         ensures err { OnErr result (self.new ≡ self.old) }

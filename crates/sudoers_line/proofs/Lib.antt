@@ -25,6 +25,7 @@ pub mod OneFault
 pub mod Places
 pub mod Contract
 pub mod Lines
+pub mod Ascending
 pub mod Words
 pub mod Recognized
 pub mod AliasMembers

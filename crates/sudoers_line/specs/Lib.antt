@@ -11,6 +11,7 @@ pub mod Places
 pub mod Steps
 pub mod Outcome
 pub mod Listed
+pub mod Ascend
 pub mod Outline
 pub mod Aliases
 pub mod Glance

@@ -1,14 +1,18 @@
 //! Laws of lines, for the layers above. Each is the contract of a function that does nothing.
 
-ghost use Rattle.std.specs.Prelude.{◌≡◌, ◌⊎◌, ℕ, List};
+ghost use Rattle.std.specs.Prelude.{◌≡◌, ◌⊎◌, ℕ, List, length};
 ghost use Rattle.sudoers_line.specs.declared.fault.Why.{Why as WhyOf};
+ghost use Rattle.sudoers_line.specs.declared.node.Def.{Def as DefOf};
+ghost use Rattle.sudoers_line.specs.declared.node.Kind.{Kind as KindOf};
 ghost use Rattle.sudoers_line.specs.declared.node.Node.{Node as NodeOf};
+ghost use Rattle.sudoers_line.specs.declared.node.Node.TheVariants as node_of;
 ghost use Rattle.sudoers_text.specs.Word.{is_among, is_tag, is_option_name, digest_kinds as digest_words, include_words as words_of_includes};
 ghost use Rattle.sudoers_line.specs.Piece.{is_some, looked_up, option_names, tag_of_word, digest_kinds, include_words};
 ghost use Rattle.sudoers_line.specs.Line.{ReadsLine, IsFault, HasFault};
 ghost use Rattle.sudoers_line.specs.Outcome.{outcome_of, IsOutcome};
+ghost use Rattle.sudoers_line.specs.Ascend.{DefsAscend};
 
-use sudoers_text::{one_token_list, tokens_are};
+use sudoers_text::{one_token_list, tokens_are, tokens_ascend};
 
 /// A line says one thing at most.
 pub fn one_reading()
@@ -53,3 +57,11 @@ pub fn words_agree()
     ensures digests { (word : List ℕ) → is_among digest_words word ≡ is_some (looked_up digest_kinds word) }
     ensures includes { (word : List ℕ) → is_among words_of_includes word ≡ is_some (looked_up include_words word) }
 {}
+
+/// The definitions of a line stand one behind another in it, and the members of each in their definition.
+pub fn definitions_ascend()
+    ensures { (line : List ℕ) (kind : KindOf) (defs : List DefOf) → ReadsLine line (node_of.Alias kind defs)
+        → DefsAscend 0 (length line) defs }
+{
+    tokens_ascend();
+}

@@ -26,7 +26,9 @@ mod step;
 pub use alias::AliasMember;
 pub use fault::{LineFault, Why};
 pub use items::Items;
-pub use laws::{no_fault, one_fault, one_reading, outcome_is, some_outcome, words_agree};
+pub use laws::{
+    definitions_ascend, no_fault, one_fault, one_reading, outcome_is, some_outcome, words_agree,
+};
 pub use node::{
     Address, Args, Atom, CmdSpec, Def, Digest, DigestKind, HostGroup, Kind, Mask, Member, Node,
     Operator, OptionName, Param, RunasSpec, Scope, Setting, Tag,

@@ -23,6 +23,7 @@ pub mod Sizes
 pub mod Arguments
 pub mod Forms
 pub mod TokenLists
+pub mod Ascending
 pub mod Values
 pub mod Standing
 pub mod Reached

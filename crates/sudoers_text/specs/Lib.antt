@@ -12,6 +12,7 @@ pub mod Word
 pub mod Piece
 pub mod Context
 pub mod Token
+pub mod Ascend
 pub mod LineMode
 pub mod Found
 pub mod Value

@@ -30,7 +30,7 @@ pub use line::{Lines, cut};
 pub use meaning::{blanks_len, value};
 pub use modes::line_mode;
 pub use token::{Mode, Token, TokenKind};
-pub use token_laws::{longest_or_none, one_token_list, tokens_are};
+pub use token_laws::{longest_or_none, one_token_list, tokens_are, tokens_ascend};
 pub use tokenizing::tokens;
 pub use unit::{begins_line_end, ends_in_lf, line_end_len};
 pub use whole::is_logical_line;

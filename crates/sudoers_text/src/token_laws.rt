@@ -1,6 +1,6 @@
 //! Laws of tokens, for the layers above. Each is the contract of a function that does nothing.
 
-ghost use Rattle.std.specs.Prelude.{◌≡◌, ℕ, List};
+ghost use Rattle.std.specs.Prelude.{◌≡◌, ℕ, List, length};
 ghost use Rattle.sudoers_text.specs.declared.token.Mode.{Mode as ModeOf};
 ghost use Rattle.sudoers_text.specs.declared.token.Token.{Token as TokenOf};
 ghost use Rattle.sudoers_text.specs.declared.token.TokenKind.{TokenKind as Kind};
@@ -8,6 +8,7 @@ ghost use Rattle.sudoers_text.specs.declared.context.Context.{Context as Context
 ghost use Rattle.sudoers_text.specs.Unit.{LineUnit};
 ghost use Rattle.sudoers_text.specs.Context.{forms};
 ghost use Rattle.sudoers_text.specs.Token.{IsToken, LongestOrNone, HasTokens};
+ghost use Rattle.sudoers_text.specs.Ascend.{TokensAscend};
 ghost use Rattle.sudoers_text.specs.Found.{tokens_of};
 
 /// A line has a list of tokens in each mode: the one that is computed.
@@ -26,4 +27,9 @@ pub fn one_token_list()
 pub fn longest_or_none()
     ensures { (here : ContextOf) (before : List LineUnit) (bytes : List ℕ) (kind : Kind) (size : ℕ)
         → IsToken (forms here) before bytes kind size → LongestOrNone (forms here) before bytes kind size }
+{}
+
+/// The tokens of a line stand one behind another in it, and none is empty.
+pub fn tokens_ascend()
+    ensures { (mode : ModeOf) (line : List ℕ) (tokens : List TokenOf) → HasTokens mode line tokens → TokensAscend 0 (length line) tokens }
 {}

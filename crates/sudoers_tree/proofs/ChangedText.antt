@@ -1,5 +1,7 @@
 -- The text of lines of which one is changed, by its parts; and the lines of it.
 use Rattle.std.proofs.Common.{◌≡◌, ℕ, zero, suc, ◌<◌, ◌≤◌, true, List, [], ◌∷◌, ◌++◌, length, take, drop, insert, remove, Ok, refl, ap, ◌∙◌, arith, append_assoc}
+use Rattle.std.proofs.Math.Seq.{take-length}
+use Rattle.std.proofs.lemmas.List.{length-append, take-append-le}
 use Rattle.std.specs.List.{AllByRecursion}
 use Rattle.sudoers_text.specs.Line.{join}
 use Rattle.sudoers_text.specs.Cut.{cut_of, StandAlone}
@@ -50,3 +52,19 @@ pub whole_replaced : (lines : List (List ℕ)) (at : ℕ) (line : List ℕ) → 
 whole_replaced [] at line all is = tt
 whole_replaced (l ∷ lines) zero line all is = (is, all.1)
 whole_replaced (l ∷ lines) (suc at) line all is = (all.0, whole_replaced lines at line all.1 is)
+
+-- FRONTS
+
+-- the text still begins so
+pub record KeepsFront (old new : List ℕ) : Type 0 where
+  pub size : length old ≤ length new
+  pub front : take (length old) new ≡ old
+
+pub front_begins : (text : List ℕ) → KeepsFront text text
+front_begins text = record { size = omega arith; front = take-length text }
+
+pub front_kept : (old text more new : List ℕ) → KeepsFront old text → new ≡ text ++ more → KeepsFront old new
+front_kept old text more new keeps is = record {
+  size = omega (arith, keeps.size, length-append text more, ap length is);
+  front = ap (take (length old)) is ∙ take-append-le (length old) text more keeps.size ∙ keeps.front;
+}

@@ -1,5 +1,5 @@
 //! The texts of policies of which a line is changed.
-ghost use Rattle.std.specs.Prelude.{◌≡◌, ◌<◌, ◌≤◌, ◌++◌, List, ℕ, length, insert, remove, false, Ok, IfOk, OnOk};
+ghost use Rattle.std.specs.Prelude.{◌≡◌, ◌<◌, ◌≤◌, ◌++◌, List, ℕ, length, take, insert, remove, false, Ok, IfOk, OnOk};
 ghost use Rattle.std.specs.List.{AllByRecursion};
 ghost use Rattle.sudoers_text.specs.Ended.{has_unended_inside};
 ghost use Rattle.sudoers_text.specs.Line.{join};
@@ -18,6 +18,10 @@ use sudoers_text::{
 };
 
 /// The text of lines with one more, before the line `at` or behind the last.
+///
+/// # Errors
+///
+/// Want of memory alone.
 pub fn text_with(
     alloc: Global,
     lines: &[Line],
@@ -36,6 +40,10 @@ pub fn text_with(
 }
 
 /// The text of lines without the line `at`.
+///
+/// # Errors
+///
+/// Want of memory alone.
 pub fn text_without(alloc: Global, lines: &[Line], at: usize) -> Result<Vec<u8>, AllocError>
     requires { at < length lines.now }
     ensures { IfOk result (λ text. text.items ≡ join (remove (texts lines.now) at)) }
@@ -49,6 +57,10 @@ pub fn text_without(alloc: Global, lines: &[Line], at: usize) -> Result<Vec<u8>,
 }
 
 /// The text of lines of which the one at a place is another.
+///
+/// # Errors
+///
+/// Want of memory alone.
 pub fn text_replaced(
     alloc: Global,
     lines: &[Line],
@@ -68,8 +80,14 @@ pub fn text_replaced(
 }
 
 /// Puts the texts of lines behind a text.
+///
+/// # Errors
+///
+/// Want of memory alone; the text then still begins as it was.
+#[tactic(auto, using(crate::proofs::ChangedText::front_begins, crate::proofs::ChangedText::front_kept))]
 pub fn append_texts(lines: &[Line], text: &mut Vec<u8>) -> Result<(), AllocError>
-    ensures { OnOk result (text.new.items ≡ text.old.items ++ join (texts lines.now)) }
+    ensures appended { OnOk result (text.new.items ≡ text.old.items ++ join (texts lines.now)) }
+    ensures front { take (length text.old.items) text.new.items ≡ text.old.items }
 {
     for line in lines {
         text.extend_from_slice(line.text.as_slice())?;

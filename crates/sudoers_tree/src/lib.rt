@@ -32,5 +32,5 @@ pub use single::read_line;
 pub use sudoers_line::{
     Address, AliasMember, Args, Atom, CmdSpec, Def, Digest, DigestKind, HostGroup, Items, Kind,
     LineFault, Mask, Member, Node, Operator, OptionName, Outline, Param, RunasSpec, Scope, Setting,
-    Tag, Why,
+    Tag, Why, definitions_ascend,
 };

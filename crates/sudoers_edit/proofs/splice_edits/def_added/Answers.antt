@@ -9,6 +9,7 @@ use Rattle.sudoers_edit.specs.SpliceEdits.{put_in, add_def}
 use Rattle.sudoers_edit.specs.declared.one_more.Among.TheVariants as among
 use Rattle.sudoers_edit.proofs.BackLemmas.{def_of_policy, add_unfound, add_found}
 use Rattle.sudoers_edit.proofs.DefLemmas.{add_replaces}
+use Rattle.sudoers_edit.proofs.WithinLemmas.{def_begins}
 use Rattle.sudoers_edit.proofs.splice_edits.def_added.Goals as goal
 
 pub returns-in-Err : goal.returns-in-Err
@@ -35,6 +36,12 @@ returns-in-Err-put_in c =
     ∙ add_found n c.args.at c.args.splice.now policy line c.in-Ok.found.1.now c.in-Ok.ensures.outcome
     ∙ (c.in-Ok-place_to_add.ensures (λ from. put_in among.Definitions c.args.at from n c.args.splice.now line policy)).0))
     (c.in-Err-put_in.ensures.outcome n policy)
+
+pub put_in-requires : goal.put_in-requires
+put_in-requires c =
+    let line : Line = c.in-Ok.found.0.now in
+    def_begins c.args.policy.now c.args.line c.args.at c.in-Ok-place_to_add.from line c.in-Ok.found.1.now c.is_known.ensures c.in-Ok.ensures.found.0 c.in-Ok.ensures.found.1
+    (c.in-Ok-place_to_add.ensures (λ from. put_in among.Definitions c.args.at from c.args.line c.args.splice.now line c.args.policy.now)).1
 
 pub line_replaced-requires : goal.line_replaced-requires
 line_replaced-requires c = slice_get_within c.args.policy.now c.args.line c.in-Ok.found.0.now c.in-Ok.ensures.found.0

@@ -11,6 +11,7 @@ use Rattle.sudoers_edit.specs.SpliceEdits.{cut_out, drop_def}
 use Rattle.sudoers_edit.specs.declared.one_more.Among.TheVariants as among
 use Rattle.sudoers_edit.proofs.BackLemmas.{def_of_policy, drop_unfound, drop_found}
 use Rattle.sudoers_edit.proofs.DefLemmas.{drop_replaces}
+use Rattle.sudoers_edit.proofs.WithinLemmas.{def_goes_on}
 use Rattle.sudoers_edit.proofs.splice_edits.def_dropped.Goals as goal
 
 pub returns-in-Err : goal.returns-in-Err
@@ -37,6 +38,15 @@ returns-in-Err-cut_out c =
     ∙ drop_found n c.args.at policy line c.in-Ok.found.1.now c.in-Ok.ensures.outcome
     ∙ (c.in-Ok-place_to_drop.ensures (λ from to. cut_out among.Definitions c.args.at from to n line policy)).0))
     (c.in-Err-cut_out.ensures.outcome n policy)
+
+pub cut_out-requires : goal.cut_out-requires
+cut_out-requires c =
+    let n : ℕ = c.args.line in
+    let at : ℕ = c.args.at in
+    let policy : List Line = c.args.policy.now in
+    let line : Line = c.in-Ok.found.0.now in
+    let place = c.in-Ok-place_to_drop.ensures (λ from to. cut_out among.Definitions at from to n line policy) in
+    def_goes_on policy n at c.in-Ok-place_to_drop.bytes.0 c.in-Ok-place_to_drop.bytes.1 line c.in-Ok.found.1.now c.is_known.ensures c.in-Ok.ensures.found.0 c.in-Ok.ensures.found.1 place.1 place.2
 
 pub line_replaced-requires : goal.line_replaced-requires
 line_replaced-requires c = slice_get_within c.args.policy.now c.args.line c.in-Ok.found.0.now c.in-Ok.ensures.found.0

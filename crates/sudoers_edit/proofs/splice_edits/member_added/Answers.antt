@@ -8,11 +8,12 @@ use Rattle.sudoers_edit.specs.declared.edit.Edit.TheVariants.{AddMember, DropMem
 use Rattle.sudoers_edit.specs.Editing.{Refuses}
 use Rattle.sudoers_edit.specs.Leading.{Replaces}
 use Rattle.sudoers_edit.specs.declared.edit.EditFault.{EditFault}
-use Rattle.sudoers_edit.specs.Splice.{member_extents}
+use Rattle.sudoers_edit.specs.Splice.{member_extents, seam}
 use Rattle.sudoers_edit.specs.SpliceEdits.{Lines, place_to_add, put_in, add_member}
 use Rattle.sudoers_edit.specs.declared.one_more.Among.TheVariants as among
 use Rattle.sudoers_edit.proofs.BackLemmas.{def_of_policy}
 use Rattle.sudoers_edit.proofs.MemberLemmas.{unfound, add_found, add_replaces}
+use Rattle.sudoers_edit.proofs.WithinLemmas.{member_begins}
 use Rattle.sudoers_edit.proofs.splice_edits.member_added.Goals as goal
 
 pub returns-in-Err : goal.returns-in-Err
@@ -43,6 +44,15 @@ returns-in-Err-put_in c =
     ∙ ap (λ ms. place_to_add c.args.at (member_extents ms) next) (sym c.as_slice.ensures)
     ∙ (c.in-Ok-place_to_add.ensures next).0))
     (c.in-Err-put_in.ensures.outcome place.line policy)
+
+pub put_in-requires : goal.put_in-requires
+put_in-requires c =
+    let policy : List Line = c.args.policy.now in
+    let place : Place = c.in-Ok.found.0 in
+    let line : Line = c.in-Ok.found.1.now in
+    let next : ℕ → Result Lines EditFault = λ from. put_in (among.Members place.def) c.args.at from place.line c.args.splice.now line policy in
+    member_begins c.args.kind c.args.name.now policy place line c.in-Ok.found.2.now c.args.at c.in-Ok-place_to_add.from c.is_known.ensures c.in-Ok.ensures.found
+    (ap (λ ms. seam c.args.at (member_extents ms)) (sym c.as_slice.ensures) ∙ (c.in-Ok-place_to_add.ensures next).1)
 
 pub line_replaced-requires : goal.line_replaced-requires
 line_replaced-requires c = slice_get_within c.args.policy.now c.in-Ok.found.0.line c.in-Ok.found.1.now c.in-Ok.ensures.found.here

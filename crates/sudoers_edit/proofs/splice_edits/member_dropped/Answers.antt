@@ -14,6 +14,7 @@ use Rattle.sudoers_edit.specs.SpliceEdits.{Lines, place_to_drop, cut_out, drop_m
 use Rattle.sudoers_edit.specs.declared.one_more.Among.TheVariants as among
 use Rattle.sudoers_edit.proofs.BackLemmas.{def_of_policy}
 use Rattle.sudoers_edit.proofs.MemberLemmas.{unfound, drop_found, drop_replaces}
+use Rattle.sudoers_edit.proofs.WithinLemmas.{member_goes_on}
 use Rattle.sudoers_edit.proofs.splice_edits.member_dropped.Goals as goal
 
 pub returns-in-Err : goal.returns-in-Err
@@ -44,6 +45,21 @@ returns-in-Err-cut_out c =
     ∙ ap (λ ms. place_to_drop c.args.at (member_extents ms) next) (sym c.as_slice.ensures)
     ∙ (c.in-Ok-place_to_drop.ensures next).0))
     (c.in-Err-cut_out.ensures.outcome place.line policy)
+
+pub cut_out-requires : goal.cut_out-requires
+cut_out-requires c =
+    let at : ℕ = c.args.at in
+    let policy : List Line = c.args.policy.now in
+    let place : Place = c.in-Ok.found.0 in
+    let line : Line = c.in-Ok.found.1.now in
+    let d : Def = c.in-Ok.found.2.now in
+    let from : ℕ = c.in-Ok-place_to_drop.bytes.0 in
+    let to : ℕ = c.in-Ok-place_to_drop.bytes.1 in
+    let next : ℕ → ℕ → Result Lines EditFault = λ from to. cut_out (among.Members place.def) at from to place.line line policy in
+    let bytes = c.in-Ok-place_to_drop.ensures next in
+    let begins : seam at (member_extents d.members) ≡ Some from = ap (λ ms. seam at (member_extents ms)) (sym c.as_slice.ensures) ∙ bytes.1 in
+    let stops : owned_stop at (member_extents d.members) ≡ Some to = ap (λ ms. owned_stop at (member_extents ms)) (sym c.as_slice.ensures) ∙ bytes.2 in
+    member_goes_on c.args.kind c.args.name.now policy place line d at from to c.is_known.ensures c.in-Ok.ensures.found begins stops
 
 pub line_replaced-requires : goal.line_replaced-requires
 line_replaced-requires c = slice_get_within c.args.policy.now c.in-Ok.found.0.line c.in-Ok.found.1.now c.in-Ok.ensures.found.here

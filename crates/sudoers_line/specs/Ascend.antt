@@ -1,0 +1,19 @@
+-- Members and definitions that stand one behind another.
+use Rattle.std.specs.Prelude.{ℕ, List}
+use Rattle.std.specs.List.{AllByRecursion}
+use Rattle.sudoers_text.specs.Ascend.{Ascend}
+use Rattle.sudoers_line.specs.declared.node.Def.{Def}
+use Rattle.sudoers_line.specs.declared.node.Member.{Member}
+
+-- between these two places
+abbrev pub MembersAscend : ℕ → ℕ → List Member → Type 0
+MembersAscend = Ascend (λ (m : Member). m.start) (λ (m : Member). m.stop)
+
+-- The members of a definition stand in it.
+abbrev pub HoldsMembers : Def → Type 0
+HoldsMembers d = MembersAscend d.start d.stop d.members
+
+-- Between these two places the definitions stand one behind another, and in each its members.
+abbrev pub DefsAscend : ℕ → ℕ → List Def → Type 0
+DefsAscend from to defs =
+    Ascend (λ (d : Def). d.start) (λ (d : Def). d.stop) from to defs × AllByRecursion HoldsMembers defs
