@@ -1,5 +1,5 @@
 -- What tokens say stands where they stand: members and definitions stand one behind another.
-use Rattle.std.proofs.Common.{◌≡◌, ℕ, ◌≤◌, ◌<◌, List, [], ◌∷◌, ◌++◌, length, map, refl, sym, ap, subst, ◌∙◌, arith}
+use Rattle.std.proofs.Common.{◌≡◌, ℕ, ◌≤◌, ◌<◌, List, [], ◌∷◌, ◌++◌, length, refl, sym, ap, subst, ◌∙◌, arith}
 use Rattle.std.specs.List.{AllByRecursion}
 use Rattle.sudoers_text.specs.declared.token.Mode.{Mode}
 use Rattle.sudoers_text.specs.declared.token.Token.{Token}
@@ -222,7 +222,7 @@ def_stands k from to ts rest d a is =
       begun = omega (arith, is.start, there.0);
       some = omega (arith, is.start, is.stop, there.1, there.2.0, there.2.1, later);
       own = ascend_wider member_start member_stop is.equals.stop d.start (list_stop d.members) d.stop d.members
-        (omega (arith, is.start, there.1, there.2.0, there.2.1)) (omega (arith, is.stop)) list.ascend;
+          (omega (arith, is.start, there.1, there.2.0, there.2.1)) (omega (arith, is.stop)) list.ascend;
       left = subst (λ n. PiecesAscend n to rest) (sym is.stop) list.left;
     }
 

@@ -1,5 +1,5 @@
 -- The tokens of a line stand one behind another.
-use Rattle.std.proofs.Common.{◌≡◌, inl, inr, ℕ, ◌+◌, ◌-◌, ◌≤◌, Bool, true, false, List, [], ◌∷◌, length, take, drop, arith}
+use Rattle.std.proofs.Common.{inl, inr, ℕ, ◌+◌, ◌-◌, ◌≤◌, Bool, true, false, List, [], ◌∷◌, length, take, drop, arith}
 use Rattle.std.specs.Prelude.{◌==◌, ◌&&◌, if◌then◌else◌}
 use Rattle.std.proofs.lemmas.List.{length-drop}
 use Rattle.sudoers_text.specs.declared.token.TokenKind.{TokenKind}
@@ -34,12 +34,11 @@ ascend_from : (ts : List Token) (here : Context) (line : List ℕ) (at : ℕ) �
 ascend_from [] here line at inside are = inside
 ascend_from (t ∷ ts) here line at inside are =
     let body = drop t.start line in
-    let within = token_within (forms here) (units_left line t.start) body t.kind (t.stop - t.start) are.3 in
-    (
+    let within = token_within (forms here) (units_left line t.start) body t.kind (t.stop - t.start) are.3 in (
       omega (arith, are.0),
       are.2,
       ascend_from ts (behind here t.kind (take (t.stop - t.start) body) (drop (t.stop - t.start) body)) line t.stop
-      (omega (arith, within, are.2, length-drop t.start line)) are.4,
+          (omega (arith, within, are.2, length-drop t.start line)) are.4,
     )
 
 pub tokens_ascend : (m : Mode) (line : List ℕ) (ts : List Token) → HasTokens m line ts → TokensAscend 0 (length line) ts

@@ -1,5 +1,5 @@
 -- How far a text has been cut.
-use Rattle.std.proofs.Common.{◌≡◌, ◌↔◌, ℕ, zero, suc, ◌+◌, ◌-◌, ◌<◌, ◌≤◌, Bool, true, false, List, [], ◌∷◌, ◌++◌, length, take, drop, refl, sym, ap, subst, ◌∙◌, arith, append-nil}
+use Rattle.std.proofs.Common.{◌≡◌, ◌↔◌, ℕ, zero, suc, ◌+◌, ◌-◌, ◌<◌, ◌≤◌, Bool, true, List, [], ◌∷◌, ◌++◌, length, take, drop, refl, sym, ap, subst, ◌∙◌, arith, append-nil}
 use Rattle.std.specs.Prelude.{slice_range, slice_get, Some}
 use Rattle.std.proofs.lemmas.List.{length-drop, length-take-le, drop-drop, take-append-drop, append_assoc, map-append, same_from_push, take_all, drop_all}
 use Rattle.sudoers_text.specs.declared.cutting.Span.{Span}

@@ -1,5 +1,5 @@
 -- Policies in outline.
-use Rattle.std.proofs.Common.{◌≡◌, ℕ, ◌+◌, ◌⊎◌, inl, inr, List, [], ◌∷◌, ◌++◌, length, take, Result, Ok, Err, refl, sym, ap, subst, ◌∙◌, append-nil, arith}
+use Rattle.std.proofs.Common.{◌≡◌, ℕ, ◌+◌, ◌⊎◌, inl, inr, List, [], ◌∷◌, ◌++◌, length, take, Result, Ok, Err, refl, sym, ap, subst, ◌∙◌, arith}
 use Rattle.std.proofs.lemmas.List.{length-append}
 use Rattle.sudoers_text.specs.Line.{join}
 use Rattle.sudoers_text.specs.Fault.{lf_count}
@@ -9,24 +9,22 @@ use Rattle.sudoers_text.specs.declared.fault.TextFault.TheVariants as text_fault
 use Rattle.sudoers_line.specs.declared.fault.LineFault.{LineFault}
 use Rattle.sudoers_line.specs.declared.fault.LineFault.TheVariants as line_fault
 use Rattle.sudoers_line.specs.declared.node.Node.{Node}
-use Rattle.sudoers_line.specs.declared.node.Node.TheVariants as node
 use Rattle.sudoers_line.specs.Outcome.{outcome_of, LineGives}
-use Rattle.sudoers_line.specs.Outline.{IsSpec, IsOutline, OutlineGives}
+use Rattle.sudoers_line.specs.Outline.{IsOutline, OutlineGives}
 use Rattle.sudoers_tree.specs.declared.line.Line.{Line}
-use Rattle.sudoers_tree.specs.declared.index.Index.{Index}
 use Rattle.sudoers_tree.specs.declared.outline.OutlinedLine.{OutlinedLine}
 use Rattle.sudoers_tree.specs.declared.outline.Outlining.{Outlining}
 use Rattle.sudoers_tree.specs.declared.fault.ReadFault.{ReadFault}
 use Rattle.sudoers_tree.specs.declared.fault.ReadFault.TheVariants.{Text, Syntax, Reserved, Duplicate, TooMany, NoMemory}
 use Rattle.sudoers_tree.specs.Physical.{row_behind, column_behind}
-use Rattle.sudoers_tree.specs.Definition.{Definition, definitions, definitions_in}
+use Rattle.sudoers_tree.specs.Definition.{definitions, definitions_in}
 use Rattle.sudoers_tree.specs.Policy.{texts}
 use Rattle.sudoers_tree.specs.Wrapped.{fault_of_text}
 use Rattle.sudoers_tree.specs.Reading.{line_behind, read_of, read_cut}
 use Rattle.sudoers_line.specs.declared.node.Kind.{Kind}
 use Rattle.sudoers_line.specs.declared.node.Def.{Def}
 use Rattle.sudoers_tree.specs.declared.place.Place.{Place}
-use Rattle.sudoers_tree.specs.Index.{Indexes, Enters, Takes, ReadsAll, Comes, unless, entry_fault, entered}
+use Rattle.sudoers_tree.specs.Index.{Indexes, Takes, ReadsAll, Comes, unless, entry_fault, entered}
 use Rattle.sudoers_tree.specs.Outline.{AreOutlines}
 use Rattle.sudoers_tree.specs.Outlining.{fault_of_line, IsOutlining}
 use Rattle.sudoers_tree.proofs.Joined.{lf_append, definitions_push}
