@@ -2,9 +2,11 @@
 
 Each function answers the input of one case, what has to come of it and the words
 of `show` or `check` where there are any; its name is the case's name. Every
-accepted edit is also run back, but `prune`, which other edits take back.
+accepted edit is also run back: to the input, or, where it prunes, to the policy
+alone, since other edits take a `prune` back.
 """
 
+import way_back
 from program import Wanted, fault, run
 
 INPUT_LIMIT = 4_000_000
@@ -27,7 +29,7 @@ def case(make):
 
 
 def case_of_prune(make):
-    """Enters a function whose case is not run back."""
+    """Enters a function whose edits prune, so that its way back leads to the policy alone."""
     PRUNES.add(make)
     return case(make)
 
@@ -665,9 +667,9 @@ def check_of_one_undefined_name_that_is_mentioned_very_often():
 # ---- the script --------------------------------------------------------------
 
 
-def many_edits():
-    """A script of just as many edits as a script may have, which is its own inverse."""
-    return b"insert 1\n|\ndelete 1\n" * (EDIT_LIMIT // 2)
+def many_edits(count=EDIT_LIMIT):
+    """A script of so many edits, an even number, which is its own inverse; without one of as many as a script may have."""
+    return b"insert 1\n|\ndelete 1\n" * (count // 2)
 
 
 @case
@@ -769,6 +771,6 @@ def run_all(program, tally):
     for make in CASES:
         stdin, wanted, *words = make()
         problems = wanted.problems(run(program, words, stdin))
-        if wanted.status == 0 and not words and make not in PRUNES and not problems:
-            problems = Wanted(stdin).problems(run(program, (), wanted.stdout))
+        if way_back.is_accepted(words, wanted) and not problems:
+            problems = way_back.problems(program, words, stdin, wanted.stdout, whole=make not in PRUNES)
         tally.note(make.__name__, problems)
