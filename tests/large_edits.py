@@ -228,6 +228,37 @@ def definitions_of_a_line_that_were_pruned_are_put_in_again():
     return accepted(script, b"Host_Alias A1=ALL\n" + user, inverse, policy + user)
 
 
+# ---- too many edits that take the script back --------------------------------
+
+# Prune alone is taken back by more edits than one: here by one for each of these lines.
+UNUSED = (b"User_Alias A = x\n", b"Host_Alias B = h\n", b"Cmnd_Alias C = /c\n")
+
+
+@case
+def prune_that_more_edits_than_allowed_take_back():
+    script = many_edits(EDIT_LIMIT - 2) + b"move 1 1\nprune\n"
+    return refused(script, b"".join(UNUSED[:2]), "TooMany")
+
+
+@case_of_prune
+def prune_that_as_many_edits_as_allowed_take_back_is_accepted():
+    before, policy = many_edits(EDIT_LIMIT - 2), b"".join(UNUSED[:2])
+    return accepted(before + b"prune\n", policy, put_in_again(policy) + before, b"")
+
+
+@case
+def last_edit_that_is_refused_comes_before_too_many_that_take_back():
+    script = many_edits(EDIT_LIMIT - 2) + b"prune\ndelete 1\n"
+    return refused(script, b"".join(UNUSED), f"edit {EDIT_LIMIT}: NoLine")
+
+
+@case
+def last_prune_that_is_refused_is_told():
+    policy = b"Host_Alias A = % : B = y #1\nbob A=ALL\n"
+    script = many_edits(EDIT_LIMIT - 2) + b"move 1 1\nprune\n"
+    return refused(script, policy, f"edit {EDIT_LIMIT}: BadSplice")
+
+
 # ---- the script --------------------------------------------------------------
 
 
