@@ -292,6 +292,12 @@ def insert_past_the_policy_limit():
 
 
 @case
+def insert_past_the_policy_limit_behind_very_many_lines():
+    policy = b"bob ALL=ALL\n" * (POLICY_LIMIT // 12) + SMALL
+    return refused(b"insert %d\n|\n" % (policy.count(b"\n") + 1), policy, "edit 1: TooLarge")
+
+
+@case
 def insert_of_an_open_line_past_the_policy_limit():
     return refused(b"insert 17\n>#\n", full_policy(), "edit 1: TooLarge")
 
@@ -401,6 +407,16 @@ def endline_past_the_policy_limit():
 
 
 @case
+def line_end_that_is_there_comes_before_the_policy_limit():
+    return refused(b"endline\n", full_policy(), "edit 1: EndAsIs")
+
+
+@case
+def line_end_that_is_there_comes_before_the_line_limit():
+    return refused(b"endline\n", SMALL + comment(LINE_LIMIT), "edit 1: EndAsIs")
+
+
+@case
 def openend_in_a_full_policy_is_accepted():
     return accepted(b"openend\n", full_policy(), b"endline\n", full_policy()[:-1])
 
@@ -410,9 +426,9 @@ def openend_in_a_full_policy_is_accepted():
 KINDS = (b"User_Alias", b"Runas_Alias", b"Host_Alias", b"Cmnd_Alias")
 
 
-def definitions(kind, count):
+def definitions(kind, count, member=b"ALL"):
     """So many definitions of a kind, each in a line of its own."""
-    return b"".join(b"%s A%d = ALL\n" % (kind, number) for number in range(1, count + 1))
+    return b"".join(b"%s A%d = %s\n" % (kind, number, member) for number in range(1, count + 1))
 
 
 def definitions_in_one_line(kind, count):
@@ -426,8 +442,13 @@ def policy_of_as_many_definitions_as_allowed_is_read():
 
 
 @case
+def policy_of_as_many_definitions_of_a_kind_as_allowed_is_read():
+    return unchanged(definitions(b"Host_Alias", ALIAS_LIMIT, b"h"))
+
+
+@case
 def policy_with_one_definition_too_many():
-    return refused(b"", definitions(b"Host_Alias", ALIAS_LIMIT + 1), "policy: too many Host_Alias")
+    return refused(b"", definitions(b"Host_Alias", ALIAS_LIMIT + 1, b"h"), "policy: too many Host_Alias")
 
 
 @case

@@ -76,7 +76,7 @@ def rename_that_takes_bytes_away_at_the_limits_is_accepted():
 
 @case
 def missing_alias_comes_before_the_policy_limit():
-    return refused(renames(b"B", b"ABC"), filled(ONE), "edit 1: NoAlias")
+    return refused(renames(b"B", b"ABC"), filled(ONE + b"B h=ALL\n"), "edit 1: NoAlias")
 
 
 @case
@@ -126,6 +126,27 @@ def add_of_a_member_up_to_the_line_limit_is_accepted():
 @case
 def missing_place_comes_before_the_policy_limit():
     return refused(b"add user A 3\n>,y\n", filled(ONE), "edit 1: NoPlace")
+
+
+@case
+def missing_alias_of_a_member_comes_before_the_policy_limit():
+    return refused(b"add user B 1\n>y,\n", filled(ONE + b"B h=ALL\n"), "edit 1: NoAlias")
+
+
+@case
+def missing_line_of_a_definition_comes_before_the_policy_limit():
+    policy = filled(ONE)
+    return refused(b"adddef %d 1\n>B=y:\n" % (policy.count(b"\n") + 1), policy, "edit 1: NoLine")
+
+
+@case
+def line_that_defines_nothing_comes_before_the_policy_limit():
+    return refused(b"adddef 2 1\n>B=y:\n", filled(ONE), "edit 1: NoAlias")
+
+
+@case
+def missing_place_of_a_definition_comes_before_the_policy_limit():
+    return refused(b"adddef 1 3\n>:B=y\n", filled(ONE), "edit 1: NoPlace")
 
 
 @case
