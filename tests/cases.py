@@ -12,11 +12,15 @@ The files of a folder, each of which may be missing:
     status       the status, a decimal number (0)
     back         an empty flag: the output given as input again has to give the
                  case's input back, byte for byte
+
+The output of each other accepted edit, given as input again, has to give the
+case's policy back.
 """
 
 import os
 from dataclasses import dataclass
 
+import way_back
 from program import Wanted, run
 
 FOLDER = os.path.join(os.path.dirname(os.path.abspath(__file__)), "cases")
@@ -68,9 +72,12 @@ def load(name):
     stdout, stdout_has = read_stream(folder, "stdout")
     stderr, stderr_has = read_stream(folder, "stderr")
     status = int(read_file(folder, "status") or b"0")
+    words = lines_of(read_file(folder, "words"))
     wanted = Wanted(stdout, stderr, status, stdout_has, stderr_has)
     back = read_file(folder, "back") is not None
-    return Case(name, lines_of(read_file(folder, "words")), read_file(folder, "stdin") or b"", wanted, back, folder)
+    if back and not way_back.is_accepted(words, wanted):
+        raise ValueError(f"case {name}: no accepted edit is given back")
+    return Case(name, words, read_file(folder, "stdin") or b"", wanted, back, folder)
 
 
 def load_all():
@@ -78,16 +85,10 @@ def load_all():
     return [load(name) for name in sorted(os.listdir(FOLDER))]
 
 
-def check_back(program, case):
-    """The output of the case as input has to give the case's input."""
-    answer = run(program, case.words, case.wanted.stdout, folder=case.folder)
-    return ["the way back:", *problems] if (problems := Wanted(case.stdin).problems(answer)) else []
-
-
 def run_all(program, tally):
-    """Runs each case of the folder, and its way back where it is flagged."""
+    """Runs each case of the folder, and the way back of each accepted edit."""
     for case in load_all():
         problems = case.wanted.problems(run(program, case.words, case.stdin, folder=case.folder))
-        if case.back and not problems:
-            problems = check_back(program, case)
+        if way_back.is_accepted(case.words, case.wanted) and not problems:
+            problems = way_back.problems(program, case.words, case.stdin, case.wanted.stdout, whole=case.back)
         tally.note(case.name, problems)

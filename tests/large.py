@@ -2,9 +2,11 @@
 
 Each function answers the input of one case, what has to come of it and the words
 of `show` or `check` where there are any; its name is the case's name. Every
-accepted edit is also run back, but `prune`, which other edits take back.
+accepted edit is also run back: to the input, or, where it prunes, to the policy
+alone, since other edits take a `prune` back.
 """
 
+import way_back
 from program import Wanted, fault, run
 
 INPUT_LIMIT = 4_000_000
@@ -27,7 +29,7 @@ def case(make):
 
 
 def case_of_prune(make):
-    """Enters a function whose case is not run back."""
+    """Enters a function whose edits prune, so that its way back leads to the policy alone."""
     PRUNES.add(make)
     return case(make)
 
@@ -290,6 +292,12 @@ def insert_past_the_policy_limit():
 
 
 @case
+def insert_past_the_policy_limit_behind_very_many_lines():
+    policy = b"bob ALL=ALL\n" * (POLICY_LIMIT // 12) + SMALL
+    return refused(b"insert %d\n|\n" % (policy.count(b"\n") + 1), policy, "edit 1: TooLarge")
+
+
+@case
 def insert_of_an_open_line_past_the_policy_limit():
     return refused(b"insert 17\n>#\n", full_policy(), "edit 1: TooLarge")
 
@@ -399,6 +407,16 @@ def endline_past_the_policy_limit():
 
 
 @case
+def line_end_that_is_there_comes_before_the_policy_limit():
+    return refused(b"endline\n", full_policy(), "edit 1: EndAsIs")
+
+
+@case
+def line_end_that_is_there_comes_before_the_line_limit():
+    return refused(b"endline\n", SMALL + comment(LINE_LIMIT), "edit 1: EndAsIs")
+
+
+@case
 def openend_in_a_full_policy_is_accepted():
     return accepted(b"openend\n", full_policy(), b"endline\n", full_policy()[:-1])
 
@@ -408,9 +426,9 @@ def openend_in_a_full_policy_is_accepted():
 KINDS = (b"User_Alias", b"Runas_Alias", b"Host_Alias", b"Cmnd_Alias")
 
 
-def definitions(kind, count):
+def definitions(kind, count, member=b"ALL"):
     """So many definitions of a kind, each in a line of its own."""
-    return b"".join(b"%s A%d = ALL\n" % (kind, number) for number in range(1, count + 1))
+    return b"".join(b"%s A%d = %s\n" % (kind, number, member) for number in range(1, count + 1))
 
 
 def definitions_in_one_line(kind, count):
@@ -424,8 +442,13 @@ def policy_of_as_many_definitions_as_allowed_is_read():
 
 
 @case
+def policy_of_as_many_definitions_of_a_kind_as_allowed_is_read():
+    return unchanged(definitions(b"Host_Alias", ALIAS_LIMIT, b"h"))
+
+
+@case
 def policy_with_one_definition_too_many():
-    return refused(b"", definitions(b"Host_Alias", ALIAS_LIMIT + 1), "policy: too many Host_Alias")
+    return refused(b"", definitions(b"Host_Alias", ALIAS_LIMIT + 1, b"h"), "policy: too many Host_Alias")
 
 
 @case
@@ -665,9 +688,9 @@ def check_of_one_undefined_name_that_is_mentioned_very_often():
 # ---- the script --------------------------------------------------------------
 
 
-def many_edits():
-    """A script of just as many edits as a script may have, which is its own inverse."""
-    return b"insert 1\n|\ndelete 1\n" * (EDIT_LIMIT // 2)
+def many_edits(count=EDIT_LIMIT):
+    """A script of so many edits, an even number, which is its own inverse; without one of as many as a script may have."""
+    return b"insert 1\n|\ndelete 1\n" * (count // 2)
 
 
 @case
@@ -769,6 +792,6 @@ def run_all(program, tally):
     for make in CASES:
         stdin, wanted, *words = make()
         problems = wanted.problems(run(program, words, stdin))
-        if wanted.status == 0 and not words and make not in PRUNES and not problems:
-            problems = Wanted(stdin).problems(run(program, (), wanted.stdout))
+        if way_back.is_accepted(words, wanted) and not problems:
+            problems = way_back.problems(program, words, stdin, wanted.stdout, whole=make not in PRUNES)
         tally.note(make.__name__, problems)

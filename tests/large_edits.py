@@ -76,7 +76,7 @@ def rename_that_takes_bytes_away_at_the_limits_is_accepted():
 
 @case
 def missing_alias_comes_before_the_policy_limit():
-    return refused(renames(b"B", b"ABC"), filled(ONE), "edit 1: NoAlias")
+    return refused(renames(b"B", b"ABC"), filled(ONE + b"B h=ALL\n"), "edit 1: NoAlias")
 
 
 @case
@@ -126,6 +126,27 @@ def add_of_a_member_up_to_the_line_limit_is_accepted():
 @case
 def missing_place_comes_before_the_policy_limit():
     return refused(b"add user A 3\n>,y\n", filled(ONE), "edit 1: NoPlace")
+
+
+@case
+def missing_alias_of_a_member_comes_before_the_policy_limit():
+    return refused(b"add user B 1\n>y,\n", filled(ONE + b"B h=ALL\n"), "edit 1: NoAlias")
+
+
+@case
+def missing_line_of_a_definition_comes_before_the_policy_limit():
+    policy = filled(ONE)
+    return refused(b"adddef %d 1\n>B=y:\n" % (policy.count(b"\n") + 1), policy, "edit 1: NoLine")
+
+
+@case
+def line_that_defines_nothing_comes_before_the_policy_limit():
+    return refused(b"adddef 2 1\n>B=y:\n", filled(ONE), "edit 1: NoAlias")
+
+
+@case
+def missing_place_of_a_definition_comes_before_the_policy_limit():
+    return refused(b"adddef 1 3\n>:B=y\n", filled(ONE), "edit 1: NoPlace")
 
 
 @case
@@ -226,6 +247,37 @@ def definitions_of_a_line_that_were_pruned_are_put_in_again():
     script = b"".join(b"adddef 1 %d\n>:A%d=ALL\n" % (n, n) for n in range(2, PRUNED + 1))
     inverse = b"".join(b"dropdef 1 %d\n" % n for n in range(PRUNED, 1, -1))
     return accepted(script, b"Host_Alias A1=ALL\n" + user, inverse, policy + user)
+
+
+# ---- too many edits that take the script back --------------------------------
+
+# Prune alone is taken back by more edits than one: here by one for each of these lines.
+UNUSED = (b"User_Alias A = x\n", b"Host_Alias B = h\n", b"Cmnd_Alias C = /c\n")
+
+
+@case
+def prune_that_more_edits_than_allowed_take_back():
+    script = many_edits(EDIT_LIMIT - 2) + b"move 1 1\nprune\n"
+    return refused(script, b"".join(UNUSED[:2]), "TooMany")
+
+
+@case_of_prune
+def prune_that_as_many_edits_as_allowed_take_back_is_accepted():
+    before, policy = many_edits(EDIT_LIMIT - 2), b"".join(UNUSED[:2])
+    return accepted(before + b"prune\n", policy, put_in_again(policy) + before, b"")
+
+
+@case
+def last_edit_that_is_refused_comes_before_too_many_that_take_back():
+    script = many_edits(EDIT_LIMIT - 2) + b"prune\ndelete 1\n"
+    return refused(script, b"".join(UNUSED), f"edit {EDIT_LIMIT}: NoLine")
+
+
+@case
+def last_prune_that_is_refused_is_told():
+    policy = b"Host_Alias A = % : B = y #1\nbob A=ALL\n"
+    script = many_edits(EDIT_LIMIT - 2) + b"move 1 1\nprune\n"
+    return refused(script, policy, f"edit {EDIT_LIMIT}: BadSplice")
 
 
 # ---- the script --------------------------------------------------------------

@@ -29,6 +29,15 @@ fn aliases_that_are_not_there(rt: HostRuntime) -> Result<(), Fail> {
 }
 
 #[test]
+fn lines_and_aliases_that_are_not_there_come_before_places(rt: HostRuntime) -> Result<(), Fail> {
+    let alloc = rt.alloc();
+    let policy = "User_Alias A = x\nbob ALL=ALL\n";
+    refuses(&rt, alloc, policy, "adddef 3 9\n> : B = y\n", "1: NoLine")?;
+    refuses(&rt, alloc, policy, "adddef 2 9\n> : B = y\n", "1: NoAlias")?;
+    refuses(&rt, alloc, policy, "adddef 1 3\n> : A = y\n", "1: NoPlace")
+}
+
+#[test]
 fn the_only_one_stays(rt: HostRuntime) -> Result<(), Fail> {
     let policy = "User_Alias A = x\n";
     refuses(&rt, rt.alloc(), policy, "drop user A 1\n", "1: OnlyOne")?;
@@ -44,6 +53,7 @@ fn whole_lines_and_ends(rt: HostRuntime) -> Result<(), Fail> {
     refuses(&rt, alloc, policy, "insert 1\n># a\n", "1: OpenLine")?;
     refuses(&rt, alloc, "# a", "insert 2\n|# b\n", "1: OpenLine")?;
     refuses(&rt, alloc, "# a\n# b", "move 1 2\n", "1: OpenLine")?;
+    refuses(&rt, alloc, "\nA B=C\n\n# b", "move 4 2\n", "1: OpenLine")?;
     refuses(&rt, alloc, policy, "endline\n", "1: EndAsIs")?;
     refuses(&rt, alloc, "", "openend\n", "1: EndAsIs")
 }

@@ -1,7 +1,40 @@
 //! Edits taken back one by one, and lists of edits that stop.
 
 use crate::given::{editor_of, edits_of, text_of};
+use std::alloc::{AllocError, Global};
 use std::test::Fail;
+use sudoers_edit::{Edit, EditFault, Text};
+use sudoers_tree::Kind;
+
+/// The renaming of a command alias.
+fn renaming(alloc: Global, name: &str, fresh: &str) -> Result<Edit, AllocError> {
+    Ok(Edit::Rename {
+        kind: Kind::Cmnd,
+        name: Text::from_slice(alloc, name.as_bytes())?,
+        fresh: Text::from_slice(alloc, fresh.as_bytes())?,
+    })
+}
+
+#[test]
+fn one_edit_is_made_and_taken_back(rt: HostRuntime) -> Result<(), Fail> {
+    let alloc = rt.alloc();
+    let before =
+        "Cmnd_Alias SH = /bin/sh, /opt/SH # SH\nHost_Alias SH = h1\nDefaults!SH noexec\nbob SH = SH\n";
+    let after =
+        "Cmnd_Alias SHELLS = /bin/sh, /opt/SH # SH\nHost_Alias SH = h1\nDefaults!SHELLS noexec\nbob SH = SHELLS\n";
+    let mut editor = editor_of(alloc, before)?;
+    let edit = renaming(alloc, "SH", "SHELLS")?;
+    assert!(&rt; editor.apply(&edit).is_ok());
+    assert_eq!(&rt; str::from_utf8(text_of(&editor)?.as_slice()), Ok(after));
+    assert_eq!(&rt; editor.steps(), 1);
+    assert!(&rt; matches!(editor.apply(&edit), Err(EditFault::NoAlias)));
+    assert_eq!(&rt; str::from_utf8(text_of(&editor)?.as_slice()), Ok(after));
+    assert_eq!(&rt; editor.steps(), 1);
+    assert!(&rt; matches!(editor.undo(), Ok(true)));
+    assert_eq!(&rt; str::from_utf8(text_of(&editor)?.as_slice()), Ok(before));
+    assert_eq!(&rt; editor.steps(), 0);
+    Ok(())
+}
 
 #[test]
 fn undo_takes_a_whole_prune_back(rt: HostRuntime) -> Result<(), Fail> {

@@ -1,1 +1,1 @@
-pub mod FewLines
+pub mod EndedLines

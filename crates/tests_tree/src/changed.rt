@@ -1,42 +1,83 @@
 //! Policies with a line more, less, or another.
-ghost use Rattle.std.specs.Prelude.{◌≡◌, length};
+ghost use Rattle.std.specs.Prelude.{◌≡◌, false};
+ghost use Rattle.sudoers_text.specs.Ended.{has_unended_inside};
+ghost use Rattle.sudoers_tree.specs.Policy.{texts};
 
 use std::alloc::Global;
 use std::process::Abort;
 use std::test::Fail;
-use sudoers_text::{is_logical_line, whole_line_is};
-use sudoers_tree::{Kind, Policy, ReadFault};
+use sudoers_text::{ends_in_lf, is_logical_line, lines_stand_alone, whole_line_is};
+use sudoers_tree::{
+    Kind, Policy, ReadFault, append_texts, policy_is_cut, text_replaced, text_with, text_without,
+};
+
+/// A law: no line of a policy without LF stands before another.
+fn are_ended(policy: &Policy)
+    ensures { has_unended_inside (texts policy.now) ≡ false }
+{
+    policy.is_policy();
+    policy_is_cut();
+    lines_stand_alone();
+}
+
+/// Puts a line that ends in LF before another.
+#[tactic(auto, using(crate::proofs::EndedLines::before))]
+fn put_before(
+    rt: &impl Abort,
+    policy: &mut Policy,
+    at: usize,
+    line: &[u8],
+) -> Result<(), ReadFault> {
+    whole_line_is();
+    are_ended(policy);
+    assert!(rt; at < policy.len(), "there is a line at {at}");
+    assert!(rt; is_logical_line(line), "it is one line");
+    assert!(rt; ends_in_lf(line), "it ends in LF");
+    policy.with_line(at, line)
+}
+
+/// Puts a line behind the last, which ends in LF.
+#[tactic(auto, using(crate::proofs::EndedLines::behind))]
+fn put_behind(rt: &impl Abort, policy: &mut Policy, line: &[u8]) -> Result<(), ReadFault> {
+    whole_line_is();
+    are_ended(policy);
+    let count = policy.len();
+    assert!(rt; count > 0, "there is a line");
+    let ends = match policy.line(count - 1) {
+        Some(last) => ends_in_lf(last),
+        None => false,
+    };
+    assert!(rt; ends, "the last line ends in LF");
+    assert!(rt; is_logical_line(line), "it is one line");
+    policy.with_line(count, line)
+}
 
 /// Puts the first line into a policy of none.
-#[tactic(auto, using(crate::proofs::FewLines::one_line))]
-fn put_first(policy: &mut Policy, line: &[u8]) -> Result<(), ReadFault>
-    requires { length policy.old ≡ 0 }
-{
+#[tactic(auto, using(crate::proofs::EndedLines::alone))]
+fn put_first(rt: &impl Abort, policy: &mut Policy, line: &[u8]) -> Result<(), ReadFault> {
     whole_line_is();
-    if !is_logical_line(line) {
-        return Ok(());
-    }
+    assert!(rt; policy.len() == 0, "there is no line");
+    assert!(rt; is_logical_line(line), "it is one line");
     policy.with_line(0, line)
 }
 
-/// Puts another line in the place of the only one.
-#[tactic(auto, using(crate::proofs::FewLines::other_line))]
-fn replace_only(policy: &mut Policy, line: &[u8]) -> Result<(), ReadFault>
-    requires { length policy.old ≡ 1 }
-{
+/// Puts a line that ends in LF in the place of another.
+#[tactic(auto, using(crate::proofs::EndedLines::in_place))]
+fn replace(rt: &impl Abort, policy: &mut Policy, at: usize, line: &[u8]) -> Result<(), ReadFault> {
     whole_line_is();
-    if !is_logical_line(line) {
-        return Ok(());
-    }
-    policy.replaced(0, line)
+    are_ended(policy);
+    assert!(rt; at < policy.len(), "there is a line at {at}");
+    assert!(rt; is_logical_line(line), "it is one line");
+    assert!(rt; ends_in_lf(line), "it ends in LF");
+    policy.replaced(at, line)
 }
 
-/// Takes the only line out.
-#[tactic(auto, using(crate::proofs::FewLines::no_line))]
-fn take_only(policy: &mut Policy) -> Result<(), ReadFault>
-    requires { length policy.old ≡ 1 }
-{
-    policy.without_line(0)
+/// Takes a line out.
+#[tactic(auto, using(crate::proofs::EndedLines::without))]
+fn take_out(rt: &impl Abort, policy: &mut Policy, at: usize) -> Result<(), ReadFault> {
+    are_ended(policy);
+    assert!(rt; at < policy.len(), "there is a line at {at}");
+    policy.without_line(at)
 }
 
 fn has_text(rt: &impl Abort, policy: &Policy, wanted: &str) -> Result<(), Fail> {
@@ -47,29 +88,89 @@ fn has_text(rt: &impl Abort, policy: &Policy, wanted: &str) -> Result<(), Fail> 
 
 #[test]
 fn a_line_comes_is_replaced_and_goes(rt: HostRuntime) -> Result<(), Fail> {
-    let alloc: Global = rt.alloc();
-    let mut policy = Policy::read(alloc, b"")?;
-    assert_eq!(&rt; policy.len(), 0);
-    put_first(&mut policy, b"User_Alias A = x\n")?;
+    let mut policy = Policy::read(rt.alloc(), b"")?;
+    put_first(&rt, &mut policy, b"User_Alias A = x\n")?;
     has_text(&rt, &policy, "User_Alias A = x\n")?;
-    assert!(&rt; policy.definition(Kind::User, b"A").is_some());
-    assert_eq!(&rt; policy.len(), 1);
-    replace_only(&mut policy, b"User_Alias B = x\n")?;
+    assert!(rt; policy.definition(Kind::User, b"A").is_some());
+    replace(&rt, &mut policy, 0, b"User_Alias B = x\n")?;
     has_text(&rt, &policy, "User_Alias B = x\n")?;
-    assert!(&rt; policy.definition(Kind::User, b"A").is_none());
-    assert_eq!(&rt; policy.len(), 1);
-    take_only(&mut policy)?;
+    assert!(rt; policy.definition(Kind::User, b"A").is_none());
+    take_out(&rt, &mut policy, 0)?;
     has_text(&rt, &policy, "")
 }
 
 #[test]
+fn lines_beside_the_changed_one_stay(rt: HostRuntime) -> Result<(), Fail> {
+    let mut policy = Policy::read(rt.alloc(), b"# a\n")?;
+    put_behind(&rt, &mut policy, b"# b\n")?;
+    has_text(&rt, &policy, "# a\n# b\n")?;
+    replace(&rt, &mut policy, 0, b"# c\n")?;
+    has_text(&rt, &policy, "# c\n# b\n")?;
+    take_out(&rt, &mut policy, 1)?;
+    has_text(&rt, &policy, "# c\n")?;
+    put_before(&rt, &mut policy, 0, b"# d\n")?;
+    has_text(&rt, &policy, "# d\n# c\n")?;
+    put_before(&rt, &mut policy, 1, b"# e\n")?;
+    has_text(&rt, &policy, "# d\n# e\n# c\n")?;
+    replace(&rt, &mut policy, 1, b"# f\n")?;
+    has_text(&rt, &policy, "# d\n# f\n# c\n")?;
+    take_out(&rt, &mut policy, 0)?;
+    has_text(&rt, &policy, "# f\n# c\n")?;
+    put_behind(&rt, &mut policy, b"# g")?;
+    has_text(&rt, &policy, "# f\n# c\n# g")
+}
+
+/// The call is refused, since a name would be defined twice or is reserved, and the policy is as it was.
+fn is_refused(
+    rt: &impl Abort,
+    outcome: Result<(), ReadFault>,
+    twice: bool,
+    policy: &Policy,
+    text: &str,
+) -> Result<(), Fail> {
+    let told = match outcome {
+        Err(ReadFault::Duplicate { .. }) => twice,
+        Err(ReadFault::Reserved { .. }) => !twice,
+        _ => false,
+    };
+    assert!(rt; told, "of {text}");
+    has_text(rt, policy, text)?;
+    assert!(rt; policy.definition(Kind::User, b"A").is_some(), "of {text}");
+    Ok(())
+}
+
+#[test]
 fn a_line_that_is_refused_changes_nothing(rt: HostRuntime) -> Result<(), Fail> {
+    let alone = "User_Alias A = x\n";
+    let mut policy = Policy::read(rt.alloc(), alone.as_bytes())?;
+    let outcome = replace(&rt, &mut policy, 0, b"User_Alias ALL = x\n");
+    is_refused(&rt, outcome, false, &policy, alone)?;
+    let text = "# a\nUser_Alias A = x\n# b\nA ALL=ALL";
+    let mut policy = Policy::read(rt.alloc(), text.as_bytes())?;
+    let outcome = put_before(&rt, &mut policy, 2, b"User_Alias A = y\n");
+    is_refused(&rt, outcome, true, &policy, text)?;
+    let outcome = put_before(&rt, &mut policy, 1, b"User_Alias ALL = y\n");
+    is_refused(&rt, outcome, false, &policy, text)?;
+    let outcome = replace(&rt, &mut policy, 2, b"User_Alias A = y\n");
+    is_refused(&rt, outcome, true, &policy, text)?;
+    let outcome = replace(&rt, &mut policy, 1, b"User_Alias ALL = y\n");
+    is_refused(&rt, outcome, false, &policy, text)
+}
+
+#[test]
+fn the_changed_text_is_made_of_the_lines(rt: HostRuntime) -> Result<(), Fail> {
     let alloc: Global = rt.alloc();
-    let mut policy = Policy::read(alloc, b"User_Alias A = x\n")?;
-    assert_eq!(&rt; policy.len(), 1);
-    match replace_only(&mut policy, b"User_Alias ALL = x\n") {
-        Err(ReadFault::Reserved { .. }) => {}
-        _ => assert!(&rt; false, "a reserved word is defined"),
-    }
-    has_text(&rt, &policy, "User_Alias A = x\n")
+    let policy = Policy::read(alloc, b"# a\n# b\n# c")?;
+    let lines = policy.lines();
+    assert_eq!(rt; lines.len(), 3);
+    let with = text_with(alloc, lines, 1, b"# d\n")?;
+    assert_eq!(rt; str::from_utf8(with.as_slice()), Ok("# a\n# d\n# b\n# c"));
+    let without = text_without(alloc, lines, 1)?;
+    assert_eq!(rt; str::from_utf8(without.as_slice()), Ok("# a\n# c"));
+    let replaced = text_replaced(alloc, lines, 1, b"# d\n")?;
+    assert_eq!(rt; str::from_utf8(replaced.as_slice()), Ok("# a\n# d\n# c"));
+    let mut text = Vec::from_slice(alloc, b"> ")?;
+    append_texts(lines, &mut text)?;
+    assert_eq!(rt; str::from_utf8(text.as_slice()), Ok("> # a\n# b\n# c"));
+    Ok(())
 }

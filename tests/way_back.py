@@ -1,0 +1,30 @@
+"""The way back: what an accepted edit writes is an input of `edit`, and leads back to the policy that it began with."""
+
+from dataclasses import replace
+
+from program import Wanted, run
+
+MARK = b"%%\n"
+EDITS = ((), (b"edit",))
+
+
+def is_accepted(words, wanted):
+    """Whether a case of these words is an edit that is accepted."""
+    return tuple(words) in EDITS and wanted.status == 0
+
+
+def policy_of(text):
+    """What stands behind the first line of an input or output of `edit` that is the mark."""
+    return (b"\n" + text).partition(b"\n" + MARK)[2]
+
+
+def problems(program, words, stdin, stdout, whole):
+    """The lines that say where `stdout`, given as input again, does not lead back to `stdin`.
+
+    It has to give all of it back if it is asked whole, and its policy in any case.
+    """
+    answer = run(program, words, stdout)
+    if not whole:
+        stdin, answer = policy_of(stdin), replace(answer, stdout=policy_of(answer.stdout))
+    lines = Wanted(stdin).problems(answer)
+    return ["the way back:", *lines] if lines else []
