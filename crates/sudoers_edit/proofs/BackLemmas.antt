@@ -1,6 +1,6 @@
 -- How one more in a line is taken out again, and how one that was taken out comes back.
-use Rattle.std.proofs.Common.{◌≡◌, ℕ, ◌+◌, ◌≤◌, Bool, true, false, ◌&&◌, List, length, Some, Result, Ok, Err, refl, arith}
-use Rattle.std.proofs.lemmas.Bool.{le-ltb, lt-leb, le-leb, ne_eqb}
+use Rattle.std.proofs.Common.{◌≡◌, ℕ, ◌+◌, Bool, true, false, ◌&&◌, List, length, Some, Result, Ok, Err, refl, arith}
+use Rattle.std.proofs.lemmas.Bool.{le-ltb, lt-leb, ne_eqb}
 use Rattle.std.specs.Prelude.{slice_get}
 use Rattle.sudoers_line.specs.declared.node.Def.{Def}
 use Rattle.sudoers_line.specs.declared.node.Kind.{Kind}

@@ -1,5 +1,5 @@
 -- What an edit leaves of the lines, and that its inverse gives them back.
-use Rattle.std.proofs.Common.{◌≡◌, ℕ, zero, suc, ◌-◌, ◌<◌, ◌≤◌, Bool, true, false, not, ◌||◌, List, [], ◌∷◌, ◌++◌, length, insert, remove, slice_index_or, reverse, Option, Some, Result, Ok, inl, inr, refl, sym, ap, subst, ◌∙◌, arith, unwrap_or}
+use Rattle.std.proofs.Common.{◌≡◌, ℕ, zero, suc, ◌-◌, ◌<◌, ◌≤◌, Bool, true, false, not, ◌||◌, List, [], ◌∷◌, ◌++◌, length, insert, remove, slice_index_or, reverse, Some, Ok, refl, sym, ap, ◌∙◌, arith}
 use Rattle.std.proofs.lemmas.Bool.{le-ltb, lt-ltb, or_parts as or_false}
 use Rattle.std.proofs.lemmas.List.{reverse-append}
 use Rattle.std.specs.Prelude.{slice_get}
@@ -9,14 +9,13 @@ use Rattle.sudoers_text.specs.Ended.{has_unended_inside, ends_in_lf}
 use Rattle.sudoers_text.specs.Cut.{StandAlone}
 use Rattle.sudoers_edit.specs.declared.edit.Edit.{Edit}
 use Rattle.sudoers_edit.specs.declared.edit.Edit.TheVariants.{Insert, Delete, Move}
-use Rattle.sudoers_edit.specs.declared.edit.EditFault.{EditFault}
 use Rattle.sudoers_edit.specs.Landing.{lines_or_refusal, policy_or_refusal, where_policy}
 use Rattle.sudoers_edit.specs.LineEdits.{moved}
-use Rattle.sudoers_edit.specs.Editing.{Refuses, step, inv, run, IsUndoable, first_lines}
+use Rattle.sudoers_edit.specs.Editing.{step, run, IsUndoable, first_lines}
 use Rattle.sudoers_tree.specs.declared.line.Line.{Line}
 use Rattle.sudoers_edit.specs.OneLine.{is_one_line, IsAlone, IsSound}
 use Rattle.sudoers_tree.specs.Policy.{texts}
-use Rattle.sudoers_edit.specs.Leading.{Leads, IsLanded}
+use Rattle.sudoers_edit.specs.Leading.{Leads}
 use Rattle.sudoers_edit.specs.declared.editor.Entry.{Entry}
 
 or-false : (x : Bool) → (x || false) ≡ x

@@ -1,13 +1,13 @@
 -- Where an edit leads that replaces a line.
-use Rattle.std.proofs.Common.{◌≡◌, ℕ, ◌<◌, ◌≤◌, true, false, List, length, Err, refl, ◌∙◌}
-use Rattle.std.proofs.lemmas.Bool.{le-ltb, lt-ltb}
+use Rattle.std.proofs.Common.{◌≡◌, ℕ, ◌≤◌, true, false, List, length, Err, refl, ◌∙◌}
+use Rattle.std.proofs.lemmas.Bool.{le-ltb}
 use Rattle.sudoers_text.specs.Line.{join}
 use Rattle.sudoers_text.specs.Ended.{has_unended_inside}
 use Rattle.sudoers_text.specs.Fault.{line_limit}
 use Rattle.sudoers_text.specs.Whole.{is_logical_line}
 use Rattle.sudoers_edit.specs.OneLine.{IsAlone, IsSound}
 use Rattle.sudoers_edit.specs.declared.edit.Edit.{Edit}
-use Rattle.sudoers_edit.specs.declared.edit.EditFault.TheVariants.{TooLarge, OpenLine}
+use Rattle.sudoers_edit.specs.declared.edit.EditFault.TheVariants.{OpenLine}
 use Rattle.sudoers_tree.specs.Changed.{replaced}
 use Rattle.sudoers_edit.specs.Editing.{step}
 use Rattle.sudoers_edit.specs.Leading.{Leads, Replaces}
