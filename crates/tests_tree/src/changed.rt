@@ -8,7 +8,8 @@ use std::process::Abort;
 use std::test::Fail;
 use sudoers_text::{ends_in_lf, is_logical_line, lines_stand_alone, whole_line_is};
 use sudoers_tree::{
-    Kind, Policy, ReadFault, append_texts, policy_is_cut, text_replaced, text_with, text_without,
+    Kind, Line, Policy, ReadFault, append_texts, policy_is_cut, text_replaced, text_with,
+    text_without,
 };
 
 /// A law: no line of a policy without LF stands before another.
@@ -86,38 +87,48 @@ fn has_text(rt: &impl Abort, policy: &Policy, wanted: &str) -> Result<(), Fail> 
     Ok(())
 }
 
+/// The first line of a policy comes, is replaced and goes.
+fn come_and_go(rt: &impl Abort, policy: &mut Policy) -> Result<(), Fail> {
+    put_first(rt, policy, b"User_Alias A = x\n")?;
+    has_text(rt, policy, "User_Alias A = x\n")?;
+    assert!(rt; policy.definition(Kind::User, b"A").is_some());
+    replace(rt, policy, 0, b"User_Alias B = x\n")?;
+    has_text(rt, policy, "User_Alias B = x\n")?;
+    assert!(rt; policy.definition(Kind::User, b"A").is_none());
+    take_out(rt, policy, 0)?;
+    has_text(rt, policy, "")
+}
+
 #[test]
 fn a_line_comes_is_replaced_and_goes(rt: HostRuntime) -> Result<(), Fail> {
     let mut policy = Policy::read(rt.alloc(), b"")?;
-    put_first(&rt, &mut policy, b"User_Alias A = x\n")?;
-    has_text(&rt, &policy, "User_Alias A = x\n")?;
-    assert!(rt; policy.definition(Kind::User, b"A").is_some());
-    replace(&rt, &mut policy, 0, b"User_Alias B = x\n")?;
-    has_text(&rt, &policy, "User_Alias B = x\n")?;
-    assert!(rt; policy.definition(Kind::User, b"A").is_none());
-    take_out(&rt, &mut policy, 0)?;
-    has_text(&rt, &policy, "")
+    come_and_go(&rt, &mut policy)
+}
+
+/// Lines come, are replaced and go beside a comment.
+fn change_beside(rt: &impl Abort, policy: &mut Policy) -> Result<(), Fail> {
+    put_behind(rt, policy, b"# b\n")?;
+    has_text(rt, policy, "# a\n# b\n")?;
+    replace(rt, policy, 0, b"# c\n")?;
+    has_text(rt, policy, "# c\n# b\n")?;
+    take_out(rt, policy, 1)?;
+    has_text(rt, policy, "# c\n")?;
+    put_before(rt, policy, 0, b"# d\n")?;
+    has_text(rt, policy, "# d\n# c\n")?;
+    put_before(rt, policy, 1, b"# e\n")?;
+    has_text(rt, policy, "# d\n# e\n# c\n")?;
+    replace(rt, policy, 1, b"# f\n")?;
+    has_text(rt, policy, "# d\n# f\n# c\n")?;
+    take_out(rt, policy, 0)?;
+    has_text(rt, policy, "# f\n# c\n")?;
+    put_behind(rt, policy, b"# g")?;
+    has_text(rt, policy, "# f\n# c\n# g")
 }
 
 #[test]
 fn lines_beside_the_changed_one_stay(rt: HostRuntime) -> Result<(), Fail> {
     let mut policy = Policy::read(rt.alloc(), b"# a\n")?;
-    put_behind(&rt, &mut policy, b"# b\n")?;
-    has_text(&rt, &policy, "# a\n# b\n")?;
-    replace(&rt, &mut policy, 0, b"# c\n")?;
-    has_text(&rt, &policy, "# c\n# b\n")?;
-    take_out(&rt, &mut policy, 1)?;
-    has_text(&rt, &policy, "# c\n")?;
-    put_before(&rt, &mut policy, 0, b"# d\n")?;
-    has_text(&rt, &policy, "# d\n# c\n")?;
-    put_before(&rt, &mut policy, 1, b"# e\n")?;
-    has_text(&rt, &policy, "# d\n# e\n# c\n")?;
-    replace(&rt, &mut policy, 1, b"# f\n")?;
-    has_text(&rt, &policy, "# d\n# f\n# c\n")?;
-    take_out(&rt, &mut policy, 0)?;
-    has_text(&rt, &policy, "# f\n# c\n")?;
-    put_behind(&rt, &mut policy, b"# g")?;
-    has_text(&rt, &policy, "# f\n# c\n# g")
+    change_beside(&rt, &mut policy)
 }
 
 /// The call is refused, since a name would be defined twice or is reserved, and the policy is as it was.
@@ -139,29 +150,40 @@ fn is_refused(
     Ok(())
 }
 
+/// The only line cannot become one that defines a reserved word.
+fn stays_alone(rt: &impl Abort, policy: &mut Policy, text: &str) -> Result<(), Fail> {
+    let outcome = replace(rt, policy, 0, b"User_Alias ALL = x\n");
+    is_refused(rt, outcome, false, policy, text)
+}
+
+/// No line in the middle can define a name again, or a reserved word.
+fn stays_among_others(rt: &impl Abort, policy: &mut Policy, text: &str) -> Result<(), Fail> {
+    let outcome = put_before(rt, policy, 2, b"User_Alias A = y\n");
+    is_refused(rt, outcome, true, policy, text)?;
+    let outcome = put_before(rt, policy, 1, b"User_Alias ALL = y\n");
+    is_refused(rt, outcome, false, policy, text)?;
+    let outcome = replace(rt, policy, 2, b"User_Alias A = y\n");
+    is_refused(rt, outcome, true, policy, text)?;
+    let outcome = replace(rt, policy, 1, b"User_Alias ALL = y\n");
+    is_refused(rt, outcome, false, policy, text)
+}
+
 #[test]
 fn a_line_that_is_refused_changes_nothing(rt: HostRuntime) -> Result<(), Fail> {
     let alone = "User_Alias A = x\n";
     let mut policy = Policy::read(rt.alloc(), alone.as_bytes())?;
-    let outcome = replace(&rt, &mut policy, 0, b"User_Alias ALL = x\n");
-    is_refused(&rt, outcome, false, &policy, alone)?;
-    let text = "# a\nUser_Alias A = x\n# b\nA ALL=ALL";
-    let mut policy = Policy::read(rt.alloc(), text.as_bytes())?;
-    let outcome = put_before(&rt, &mut policy, 2, b"User_Alias A = y\n");
-    is_refused(&rt, outcome, true, &policy, text)?;
-    let outcome = put_before(&rt, &mut policy, 1, b"User_Alias ALL = y\n");
-    is_refused(&rt, outcome, false, &policy, text)?;
-    let outcome = replace(&rt, &mut policy, 2, b"User_Alias A = y\n");
-    is_refused(&rt, outcome, true, &policy, text)?;
-    let outcome = replace(&rt, &mut policy, 1, b"User_Alias ALL = y\n");
-    is_refused(&rt, outcome, false, &policy, text)
+    stays_alone(&rt, &mut policy, alone)
 }
 
 #[test]
-fn the_changed_text_is_made_of_the_lines(rt: HostRuntime) -> Result<(), Fail> {
-    let alloc: Global = rt.alloc();
-    let policy = Policy::read(alloc, b"# a\n# b\n# c")?;
-    let lines = policy.lines();
+fn a_line_that_is_refused_among_others_changes_nothing(rt: HostRuntime) -> Result<(), Fail> {
+    let text = "# a\nUser_Alias A = x\n# b\nA ALL=ALL";
+    let mut policy = Policy::read(rt.alloc(), text.as_bytes())?;
+    stays_among_others(&rt, &mut policy, text)
+}
+
+/// The texts of three lines with one more, one less and another.
+fn texts_are_made(rt: &impl Abort, alloc: Global, lines: &[Line]) -> Result<(), Fail> {
     assert_eq!(rt; lines.len(), 3);
     let with = text_with(alloc, lines, 1, b"# d\n")?;
     assert_eq!(rt; str::from_utf8(with.as_slice()), Ok("# a\n# d\n# b\n# c"));
@@ -173,4 +195,10 @@ fn the_changed_text_is_made_of_the_lines(rt: HostRuntime) -> Result<(), Fail> {
     append_texts(lines, &mut text)?;
     assert_eq!(rt; str::from_utf8(text.as_slice()), Ok("> # a\n# b\n# c"));
     Ok(())
+}
+
+#[test]
+fn the_changed_text_is_made_of_the_lines(rt: HostRuntime) -> Result<(), Fail> {
+    let policy = Policy::read(rt.alloc(), b"# a\n# b\n# c")?;
+    texts_are_made(&rt, rt.alloc(), policy.lines())
 }
