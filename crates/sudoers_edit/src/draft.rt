@@ -7,7 +7,7 @@ use crate::text::Text;
 use sudoers_tree::Kind;
 
 /// An edit whose command has been read, and whose text has not.
-#[derive(Debug, Drop)]
+#[derive(Drop)]
 pub enum Draft {
     Insert { at: u32 },
     AddMember { kind: Kind, name: Text, at: u32 },

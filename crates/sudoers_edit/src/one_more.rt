@@ -11,7 +11,7 @@ use crate::splice::{Placed, owned_stop, seam};
 use sudoers_tree::{Def, Kind, Member, Node};
 
 /// What a member or definition more has to be: where it stands, and which bytes of the longer line it owns.
-#[derive(Clone, Copy, Debug)]
+#[derive(Clone, Copy)]
 pub struct OneMore {
     pub at: usize,
     pub from: usize,
@@ -19,7 +19,7 @@ pub struct OneMore {
 }
 
 /// Among what there is one more in a line of definitions.
-#[derive(Clone, Copy, Debug)]
+#[derive(Clone, Copy)]
 pub enum Among {
     Definitions,
     /// The members of this definition.

@@ -21,7 +21,7 @@ use sudoers_text::line_alone_size;
 use sudoers_tree::{Kind, Node, Place, Policy};
 
 /// What Prune takes out.
-#[derive(Clone, Copy, Debug, PartialEq, Eq)]
+#[derive(Clone, Copy)]
 pub enum Removal {
     /// A line of definitions, none of which is left.
     Line { at: u32 },

@@ -59,7 +59,7 @@ impl<T: Drop> From<AllocFailed<T>> for ScriptFault {
 }
 
 /// What may stand next in a script.
-#[derive(Debug, Drop)]
+#[derive(Drop)]
 enum Open {
     /// A command.
     Nothing,
@@ -70,7 +70,7 @@ enum Open {
 }
 
 /// What has been read of a script, and the number of its next line.
-#[derive(Debug, Drop)]
+#[derive(Drop)]
 struct Reading {
     edits: Edits,
     pending: Open,

@@ -19,7 +19,7 @@ use sudoers_tree::Kind;
 const MAX_NUMBER: u64 = 4_294_967_296;
 
 /// What a line of a script says.
-#[derive(Debug, Drop)]
+#[derive(Drop)]
 pub enum Said {
     /// The command of an edit that wants a text.
     Begin(Draft),
@@ -38,7 +38,7 @@ pub enum Said {
 }
 
 /// Why a line that begins with the word of a command is none.
-#[derive(Clone, Copy, Debug, PartialEq, Eq)]
+#[derive(Clone, Copy)]
 pub enum Flaw {
     /// Words are too few or too many, a kind or a name is none, or the line does not end in LF.
     Word,
@@ -47,7 +47,7 @@ pub enum Flaw {
 }
 
 /// The first word of a command.
-#[derive(Clone, Copy, Debug, PartialEq, Eq)]
+#[derive(Clone, Copy)]
 enum Command {
     Insert,
     Delete,

@@ -7,7 +7,7 @@ use crate::node::{Kind, OptionName};
 use crate::state::{Frame, State};
 
 /// What may come next, as far as the cause of a fault depends on it.
-#[derive(Clone, Copy, Debug, PartialEq, Eq)]
+#[derive(Clone, Copy)]
 pub struct Awaited {
     /// A word that is the name of a user or a host.
     pub word: bool,

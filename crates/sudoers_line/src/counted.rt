@@ -24,7 +24,7 @@ use std::alloc::{AllocError, Global};
 use sudoers_text::{Token, TokenKind};
 
 /// Where the reader of a definition stands.
-#[derive(Clone, Copy, Debug, PartialEq, Eq)]
+#[derive(Clone, Copy)]
 pub enum Place {
     /// A member comes.
     AtMember,
@@ -41,21 +41,21 @@ pub enum Place {
 }
 
 /// Where the reader of a definition stands, and how many members have ended and are kept.
-#[derive(Clone, Copy, Debug, PartialEq, Eq)]
+#[derive(Clone, Copy)]
 pub struct Counted {
     pub place: Place,
     pub members: usize,
 }
 
 /// The members of a definition: how many they are, and the aliases among them.
-#[derive(Debug, Drop)]
+#[derive(Drop)]
 struct Members<'a> {
     count: usize,
     aliases: Items<AliasMember<'a>>,
 }
 
 /// A definition: the kind of the alias, its name and where it begins, how many members it has, and the aliases among them.
-#[derive(Debug, Drop)]
+#[derive(Drop)]
 pub struct Defined<'a> {
     pub kind: Kind,
     pub name: &'a [u8],
@@ -190,7 +190,7 @@ impl Counted {
         ensures leads { IfSome result (λ next. (kind : KindOf) (name : NamedOf) (s : StateOf) → Stands kind name self s → Leads kind name next (aliases_read s) (seen part.now) (step_comment s)) }
         ensures few { IfSome result (λ next. next.members ≤ self.members + 1) }
     {
-        if self.place == Place::Ended {
+        if matches!(self.place, Place::Ended) {
             return None;
         }
         Some(Counted {

@@ -24,7 +24,7 @@ use std::alloc::{AllocError, Global};
 use sudoers_text::{Token, TokenKind, is_name, is_reserved};
 
 /// A list of a user specification.
-#[derive(Clone, Copy, Debug, PartialEq, Eq)]
+#[derive(Clone, Copy)]
 pub enum SpecList {
     Users,
     Hosts,
@@ -33,7 +33,7 @@ pub enum SpecList {
 }
 
 /// Where the reader of a user specification stands.
-#[derive(Clone, Copy, Debug, PartialEq, Eq)]
+#[derive(Clone, Copy)]
 pub enum Glance {
     /// Nothing is read.
     Begin,
@@ -254,10 +254,11 @@ fn at_word(stage: Stage, part: &Part<'_>) -> Option<Glance>
 fn at_command(stage: Stage, part: &Part<'_>) -> Option<Glance>
     ensures { LeadsFrom (Glance.AtCommand stage) result (seen part.now) }
 {
+    let is_first = matches!(stage, Stage::Runas);
     match part.kind {
         TokenKind::Path => Some(behind_path(part)),
         TokenKind::Word if part.option_name().is_none() => at_word(stage, part),
-        TokenKind::Punct if stage == Stage::Runas && part.is_mark(b'(') => Some(Glance::AtRunas),
+        TokenKind::Punct if is_first && part.is_mark(b'(') => Some(Glance::AtRunas),
         _ => None,
     }
 }

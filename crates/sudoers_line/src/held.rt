@@ -7,7 +7,7 @@ use std::boxed::Box;
 use std::marker::Model;
 
 /// A value in a box, so that what holds it stays small.
-#[derive(Debug, Drop)]
+#[derive(Drop)]
 pub struct Held<T> {
     item: Box<T>,
 }

@@ -12,7 +12,7 @@ use crate::node::{DigestKind, Kind, Operator, OptionName, Tag};
 use sudoers_text::{Token, TokenKind, begins_line_end, is_name};
 
 /// A token and the text that it covers.
-#[derive(Clone, Copy, Debug)]
+#[derive(Clone, Copy)]
 pub struct Part<'a> {
     pub kind: TokenKind,
     pub text: &'a [u8],

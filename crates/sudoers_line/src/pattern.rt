@@ -8,7 +8,7 @@ use std::alloc::{AllocError, Global};
 use sudoers_text::{begins_line_end, blanks_len, line_end_len};
 
 /// How a pattern is written.
-#[derive(Clone, Copy, Debug, PartialEq, Eq)]
+#[derive(Clone, Copy)]
 pub enum Spelling {
     /// A command's path, or an argument.
     Command,

@@ -8,21 +8,21 @@ use crate::node::{
 };
 
 /// The `!` before a member: where the member begins, if any was read, and whether they negate it.
-#[derive(Clone, Copy, Debug)]
+#[derive(Clone, Copy)]
 pub struct Signs {
     pub start: Option<usize>,
     pub negated: bool,
 }
 
 /// The name of a definition.
-#[derive(Debug, Drop)]
+#[derive(Drop)]
 pub struct Named {
     pub text: Items<u8>,
     pub start: usize,
 }
 
 /// A user specification up to the commands of a host group.
-#[derive(Debug, Drop)]
+#[derive(Drop)]
 pub struct Row {
     pub users: Items<Member>,
     pub groups: Items<HostGroup>,
@@ -31,7 +31,7 @@ pub struct Row {
 }
 
 /// What stands before a command.
-#[derive(Debug, Drop)]
+#[derive(Drop)]
 pub struct Head {
     pub runas: Option<RunasSpec>,
     pub options: Items<(OptionName, Items<u8>)>,
@@ -39,7 +39,7 @@ pub struct Head {
 }
 
 /// What may still stand before a command: the runas part, options and tags; options and tags; tags.
-#[derive(Clone, Copy, Debug, PartialEq, Eq)]
+#[derive(Clone, Copy)]
 pub enum Stage {
     Runas,
     Options,
@@ -47,7 +47,7 @@ pub enum Stage {
 }
 
 /// What a list of users, runas users, groups or hosts is part of.
-#[derive(Debug, Drop)]
+#[derive(Drop)]
 pub enum Frame {
     /// A definition of a kind of alias, behind others.
     Definition(Kind, Items<Def>, Named),
@@ -64,7 +64,7 @@ pub enum Frame {
 }
 
 /// What a command is part of, and the commands before it.
-#[derive(Debug, Drop)]
+#[derive(Drop)]
 pub enum Commands {
     Definition(Items<Def>, Named, Items<Member>),
     Scope(Items<Member>),
@@ -72,7 +72,7 @@ pub enum Commands {
 }
 
 /// A command so far.
-#[derive(Debug, Drop)]
+#[derive(Drop)]
 pub struct Draft {
     pub start: usize,
     pub digests: Items<Digest>,
@@ -80,21 +80,21 @@ pub struct Draft {
 }
 
 /// What is to be run with arguments.
-#[derive(Debug, Drop)]
+#[derive(Drop)]
 pub enum Program {
     Path(Items<u8>),
     Sudoedit,
 }
 
 /// A parameter's place: the scope, and the parameters before it.
-#[derive(Debug, Drop)]
+#[derive(Drop)]
 pub struct Params {
     pub scope: Option<Scope>,
     pub params: Items<Param>,
 }
 
 /// Where the reader stands.
-#[derive(Debug, Drop)]
+#[derive(Drop)]
 pub enum State {
     /// Nothing is read.
     Begin,

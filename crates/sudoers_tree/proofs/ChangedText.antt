@@ -53,6 +53,18 @@ whole_replaced [] at line all is = tt
 whole_replaced (l ∷ lines) zero line all is = (is, all.1)
 whole_replaced (l ∷ lines) (suc at) line all is = (all.0, whole_replaced lines at line all.1 is)
 
+pub whole_inserted : (lines : List (List ℕ)) (at : ℕ) (line : List ℕ) → Whole lines → IsLogicalLine line → Whole (insert lines at line)
+whole_inserted [] zero line all is = (is, tt)
+whole_inserted [] (suc at) line all is = (is, tt)
+whole_inserted (l ∷ lines) zero line all is = (is, all)
+whole_inserted (l ∷ lines) (suc at) line all is = (all.0, whole_inserted lines at line all.1 is)
+
+pub whole_removed : (lines : List (List ℕ)) (at : ℕ) → Whole lines → Whole (remove lines at)
+whole_removed [] zero all = tt
+whole_removed [] (suc at) all = tt
+whole_removed (l ∷ lines) zero all = all.1
+whole_removed (l ∷ lines) (suc at) all = (all.0, whole_removed lines at all.1)
+
 -- FRONTS
 
 -- the text still begins so

@@ -172,6 +172,40 @@ impl Run {
         }
         Ok(())
     }
+
+    /// The edits that take back all that stand lead from the text back to the policy.
+    fn leads_back(&self, rt: &impl Abort, alloc: Global) -> Result<(), Fail> {
+        let inverse = self.editor.inverse()?;
+        let after = text_of(&self.editor)?;
+        let mut back = editor_of(alloc, str::from_utf8(after.as_slice())?)?;
+        let is_back = back.apply_all(inverse.as_slice()).is_ok();
+        assert!(rt; is_back);
+        let text = text_of(&back)?;
+        assert!(rt; text.as_slice() == POLICY.as_bytes());
+        Ok(())
+    }
+
+    /// Takes all edits back, one by one.
+    fn take_all_back(&mut self, rt: &impl Abort) -> Result<(), Fail> {
+        for _ in 0..self.editor.steps() {
+            self.take_back(rt)?;
+        }
+        let text = text_of(&self.editor)?;
+        assert!(rt; text.as_slice() == POLICY.as_bytes());
+        assert_eq!(rt; self.editor.steps(), 0);
+        Ok(())
+    }
+
+    /// Makes the edits, each kind of them, and takes them back.
+    fn go_and_come_back(&mut self, rt: &impl Abort, alloc: Global) -> Result<(), Fail> {
+        self.go(rt, alloc)?;
+        assert_eq!(rt; self.made.len(), MADE);
+        for word in WORDS {
+            assert!(rt; self.was_made(word), "each of the commands is accepted");
+        }
+        self.leads_back(rt, alloc)?;
+        self.take_all_back(rt)
+    }
 }
 
 #[test]
@@ -183,23 +217,5 @@ fn a_long_run_of_edits_is_taken_back_byte_for_byte(rt: HostRuntime) -> Result<()
         made: Vec::new(alloc),
         number: 1,
     };
-    run.go(&rt, alloc)?;
-    assert_eq!(rt; run.made.len(), MADE);
-    for word in WORDS {
-        assert!(rt; run.was_made(word), "each of the commands is accepted");
-    }
-    let after = text_of(&run.editor)?;
-    let inverse = run.editor.inverse()?;
-    let mut back = editor_of(alloc, str::from_utf8(after.as_slice())?)?;
-    assert!(rt; back.apply_all(inverse.as_slice()).is_ok());
-    assert_eq!(rt; str::from_utf8(text_of(&back)?.as_slice()), Ok(POLICY));
-    for _ in 0..run.editor.steps() {
-        run.take_back(&rt)?;
-    }
-    assert_eq!(rt;
-        str::from_utf8(text_of(&run.editor)?.as_slice()),
-        Ok(POLICY)
-    );
-    assert_eq!(rt; run.editor.steps(), 0);
-    Ok(())
+    run.go_and_come_back(&rt, alloc)
 }
