@@ -248,10 +248,14 @@ def refuse_growths_and_more(stand, case, given):
         refuse_growths(stand, case, failed if case.wanted.stdout else case.wanted, write_room=room)
 
 
-def check_memory(stand, all_cases, given):
-    """Every growth of every case, and of runs whose devices fail too."""
-    for case in [*all_cases, many_lines_case(), many_moves_case(), many_definitions_case(), many_notes_case()]:
+def check_memory(stand, all_cases):
+    """Every growth of every case."""
+    for case in all_cases:
         refuse_growths(stand, case, case.wanted)
+
+
+def check_memory_and_devices(stand, given):
+    """Every growth of runs whose devices fail too."""
     for case, input_given in given:
         refuse_growths_and_more(stand, case, input_given)
 
@@ -411,25 +415,78 @@ def check_library(stand, case):
     stand.note(case, "with the library and nothing refused", problems)
 
 
-def run_all(program, tally):
-    """Builds the library and runs everything above."""
-    by_name = {case.name: case for case in cases.load_all()}
-    edits, shows, checks, words = ([by_name[name] for name in names] for names in (EDITS, SHOWS, CHECKS, WORDS))
-    read = [*edits, *shows, *checks]
-    given = ((edits[1], EDIT), (shows[0], SHOW), (checks[0], CHECK), (checks[1], QUIET))
-    for case, input_given in given:
-        if case.wanted.stdout:
-            real_devices.run_writes(program, tally, case)
-        real_devices.run_reads(program, tally, case, input_given.too_large)
+@dataclass(frozen=True)
+class Chosen:
+    """The cases, by what is done to them."""
+
+    every: tuple
+    read: tuple
+    words: tuple
+    some: tuple
+    given: tuple
+
+    @staticmethod
+    def load():
+        """The cases of the folder, chosen by their names."""
+        by_name = {case.name: case for case in cases.load_all()}
+        edits, shows, checks, words = ([by_name[name] for name in names] for names in (EDITS, SHOWS, CHECKS, WORDS))
+        return Chosen(
+            every=tuple(by_name.values()),
+            read=(*edits, *shows, *checks),
+            words=tuple(words),
+            some=(edits[1], edits[5], shows[0], shows[2], *checks[:2], *checks[4:]),
+            given=((edits[1], EDIT), (shows[0], SHOW), (checks[0], CHECK), (checks[1], QUIET)),
+        )
+
+
+def run_under_library(program, tally, check):
+    """Builds the library and runs one of the checks above under it."""
+    chosen = Chosen.load()
     try:
         library = Preloaded()
     except (OSError, subprocess.CalledProcessError) as error:
         tally.note("the library that is preloaded", [f"it cannot be built: {error}"])
         return
     with library:
-        stand = Stand(program, library, tally)
-        check_library(stand, edits[1])
-        check_pieces(stand, by_name.values())
-        check_reads(stand, read, (edits[1], edits[5], shows[0], shows[2], *checks[:2], *checks[4:]), given)
-        check_writes(stand, read)
-        check_memory(stand, [*read, *words], given)
+        check(Stand(program, library, tally), chosen)
+
+
+def run_pieces(program, tally):
+    """Runs the program with devices of the system that fail, and with devices that move few bytes at a time."""
+    chosen = Chosen.load()
+    for case, input_given in chosen.given:
+        if case.wanted.stdout:
+            real_devices.run_writes(program, tally, case)
+        real_devices.run_reads(program, tally, case, input_given.too_large)
+
+    def check(stand, chosen):
+        check_library(stand, chosen.given[0][0])
+        check_pieces(stand, chosen.every)
+
+    run_under_library(program, tally, check)
+
+
+def run_reads(program, tally):
+    """Runs the program with readers that fail, are interrupted or never end."""
+    run_under_library(program, tally, lambda stand, chosen: check_reads(stand, chosen.read, chosen.some, chosen.given))
+
+
+def run_writes(program, tally):
+    """Runs the program with writers that fail, are interrupted or take nothing."""
+    run_under_library(program, tally, lambda stand, chosen: check_writes(stand, chosen.read))
+
+
+def run_memory(program, tally):
+    """Runs the program with growths of memory refused."""
+    run_under_library(program, tally, lambda stand, chosen: check_memory(stand, (*chosen.read, *chosen.words)))
+
+
+def run_memory_of_many(program, tally):
+    """Runs the program on many lines, definitions and notes with growths of memory refused."""
+    many = (many_lines_case(), many_moves_case(), many_definitions_case(), many_notes_case())
+    run_under_library(program, tally, lambda stand, _: check_memory(stand, many))
+
+
+def run_memory_and_devices(program, tally):
+    """Runs the program with growths of memory refused and devices that fail."""
+    run_under_library(program, tally, lambda stand, chosen: check_memory_and_devices(stand, chosen.given))
