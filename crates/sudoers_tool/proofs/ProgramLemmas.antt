@@ -1,7 +1,7 @@
 -- The mark, and what writes append.
 use Rattle.std.proofs.Common.{◌≡◌, ℕ, true, false, List, [], ◌∷◌, ◌++◌, Option, Some, None, refl, ap, ◌∙◌, append_assoc, append-nil}
 use Rattle.std.specs.Option.{option_map}
-use Rattle.std.specs.Io.KnownBytes.{Appends, Keeps}
+use Rattle.std.specs.Io.KnownBytes.{Appends}
 use Rattle.sudoers_text.specs.Line.{join}
 use Rattle.sudoers_edit.specs.Physical.{physical_lines}
 use Rattle.sudoers_tool.specs.Program.{is_mark, split_lines}

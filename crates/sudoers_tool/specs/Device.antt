@@ -34,6 +34,20 @@ CountsEnds old new (Ok (Bytes n)) buf = MatchBool ((n == 0) && nat_lt 0 (length 
 CountsEnds old new (Ok Interrupted) buf = new ≡ old
 CountsEnds old new (Err failed) buf = new ≡ old
 
+-- The count of calls that offer room goes up with such a call, and stays with one that offers none.
+abbrev pub CountsOffers : ℕ → ℕ → List ℕ → Type 0
+CountsOffers old new buf = MatchBool (nat_lt 0 (length buf)) (new ≡ counted_up old) (new ≡ old)
+
+-- so many more, up to the greatest number that is counted
+abbrev pub counted_by : ℕ → ℕ → ℕ
+counted_by count n = min (n + count) (2 ^ 64 - 1)
+
+-- The count of bytes goes up by those that are given, and stays with anything else.
+abbrev pub CountsBytes : ℕ → ℕ → Result Pulled DeviceFailed → Type 0
+CountsBytes old new (Ok (Bytes n)) = new ≡ counted_by n old
+CountsBytes old new (Ok Interrupted) = new ≡ old
+CountsBytes old new (Err failed) = new ≡ old
+
 -- known bytes grow by a front of these
 abbrev pub AppendsFront : Option (List ℕ) → Option (List ℕ) → List ℕ → Type 0
 AppendsFront old new bytes = (n : ℕ) × (n ≤ length bytes) × Appends old new (take n bytes)

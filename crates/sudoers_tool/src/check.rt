@@ -3,7 +3,7 @@ ghost use Rattle.std.specs.Prelude.{◌≡◌, ◌≢◌, ◌⊎◌, ◌+◌, �
 ghost use Rattle.std.specs.Io.KnownBytes.{Keeps, Appends};
 ghost use Rattle.sudoers_text.specs.Fault.{text_limit};
 ghost use Rattle.sudoers_tree.specs.Reading.{read_of};
-ghost use Rattle.sudoers_tool.specs.Device.{Rose, AppendsFront, TakesExactly};
+ghost use Rattle.sudoers_tool.specs.Device.{Rose, AppendsFront, TakesExactly, counted_by};
 ghost use Rattle.sudoers_tool.specs.Program.{pull_limit};
 ghost use Rattle.sudoers_tool.specs.FaultText.{text_of_read};
 ghost use Rattle.sudoers_tool.specs.Check.{TellsCheck, check_text as text_of_check, check_status, check_output, IsCheckFault, StopsCheck, NeedsFile};
@@ -54,7 +54,7 @@ pub fn run_check<R: Source, W: Sink>(
     // The reader is asked at most so often, and `NoEnd` is told only after so many calls.
     ensures asked { R.Source.pulls reader.new ≤ R.Source.pulls reader.old + pull_limit }
     ensures no_end { result ≡ Err ToolFault.NoEnd
-        → min (R.Source.pulls reader.old + pull_limit) (2 ^ 64 - 1) ≤ R.Source.pulls reader.new }
+        → counted_by pull_limit (R.offers reader.old) ≤ R.offers reader.new }
     // Of a file past the limit no byte behind the first such is taken.
     ensures large { NeedsFile result → IfSome (R.remaining reader.old) (λ input. text_limit < length input
         → TakesExactly (R.remaining reader.old) (R.remaining reader.new) (text_limit + 1)) }
@@ -62,7 +62,8 @@ pub fn run_check<R: Source, W: Sink>(
     ensures stops { IfErr result (StopsCheck (R.remaining reader.old) (R.remaining reader.new)) }
     // Else an outcome, but a fault of reading and want of memory, comes only where the reader told its end.
     ensures ended { NeedsFile result → Rose (R.ends reader.old) (R.ends reader.new)
-        ⊎ TakesExactly (R.remaining reader.old) (R.remaining reader.new) (text_limit + 1) }
+        ⊎ (TakesExactly (R.remaining reader.old) (R.remaining reader.new) (text_limit + 1)
+        × (counted_by (text_limit + 1) (R.given reader.old) ≤ R.given reader.new)) }
     // Whatever is known of the reader: the status is 0 only where it told its end, and else 1.
     ensures whole { result ≡ Ok 0 → Rose (R.ends reader.old) (R.ends reader.new) }
     ensures statuses { IfOk result (λ status. status ≤ 1) }
@@ -98,10 +99,11 @@ fn outcome_of<R: Source>(
         → R.Source.failures reader.new ≡ R.Source.failures reader.old }
     ensures asked { R.Source.pulls reader.new ≤ R.Source.pulls reader.old + pull_limit }
     ensures no_end { result ≡ Err ToolFault.NoEnd
-        → min (R.Source.pulls reader.old + pull_limit) (2 ^ 64 - 1) ≤ R.Source.pulls reader.new }
+        → counted_by pull_limit (R.offers reader.old) ≤ R.offers reader.new }
     ensures stops { IfErr result (StopsCheck (R.remaining reader.old) (R.remaining reader.new)) }
     ensures ended { OnOk result (Rose (R.ends reader.old) (R.ends reader.new)
-        ⊎ TakesExactly (R.remaining reader.old) (R.remaining reader.new) (text_limit + 1)) }
+        ⊎ (TakesExactly (R.remaining reader.old) (R.remaining reader.new) (text_limit + 1)
+        × (counted_by (text_limit + 1) (R.given reader.old) ≤ R.given reader.new))) }
     ensures large { OnOk result (IfSome (R.remaining reader.old) (λ input. text_limit < length input
         → TakesExactly (R.remaining reader.old) (R.remaining reader.new) (text_limit + 1))) }
     ensures whole { IfOk result (λ outcome. outcome.status ≡ 0 → Rose (R.ends reader.old) (R.ends reader.new)) }

@@ -2,7 +2,7 @@
 ghost use Rattle.std.specs.Prelude.{◌≡◌, ℕ, ◌<◌, ◌≤◌, length, IfOk, OnErr};
 ghost use Rattle.std.specs.Io.{WritesAtMost, ReadsAtMost};
 ghost use Rattle.std.specs.Io.KnownBytes.{Keeps, WriteAppends, ReadConsumes};
-ghost use Rattle.sudoers_tool.specs.Device.{CountsFailures, CountsEnds, IsWithin, Takes, counted_up};
+ghost use Rattle.sudoers_tool.specs.Device.{CountsFailures, CountsEnds, CountsOffers, CountsBytes, IsWithin, Takes, counted_up};
 
 use std::io;
 use std::io::{ErrorKind, Read, Write};
@@ -18,13 +18,20 @@ pub enum Pulled {
 #[derive(Clone, Copy, Debug, PartialEq, Eq)]
 pub struct DeviceFailed;
 
-/// A reader that counts how often it was asked, how often it failed and how often it told its end.
+/// A reader that counts how often it was asked, how often with room, how many bytes it gave, how often it failed and how often it
+/// told its end.
 pub trait Source: Read {
     /// How often it has failed, up to the greatest number.
     ghost failures: { Self → ℕ };
 
     /// How often it has been asked, up to the greatest number.
     ghost pulls: { Self → ℕ };
+
+    /// How often it has been asked with a buffer that has room, up to the greatest number.
+    ghost offers: { Self → ℕ };
+
+    /// How many bytes it has given, up to the greatest number.
+    ghost given: { Self → ℕ };
 
     /// How often it has told its end, up to the greatest number.
     ghost ends: { Self → ℕ };
@@ -40,6 +47,8 @@ pub trait Source: Read {
         ensures kept { OnErr result (Keeps (Self.remaining self.old) (Self.remaining self.new)) }
         ensures failed { CountsFailures (failures self.old) (failures self.new) result }
         ensures asked { pulls self.new ≡ counted_up (pulls self.old) }
+        ensures offered { CountsOffers (offers self.old) (offers self.new) buf.new }
+        ensures given { CountsBytes (given self.old) (given self.new) result }
         ensures ended { CountsEnds (ends self.old) (ends self.new) result buf.new };
 
     /// How often it has failed, up to the greatest number.
@@ -74,18 +83,22 @@ pub struct Counted<T> {
     device: T,
     failures: u64,
     pulls: u64,
+    offers: u64,
+    given: u64,
     ends: u64,
 }
 
 impl<T> Counted<T> {
     /// The device, which has done nothing yet.
     pub fn new(device: T) -> Counted<T>
-        ensures { result ≡ record { device = device; failures = 0; pulls = 0; ends = 0 } }
+        ensures { result ≡ record { device = device; failures = 0; pulls = 0; offers = 0; given = 0; ends = 0 } }
     {
         Counted {
             device,
             failures: 0,
             pulls: 0,
+            offers: 0,
+            given: 0,
             ends: 0,
         }
     }
@@ -116,12 +129,20 @@ impl<R: Read> Source for Counted<R> {
 
     ghost pulls = { λ c. c.pulls };
 
+    ghost offers = { λ c. c.offers };
+
+    ghost given = { λ c. c.given };
+
     ghost ends = { λ c. c.ends };
 
     fn pull(&mut self, buf: &mut [u8]) -> Result<Pulled, DeviceFailed> {
         self.pulls = self.pulls.saturating_add(1);
+        if !buf.is_empty() {
+            self.offers = self.offers.saturating_add(1);
+        }
         match self.device.read(buf) {
             Ok(n) => {
+                self.given = self.given.saturating_add(n as u64);
                 if n == 0 && !buf.is_empty() {
                     self.ends = self.ends.saturating_add(1);
                 }

@@ -4,7 +4,7 @@ ghost use Rattle.std.specs.Option.{option_map};
 ghost use Rattle.std.specs.Io.KnownBytes.{Keeps, Appends};
 ghost use Rattle.sudoers_tree.specs.Policy.{texts};
 ghost use Rattle.sudoers_edit.specs.Named.{AreNamed};
-ghost use Rattle.sudoers_tool.specs.Device.{Rose, AppendsFront, TakesAtMost, TakesExactly, counted_up};
+ghost use Rattle.sudoers_tool.specs.Device.{Rose, AppendsFront, TakesAtMost, TakesExactly, counted_up, counted_by};
 ghost use Rattle.sudoers_tool.specs.Program.{is_mark as is_mark_text, split_text, edit_output as output_of_edit, edited_output, output_of, output_text, input_limit, TellsLayer, TellsTool, NeedsEnd, StopsReading, IsReadFault, IsAnswerFault, pull_limit};
 
 use crate::device::{DeviceFailed, Pulled, Sink, Source};
@@ -59,9 +59,11 @@ pub fn run_edit<R: Source, W: Sink>(
     // The reader is asked at most so often, and `NoEnd` is told only after so many calls.
     ensures asked { R.Source.pulls reader.new ≤ R.Source.pulls reader.old + pull_limit }
     ensures no_end { result ≡ Err ToolFault.NoEnd
-        → min (R.Source.pulls reader.old + pull_limit) (2 ^ 64 - 1) ≤ R.Source.pulls reader.new }
+        → counted_by pull_limit (R.offers reader.old) ≤ R.offers reader.new }
     // It stops at the first byte past the limit, and only there is the input too large.
     ensures stops { IfErr result (StopsReading input_limit (R.remaining reader.old) (R.remaining reader.new)) }
+    ensures given { result ≡ Err ToolFault.InputTooLarge
+        → counted_by (input_limit + 1) (R.given reader.old) ≤ R.given reader.new }
     // Any other outcome, but want of memory and an input that is too large, comes only where the reader told its end.
     ensures ended { NeedsEnd result → Rose (R.ends reader.old) (R.ends reader.new) }
 {
@@ -89,8 +91,10 @@ pub fn read_all<R: Source>(
         → R.Source.failures reader.new ≡ R.Source.failures reader.old }
     ensures asked { R.Source.pulls reader.new ≤ R.Source.pulls reader.old + pull_limit }
     ensures no_end { result ≡ Err ToolFault.NoEnd
-        → min (R.Source.pulls reader.old + pull_limit) (2 ^ 64 - 1) ≤ R.Source.pulls reader.new }
+        → counted_by pull_limit (R.offers reader.old) ≤ R.offers reader.new }
     ensures stops { IfErr result (StopsReading limit (R.remaining reader.old) (R.remaining reader.new)) }
+    ensures given { result ≡ Err ToolFault.InputTooLarge
+        → counted_by (limit + 1) (R.given reader.old) ≤ R.given reader.new }
     ensures ended { OnOk result (Rose (R.ends reader.old) (R.ends reader.new)) }
 {
     let mut input = Vec::new(alloc);

@@ -2,7 +2,7 @@
 ghost use Rattle.std.specs.Prelude.{◌≡◌, ◌≢◌, ◌+◌, ◌<◌, ◌≤◌, ◌++◌, codes, length, Ok, Err, IfOk, IfErr, OnOk, OnErr, IfSome, IsOkAnd, MatchResult, min, ◌-◌, ◌^◌};
 ghost use Rattle.std.specs.Io.KnownBytes.{Keeps, Appends};
 ghost use Rattle.sudoers_text.specs.Fault.{text_limit};
-ghost use Rattle.sudoers_tool.specs.Device.{Rose, AppendsFront};
+ghost use Rattle.sudoers_tool.specs.Device.{Rose, AppendsFront, counted_by};
 ghost use Rattle.sudoers_tool.specs.Program.{pull_limit, TellsLayer};
 ghost use Rattle.sudoers_tool.specs.Shown.{kind_word as word_of_kind, shown_def, shown_defs};
 ghost use Rattle.sudoers_tool.specs.ShownOutline.{shown_alias, outline_word as word_of_outline, shown_outline, shown_outlines};
@@ -51,9 +51,11 @@ pub fn run_show<R: Source, W: Sink>(
     // The reader is asked at most so often, and `NoEnd` is told only after so many calls.
     ensures asked { R.Source.pulls reader.new ≤ R.Source.pulls reader.old + pull_limit }
     ensures no_end { result ≡ Err ToolFault.NoEnd
-        → min (R.Source.pulls reader.old + pull_limit) (2 ^ 64 - 1) ≤ R.Source.pulls reader.new }
+        → counted_by pull_limit (R.offers reader.old) ≤ R.offers reader.new }
     // It stops at the first byte past the limit of a policy file, and only there is the file too large.
     ensures stops { IfErr result (StopsShow (R.remaining reader.old) (R.remaining reader.new)) }
+    ensures given { result ≡ Err (ToolFault.Layer (LayerFault.Policy (ReadFault.Text TextFault.TooLarge)))
+        → counted_by (text_limit + 1) (R.given reader.old) ≤ R.given reader.new }
     // Any other outcome, but want of memory and a file that is too large, comes only where the reader told its end.
     ensures ended { NeedsShowEnd result → Rose (R.ends reader.old) (R.ends reader.new) }
 {

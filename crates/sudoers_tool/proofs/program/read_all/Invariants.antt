@@ -1,5 +1,6 @@
-use Rattle.std.proofs.Common.{◌≡◌, ◌≤◌, ◌+◌, ◌-◌, ◌^◌, min, vec_len}
+use Rattle.std.proofs.Common.{◌≡◌, ◌≤◌, ◌+◌, vec_len}
 use Rattle.std.specs.Io.KnownBytes.{Consumes}
+use Rattle.sudoers_tool.specs.Device.{counted_by}
 use Rattle.sudoers_tool.proofs.program.read_all.Given as goal
 
 abbrev pub invariant-loop-pull : goal.invariant-loop-pull
@@ -8,4 +9,5 @@ invariant-loop-pull g l =
     × (g.R.Source.failures l.fn.reader ≡ g.R.Source.failures l.reader)
     × (g.R.Source.ends l.fn.reader ≡ g.R.Source.ends l.reader)
     × (g.R.Source.pulls l.reader ≤ g.R.Source.pulls l.fn.reader + l.pull)
-    × (min (g.R.Source.pulls l.fn.reader + l.pull) (2 ^ 64 - 1) ≤ g.R.Source.pulls l.reader)
+    × (counted_by l.pull (g.R.Source.offers l.fn.reader) ≤ g.R.Source.offers l.reader)
+    × (counted_by (vec_len l.input) (g.R.Source.given l.fn.reader) ≤ g.R.Source.given l.reader)
