@@ -51,7 +51,7 @@ pub fn run_check<R: Source, W: Sink>(
         → Rose (W.Sink.failures writer.old) (W.Sink.failures writer.new) }
     ensures written_well { result ≢ Err ToolFault.Write
         → W.Sink.failures writer.new ≡ W.Sink.failures writer.old }
-    // The reader is asked at most so often, and `NoEnd` is told only after so many calls.
+    // The reader is asked at most so often, and `NoEnd` is told only after so many calls with room.
     ensures asked { R.Source.pulls reader.new ≤ R.Source.pulls reader.old + pull_limit }
     ensures no_end { result ≡ Err ToolFault.NoEnd
         → counted_by pull_limit (R.offers reader.old) ≤ R.offers reader.new }
@@ -60,7 +60,7 @@ pub fn run_check<R: Source, W: Sink>(
         → TakesExactly (R.remaining reader.old) (R.remaining reader.new) (text_limit + 1)) }
     // A reader that failed or was given up had given no such byte.
     ensures stops { IfErr result (StopsCheck (R.remaining reader.old) (R.remaining reader.new)) }
-    // Else an outcome, but a fault of reading and want of memory, comes only where the reader told its end.
+    // Else an outcome, but a fault of reading and want of memory, comes only where the reader told its end or gave too much.
     ensures ended { NeedsFile result → Rose (R.ends reader.old) (R.ends reader.new)
         ⊎ (TakesExactly (R.remaining reader.old) (R.remaining reader.new) (text_limit + 1)
         × (counted_by (text_limit + 1) (R.given reader.old) ≤ R.given reader.new)) }

@@ -56,7 +56,7 @@ pub fn run_edit<R: Source, W: Sink>(
         → Rose (W.Sink.failures writer.old) (W.Sink.failures writer.new) }
     ensures written_well { result ≢ Err ToolFault.Write
         → W.Sink.failures writer.new ≡ W.Sink.failures writer.old }
-    // The reader is asked at most so often, and `NoEnd` is told only after so many calls.
+    // The reader is asked at most so often, and `NoEnd` is told only after so many calls with room.
     ensures asked { R.Source.pulls reader.new ≤ R.Source.pulls reader.old + pull_limit }
     ensures no_end { result ≡ Err ToolFault.NoEnd
         → counted_by pull_limit (R.offers reader.old) ≤ R.offers reader.new }
