@@ -1,4 +1,4 @@
-"""Counts the cases that passed and prints those that did not."""
+"""Counts the cases that passed, and prints those that failed or were skipped."""
 
 SHOWN = 300
 
@@ -13,11 +13,12 @@ def shown(value):
 
 
 class Tally:
-    """How many cases passed and how many failed."""
+    """How many cases passed, failed and were skipped."""
 
     def __init__(self):
         self.passed = 0
         self.failed = 0
+        self.skipped = 0
 
     def note(self, name, problems):
         """Counts one case; `problems` is a list of lines, empty where it passed."""
@@ -28,6 +29,17 @@ class Tally:
         print(f"FAILED {name}")
         for problem in problems:
             print(f"    {problem}")
+
+    def skip(self, name, why):
+        """Counts one case that cannot run on this machine, and prints why."""
+        self.skipped += 1
+        print(f"SKIPPED {name}: {why}")
+
+    def add(self, other):
+        """Adds the counts of another tally."""
+        self.passed += other.passed
+        self.failed += other.failed
+        self.skipped += other.skipped
 
 
 def difference(what, wanted, came):

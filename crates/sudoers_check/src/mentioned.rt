@@ -26,7 +26,7 @@ impl<'a> Model for Mention<'a> {
     ghost view = { λ m. record { kind = m.kind; name = m.name.now; span = m.span } };
 }
 
-/// What the line with this number, from 0, mentions that says this.
+/// Returns the alias mentions in line `line` (counted from 0), which was parsed as `node`.
 ///
 /// # Errors
 ///

@@ -34,7 +34,7 @@ impl Seen {
         }
     }
 
-    /// A name more. Whether it was not seen before.
+    /// Inserts the name `name` of kind `kind`. Returns true if it is new.
     ///
     /// # Errors
     ///

@@ -96,8 +96,7 @@ pub enum EditFault {
     /// The line would not read as before but for the one member or definition, or this would not own exactly the splice.
     #[error("BadSplice")]
     BadSplice,
-    /// The end of the last line is as it should be already, or there is no line: LF is put behind a last line without it, and
-    /// taken from one that has more than it.
+    /// `EndLine`: the last line already ends in LF. `OpenEnd`: it does not, or it is LF alone. Either: there is no line.
     #[error("EndAsIs")]
     EndAsIs,
     /// The result would pass the limit of a policy, or a changed line that of a line.

@@ -1,5 +1,5 @@
-//! User specifications, told by their tokens and not kept but for the aliases in them. Only frequent forms are: no `!`, options,
-//! digests, quotes or IDs.
+//! Fast path: recognizes common user specifications and keeps only their aliases. Common are those without `!`, options,
+//! digests, quotes and IDs.
 
 ghost use Rattle.std.specs.Prelude.{◌≡◌, length, All, IsTrue, IfOk, IfSome, OnOk, true, false, None};
 ghost use Rattle.sudoers_text.specs.Token.{IsWithin};

@@ -85,13 +85,13 @@ pub fn read_tokens(alloc: Global, line: &[u8], tokens: &[Token]) -> Result<Node,
     read(alloc, parts.as_slice(), line.len() - last_line_end(line))
 }
 
-/// What one logical line says (sudoers(5), SUDOERS FILE FORMAT). Limits, reserved words and names that are defined twice are
-/// no matter of one line.
+/// Parses one logical line (sudoers(5), SUDOERS FILE FORMAT). It does not check limits, reserved words or names that are
+/// defined twice: these are checked for a whole policy.
 ///
 /// # Errors
 ///
-/// [`LineFault::Syntax`] where the line says nothing: where the first token begins with which its tokens begin nothing that a
-/// line may say, or where it ends too early, and why; [`LineFault::NoMemory`] where a growth of memory was refused.
+/// [`LineFault::Syntax`] at the first token that no legal line has there, or at the end of an incomplete line, with the cause;
+/// [`LineFault::NoMemory`] where a growth of memory was refused.
 pub fn parse(alloc: Global, line: &[u8]) -> Result<Node, LineFault>
     // What is given is what the line says.
     ensures found { IfOk result (λ node. ReadsLine line.now node) }

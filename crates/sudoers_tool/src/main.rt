@@ -25,7 +25,13 @@ const POLICY: &str = "policy";
 /// The name of the standard input as a file.
 const STDIN: &str = "-";
 
-/// Status 0, or 1 where there was a fault, or 2 where the words were not understood.
+/// What `--version` prints after the program's name.
+const VERSION: &str = "0.5.0";
+
+/// What help prints last.
+const EXIT_STATUS: &str = "Exit status: 0 success; 1 an error, or a policy that `check` does not pass; 2 a wrong command line. See sudoers_tool(8).";
+
+/// Returns the exit status: 0 for success, 1 for an error or a policy that `check` does not pass, 2 for a wrong command line.
 fn main(rt: HostRuntime) -> ExitCode {
     match run(&rt) {
         Ok(code) => code,
@@ -33,7 +39,7 @@ fn main(rt: HostRuntime) -> ExitCode {
     }
 }
 
-/// Reads the words, and does what they ask for.
+/// Reads the command line and runs the command that it names.
 fn run(rt: &HostRuntime) -> Result<ExitCode, ToolFault> {
     let mut command = command_words(rt.alloc())?;
     let words = match words(rt) {
@@ -53,7 +59,7 @@ fn run(rt: &HostRuntime) -> Result<ExitCode, ToolFault> {
     }
 }
 
-/// Does what the words ask for, and tells a fault.
+/// Runs the command of a command line that was understood, and prints its error.
 fn obey(rt: &HostRuntime, matches: &ArgMatches<'_>) -> ExitCode {
     let (file, outcome) = match matches.subcommand() {
         Some(("check", words)) => {
@@ -75,54 +81,54 @@ fn obey(rt: &HostRuntime, matches: &ArgMatches<'_>) -> ExitCode {
     }
 }
 
-/// The words that are understood.
+/// Returns the command line that is understood.
 fn command_words<'a>(alloc: Global) -> Result<Command<'a>, AllocError> {
     let edit = Command::new(alloc, "edit").about(
-        "Edits a policy: a script, a line `%%` and the policy in; the script that takes the edits back, `%%` and the edited policy out",
+        "Apply an edit script to a policy. Read SCRIPT, `%%`, POLICY on standard input; write UNDO, `%%`, POLICY",
     );
     let show = Command::new(alloc, "show")
-        .about(
-            "Shows the logical lines of a policy with their numbers and kinds, and its definitions of aliases",
-        )
+        .about("Print the logical lines of a policy and its alias definitions, with their numbers")
         .arg(file_word(alloc))?;
     Command::new(alloc, "sudoers_tool")
-        .about("Checks, shows and edits sudoers policies. With no command it does what `edit` does")
-        .subcommand(edit)?
+        .version(VERSION)
+        .about("Check, show and edit sudoers policies. Without a command, do what `edit` does")
+        .after_help(EXIT_STATUS)
         .subcommand(check_words(alloc)?)?
+        .subcommand(edit)?
         .subcommand(show)
 }
 
-/// The words of `check`.
+/// Returns the command line of `check`.
 fn check_words<'a>(alloc: Global) -> Result<Command<'a>, AllocError> {
     let quiet = Arg::new(alloc, "quiet")
         .short('q')
         .action(ArgAction::SetTrue)
-        .help("Writes nothing on the standard output; the status tells");
+        .help("Print nothing; only set the exit status");
     let strict = Arg::new(alloc, "strict")
         .short('s')
         .action(ArgAction::SetTrue)
-        .help("Undefined names and cyclic aliases are faults");
+        .help("Treat undefined and cyclic aliases as errors");
     Command::new(alloc, "check")
-        .about("Checks a policy: names that are undefined, aliases that are cyclic or unused")
+        .about("Check the syntax of a policy, and report undefined, cyclic and unused aliases")
         .arg(quiet)?
         .arg(strict)?
         .arg(file_word(alloc))
 }
 
-/// The word for a policy file.
+/// Returns the argument that names a policy file.
 fn file_word<'a>(alloc: Global) -> Arg<'a> {
     Arg::new(alloc, "FILE")
         .required(true)
-        .help("The policy file, or `-` for the standard input")
+        .help("Policy file, or `-` for standard input")
 }
 
-/// The words of the command line.
+/// Returns the words of the command line.
 fn words(rt: &HostRuntime) -> io::Result<Vec<String>> {
     let words: Vec<String> = std::env::args(rt)?.collect(rt.alloc())?;
     Ok(words)
 }
 
-/// Shows clap's text: of help on the standard output, of words that it does not understand on the standard error.
+/// Prints clap's text: help and version on standard output, a wrong command line on standard error.
 fn show_usage(rt: &HostRuntime, error: &Error) -> Result<ExitCode, ToolFault> {
     if error.kind() == ErrorKind::OutOfMemory {
         return Err(ToolFault::from(AllocError));
@@ -133,14 +139,14 @@ fn show_usage(rt: &HostRuntime, error: &Error) -> Result<ExitCode, ToolFault> {
     }
 }
 
-/// Edits over the standard streams.
+/// Edits the policy on standard input, and writes to standard output.
 fn edit_streams(rt: &HostRuntime) -> Result<u8, ToolFault> {
     let mut reader = Counted::new(rt.stdin());
     let mut writer = Counted::new(rt.stdout());
     run_edit(rt.alloc(), &mut reader, &mut writer)
 }
 
-/// Shows a file, or the standard input.
+/// Shows a file, or standard input.
 fn show_file(rt: &HostRuntime, file: &str) -> Result<u8, ToolFault> {
     let mut writer = Counted::new(rt.stdout());
     if file == STDIN {
@@ -150,7 +156,7 @@ fn show_file(rt: &HostRuntime, file: &str) -> Result<u8, ToolFault> {
     run_show(rt.alloc(), &mut Counted::new(opened), &mut writer)
 }
 
-/// Checks a file, or the standard input.
+/// Checks a file, or standard input.
 fn check_file(rt: &HostRuntime, file: &str, quiet: bool, strict: bool) -> Result<u8, ToolFault> {
     let mut writer = Counted::new(rt.stdout());
     let name = file.as_bytes();
@@ -162,7 +168,7 @@ fn check_file(rt: &HostRuntime, file: &str, quiet: bool, strict: bool) -> Result
     run_check(rt.alloc(), &mut reader, name, quiet, strict, &mut writer)
 }
 
-/// Opens a file. One that cannot be opened cannot be read.
+/// Opens a file. A file that cannot be opened is the error `Read`.
 fn open(rt: &HostRuntime, file: &str) -> Result<fs::File, ToolFault> {
     match fs::open(rt, file) {
         Ok(opened) => Ok(opened),
@@ -173,13 +179,13 @@ fn open(rt: &HostRuntime, file: &str) -> Result<fs::File, ToolFault> {
     }
 }
 
-/// Status 1, for a fault that is told on the standard error.
+/// Prints an error, and returns exit status 1.
 fn told(rt: &HostRuntime, fault: &ToolFault, file: &str) -> ExitCode {
     let _ = tell(rt, fault, file);
     ExitCode::from(1)
 }
 
-/// Writes a fault's text to the standard error. Where it finds no memory nothing is written.
+/// Writes the text of an error to standard error, or nothing if memory runs out.
 fn tell(rt: &HostRuntime, fault: &ToolFault, file: &str) -> io::Result<()> {
     let text = fault_text(rt.alloc(), fault, file.as_bytes())?;
     let mut message = Vec::from_slice(rt.alloc(), b"sudoers_tool: ")?;

@@ -1,0 +1,21 @@
+# Completes the command line of sudoers_tool in fish.
+
+# Succeeds if the command line has this command and no argument after it but options.
+function __sudoers_tool_argument_of
+    set -l words (commandline -opc)
+    set -e words[1]
+    set -l plain (string match --invert -- '-?*' $words)
+    test (count $plain) -eq 1; and contains -- $plain[1] $argv
+end
+
+complete -c sudoers_tool -f
+complete -c sudoers_tool -s h -l help -d 'Print help'
+complete -c sudoers_tool -n __fish_use_subcommand -s V -l version -d 'Print the version'
+complete -c sudoers_tool -n __fish_use_subcommand -a check -d 'Check a policy'
+complete -c sudoers_tool -n __fish_use_subcommand -a edit -d 'Apply an edit script to a policy'
+complete -c sudoers_tool -n __fish_use_subcommand -a help -d 'Print help'
+complete -c sudoers_tool -n __fish_use_subcommand -a show -d 'Print the lines of a policy'
+complete -c sudoers_tool -n '__fish_seen_subcommand_from check' -s q -d 'Print nothing; only set the exit status'
+complete -c sudoers_tool -n '__fish_seen_subcommand_from check' -s s -d 'Treat undefined and cyclic aliases as errors'
+complete -c sudoers_tool -n '__sudoers_tool_argument_of check show' -F
+complete -c sudoers_tool -n '__sudoers_tool_argument_of help' -a 'check edit show'

@@ -1,0 +1,234 @@
+"""Completes command lines in bash, zsh and fish, and compares what each offers.
+
+A row of ROWS is the words of a command line, of which the last is not complete,
+and the words that a shell has to offer for it. The shells run in a folder with
+the files of FILES and the folder of FOLDER. zsh runs in a terminal of its own,
+because its completion needs one.
+"""
+
+import os
+import pty
+import re
+import select
+import shutil
+import subprocess
+import tempfile
+import time
+
+from manual import commands_of_help, helps, options_of_help
+from tally import difference
+
+TOP = os.path.dirname(os.path.dirname(os.path.abspath(__file__)))
+COMPLETIONS = os.path.join(TOP, "completions")
+SECONDS = 60
+
+FILES = ("policy", "web team", "a file with blanks")
+FOLDER = "sub"
+COMMANDS = ("check", "edit", "help", "show")
+ALL_FILES = (*FILES, FOLDER)
+
+ROWS = (
+    (("",), COMMANDS),
+    (("c",), ("check",)),
+    (("ch",), ("check",)),
+    (("sho",), ("show",)),
+    (("x",), ()),
+    (("-",), ("-h", "--help", "-V", "--version")),
+    (("--",), ("--help", "--version")),
+    (("--v",), ("--version",)),
+    (("check", ""), ALL_FILES),
+    (("check", "w"), ("web team",)),
+    (("check", "p"), ("policy",)),
+    (("check", "x"), ()),
+    (("check", "-"), ("-h", "--help", "-q", "-s")),
+    (("check", "-q", ""), ALL_FILES),
+    (("check", "-q", "-s", "a"), ("a file with blanks",)),
+    (("check", "policy", ""), ()),
+    (("show", ""), ALL_FILES),
+    (("show", "s"), ("sub",)),
+    (("show", "--"), ("--help",)),
+    (("show", "policy", "w"), ()),
+    (("edit", ""), ()),
+    (("edit", "--"), ("--help",)),
+    (("help", ""), ("check", "edit", "show")),
+    (("help", "s"), ("show",)),
+    (("help", "show", ""), ()),
+)
+
+# zsh offers the options if there is nothing else to offer.
+ZSH_ROWS = {
+    ("check", "policy", ""): ("-h", "--help", "-q", "-s"),
+    ("edit", ""): ("-h", "--help"),
+}
+
+
+def run(words, folder):
+    """Runs a shell without files of the user, and returns its output."""
+    done = subprocess.run(
+        words,
+        stdin=subprocess.DEVNULL,
+        stdout=subprocess.PIPE,
+        stderr=subprocess.STDOUT,
+        cwd=folder,
+        env={"PATH": os.environ["PATH"], "HOME": os.path.dirname(folder), "LC_ALL": "C"},
+        timeout=SECONDS,
+        check=False,
+    )
+    return done.stdout.decode()
+
+
+# ---- bash
+
+BASH = """
+source "$1"
+shift
+COMP_WORDS=(sudoers_tool "$@")
+COMP_CWORD=$#
+COMPREPLY=(before)
+_sudoers_tool sudoers_tool "${COMP_WORDS[COMP_CWORD]}"
+for reply in "${COMPREPLY[@]}"; do
+  printf '%s\\n' "$reply"
+done
+"""
+
+
+def by_bash(words, folder):
+    """Returns what bash offers for the last of the words, without the package bash-completion."""
+    source = os.path.join(COMPLETIONS, "bash/sudoers_tool")
+    return run(["bash", "--norc", "--noprofile", "-c", BASH, "bash", source, *words], folder).splitlines()
+
+
+# ---- fish
+
+
+def by_fish(words, folder):
+    """Returns what fish offers for the last of the words."""
+    line = " ".join(["sudoers_tool", *words])
+    source = os.path.join(COMPLETIONS, "fish/sudoers_tool.fish")
+    output = run(["fish", "--no-config", "-c", "source $argv[1]; complete -C $argv[2]", source, line], folder)
+    return [offer.split("\t")[0].rstrip("/") for offer in output.splitlines()]
+
+
+# ---- zsh
+
+# A Tab writes the offers to a file, renames it to `offers.N` and empties the line.
+ZSH = """
+fpath=('%s' $fpath)
+autoload -U compinit
+compinit -u -D
+compadd() {
+  local -a offers
+  [[ -n ${argv[(r)-[OAD]]} ]] || builtin compadd -O offers "$@"
+  (( $#offers )) && print -rl -- $offers >> ../offers
+  builtin compadd "$@"
+}
+answer() {
+  : > ../offers
+  zle complete-word
+  (( answers++ ))
+  mv ../offers ../offers.$answers
+  zle kill-whole-line
+}
+zle -N answer
+bindkey -e
+bindkey '^I' answer
+PS1=
+setopt no_beep
+print ready > ../offers.0
+"""
+
+
+class Terminal:
+    """A zsh in a terminal."""
+
+    def __init__(self, folder):
+        self.above = os.path.dirname(folder)
+        with open(os.path.join(self.above, "setup"), "w", encoding="utf-8") as file:
+            file.write(ZSH % os.path.join(COMPLETIONS, "zsh"))
+        self.child, self.device = pty.fork()
+        if self.child == 0:
+            os.chdir(folder)
+            variables = {"PATH": os.environ["PATH"], "HOME": self.above, "LC_ALL": "C", "TERM": "dumb"}
+            os.execvpe("zsh", ["zsh", "-f", "-i"], variables)
+        self.asked = -1
+        self.answer(" source ../setup\n")
+
+    def answer(self, typed):
+        """Types a text, and returns the lines of the next answer, or None if none comes in time."""
+        self.asked += 1
+        path = os.path.join(self.above, f"offers.{self.asked}")
+        end = time.monotonic() + SECONDS
+        try:
+            os.write(self.device, typed.encode())
+            while not os.path.exists(path) and time.monotonic() < end:
+                if select.select([self.device], [], [], 0.02)[0]:
+                    os.read(self.device, 65536)
+            with open(path, encoding="utf-8") as file:
+                return file.read().splitlines()
+        except OSError:  # the zsh has ended, or there is no answer
+            return None
+
+    def close(self):
+        """Ends the zsh."""
+        os.close(self.device)
+        os.waitpid(self.child, 0)
+
+
+def by_zsh(terminal):
+    """Returns a function that returns what this zsh offers for the last of the words."""
+
+    def offers(words, _):
+        lines = terminal.answer(" ".join(["sudoers_tool", *words]) + "\t")
+        return None if lines is None else {re.sub(r"\\(.)", r"\1", line) for line in lines}
+
+    return offers
+
+
+# ---- the rows
+
+
+def run_rows(shell, offers, folder, tally):
+    """Completes each row in a shell, up to one that it does not answer."""
+    for words, wanted in ROWS:
+        if shell == "zsh":
+            wanted = ZSH_ROWS.get(words, wanted)
+        came = offers(words, folder)
+        if came is None:
+            tally.note(f"{shell} completes {words}", ["no answer"])
+            return
+        tally.note(f"{shell} completes {words}", difference("offers", sorted(wanted), sorted(came)))
+
+
+def run_lists(program, tally):
+    """The rows have the commands and the options of the help texts."""
+    whole, each = helps(program)
+    tally.note("completed commands", difference("commands", commands_of_help(whole), set(COMMANDS)))
+    options = dict(ROWS)
+    wanted = {"check": set(options["check", "-"]), "edit": {"-h", "--help"}, "show": {"-h", "--help"}}
+    tally.note("completed options", difference("options", options_of_help(whole), set(options[("-",)])))
+    for name, text in each.items():
+        tally.note(f"completed options of {name}", difference("options", options_of_help(text), wanted.get(name)))
+
+
+def make_files(folder):
+    """Makes the files and the folder that the rows complete."""
+    os.makedirs(os.path.join(folder, FOLDER))
+    for name in FILES:
+        with open(os.path.join(folder, name), "wb"):
+            pass
+
+
+def run_all(program, tally):
+    """Completes the rows in each shell that is installed."""
+    run_lists(program, tally)
+    for shell, offers in (("bash", by_bash), ("fish", by_fish), ("zsh", None)):
+        if shutil.which(shell) is None:
+            tally.skip(f"completions of {shell}", f"{shell} is missing")
+            continue
+        with tempfile.TemporaryDirectory() as scratch:
+            folder = os.path.join(scratch, "room")
+            make_files(folder)
+            terminal = Terminal(folder) if shell == "zsh" else None
+            run_rows(shell, offers or by_zsh(terminal), folder, tally)
+            if terminal is not None:
+                terminal.close()

@@ -1,0 +1,271 @@
+"""Runs each command that the documents show, and compares what it prints with what they show.
+
+In a document a fenced block `sh` is run, and the block `text` that follows it is
+what it prints on both streams; without such a block it prints nothing. The
+blocks of one document run in order in one shell, in a folder of their own that
+holds a copy of examples/. A block `sh visudo` is skipped where visudo of the
+version SUDO is not installed. A block `console` shows commands that prove, build
+or install, each after `$ `: it may hold only those of ELSEWHERE, which other
+tests or the gate run. Any other block is a picture.
+
+A table whose first header cell is `Policy` and whose last is `` `check` prints ``
+or `` `show` prints `` is run row by row: the first cell holds the file `policy`,
+and the last one what the command prints. In a column `sudo` the cells `reads`
+and `refuses` are compared with the answer of visudo, if it is of that version.
+"""
+
+import functools
+import glob
+import os
+import re
+import shutil
+import subprocess
+import tempfile
+from dataclasses import dataclass, field
+
+from program import Wanted, run
+from tally import difference
+
+TOP = os.path.dirname(os.path.dirname(os.path.abspath(__file__)))
+PATTERNS = ("README.md", "docs/*.md", "crates/*/README.md", "tests/README.md", "bench/README.md", "examples/README.md")
+SECONDS = 60
+
+# How many lines a document has at most, where it is short on purpose.
+LIMITS = {"README.md": 160, "docs/ARCHITECTURE.md": 110}
+
+# Commands of `console` blocks, and what runs them: a word of each command line, in order, has to be its beginning.
+ELSEWHERE = (
+    "bash scripts/build",  # the gate proves and builds with the same words of rt
+    "bash scripts/test",  # these tests are a part of it
+    "bash bench/run",  # a benchmark
+    "bash scripts/package",  # installing.py
+    "sudo bash scripts/install",  # installing.py
+    "sudo bash scripts/uninstall",  # installing.py
+    "sudo dpkg -i",  # installing.py unpacks the package
+    "cd crates/",  # before a word of rt
+    "(cd crates/",
+    "crates/bench_",  # bench/run
+    "rt ",  # the gate
+    "tests/run",  # these tests
+    "scripts/try_edit",  # the gate tries all edits
+    "git clone",
+)
+
+SYSTEM_PATH = "/usr/local/bin:/usr/bin:/bin:/usr/sbin:/sbin"
+
+# The version of sudo that the documents speak of.
+SUDO = b"1.9.13p3"
+
+PRINTS = re.compile(r"`(check|show)` prints")
+ESCAPES = {"n": b"\n", "r": b"\r", "t": b"\t", "0": b"\0", "\\": b"\\", "|": b"|"}
+
+
+@dataclass
+class Block:
+    """A fenced block of a document."""
+
+    line: int
+    kind: str
+    text: str = ""
+
+
+@dataclass
+class Row:
+    """A row of a table that is run."""
+
+    line: int
+    command: str
+    policy: bytes
+    printed: bytes
+    sudo: str = ""
+
+
+@dataclass
+class Document:
+    """What the tests read of a document."""
+
+    name: str
+    blocks: list = field(default_factory=list)
+    rows: list = field(default_factory=list)
+    links: list = field(default_factory=list)
+    lines: int = 0
+
+
+@functools.cache
+def visudo():
+    """Returns the path of visudo, or None where its version is not SUDO."""
+    path = shutil.which("visudo", path=SYSTEM_PATH)
+    if path is None:
+        return None
+    done = subprocess.run([path, "-V"], stdout=subprocess.PIPE, check=False)
+    return path if SUDO in done.stdout.split() else None
+
+
+def unescaped(text):
+    """Returns the bytes of a policy as a cell spells it."""
+    return re.sub(rb"\\(.)", lambda match: ESCAPES[match[1].decode()], text.encode())
+
+
+def code_span(cell):
+    """Returns the text of a cell that is one code span, or None."""
+    match = re.fullmatch(r"`([^`]+)`|`` (.+) ``", cell)
+    return match and (match[1] or match[2])
+
+
+def cells_of(line):
+    """Returns the cells of a table's line."""
+    return [cell.strip() for cell in re.split(r"(?<!\\)\|", line.strip())[1:-1]]
+
+
+def read_row(number, header, cells):
+    """Returns the row that these cells make in a table with this header."""
+    if len(cells) != len(header):
+        raise ValueError(f"line {number}: a row of {len(cells)} cells in a table of {len(header)}")
+    command = PRINTS.fullmatch(header[-1])[1]
+    sudo = cells[header.index("sudo")] if "sudo" in header else ""
+    policy = code_span(cells[0])
+    printed = [code_span(part) for part in cells[-1].split("<br>")]
+    if policy is None or None in printed:
+        raise ValueError(f"line {number}: a row that is run needs code spans in its first and last cell")
+    lines = [line.replace("\\|", "|").encode() + b"\n" for line in printed if line]
+    return Row(number, command, unescaped(policy), b"".join(lines), sudo)
+
+
+def read_document(name):
+    """Reads the blocks, the rows and the links of a document."""
+    document = Document(name)
+    block = header = None
+    with open(os.path.join(TOP, name), encoding="utf-8") as file:
+        lines = file.read().split("\n")
+    document.lines = len(lines) - 1
+    for number, line in enumerate(lines, 1):
+        if line.startswith("```"):
+            if block is None:
+                block = Block(number, line[3:].strip())
+                document.blocks.append(block)
+            else:
+                block = None
+        elif block is not None:
+            block.text += line + "\n"
+        elif line.startswith("|"):
+            cells = cells_of(line)
+            if cells[0] == "Policy" and PRINTS.fullmatch(cells[-1]):
+                header = cells
+            elif header and not set(cells[0]) <= set("-: "):
+                document.rows.append(read_row(number, header, cells))
+        else:
+            header = None
+            document.links += [(number, link) for link in re.findall(r"\]\(([^)#:\s]+)(?:#[^)]*)?\)", line)]
+    return document
+
+
+def environment(program, folder):
+    """Returns the environment of a document's shell: the program is on the PATH."""
+    commands = os.path.join(folder, ".commands")
+    os.mkdir(commands)
+    os.symlink(program, os.path.join(commands, "sudoers_tool"))
+    return {"PATH": f"{commands}:{SYSTEM_PATH}", "HOME": folder, "LC_ALL": "C"}
+
+
+def run_blocks(document, program):
+    """Runs the `sh` blocks of a document in one shell, and returns what each printed."""
+    kinds = ("sh", "sh visudo") if visudo() else ("sh",)
+    blocks = [block for block in document.blocks if block.kind in kinds]
+    if not blocks:
+        return []
+    script = "umask 022\nexec 2>&1 </dev/null\n"
+    for block in blocks:
+        script += block.text + "printf '\\000'\n"
+    with tempfile.TemporaryDirectory() as folder:
+        shutil.copytree(os.path.join(TOP, "examples"), os.path.join(folder, "examples"))
+        done = subprocess.run(
+            ["sh", "-c", script],
+            stdout=subprocess.PIPE,
+            cwd=folder,
+            env=environment(program, folder),
+            timeout=SECONDS,
+            check=False,
+        )
+    printed = done.stdout.split(b"\0")
+    return list(zip(blocks, printed + [None] * len(blocks)))
+
+
+def wanted_of(document, block):
+    """Returns what a block has to print: the block `text` that follows it."""
+    at = document.blocks.index(block) + 1
+    after = document.blocks[at] if at < len(document.blocks) else None
+    return after.text.encode() if after is not None and after.kind == "text" else b""
+
+
+def run_commands(document, program, tally):
+    """Runs the commands of a document."""
+    for block, printed in run_blocks(document, program):
+        problems = difference("output", wanted_of(document, block), printed)
+        tally.note(f"{document.name}:{block.line}, a command", problems)
+
+
+def wanted_of_row(row):
+    """Returns what a row has to answer: an error of `show` is printed on standard error."""
+    if row.command == "show" and row.printed.startswith(b"sudoers_tool: "):
+        return Wanted(stderr=row.printed, status=1)
+    accepted = row.command == "show" or row.printed.endswith(b": parsed OK\n")
+    return Wanted(row.printed, status=0 if accepted else 1)
+
+
+def sudo_problems(row, folder):
+    """Returns where the cell of a column `sudo` is not what visudo answers."""
+    if row.sudo not in ("reads", "refuses") or not visudo():
+        return []
+    words = [visudo(), "-q", "-c", "-f", os.path.join(folder, "policy")]
+    done = subprocess.run(words, capture_output=True, check=False, env={"LC_ALL": "C"}, timeout=SECONDS)
+    return difference("visudo", row.sudo, "reads" if done.returncode == 0 else "refuses")
+
+
+def run_rows(document, program, tally):
+    """Runs the rows of a document's tables."""
+    for row in document.rows:
+        with tempfile.TemporaryDirectory() as folder:
+            with open(os.path.join(folder, "policy"), "wb") as file:
+                file.write(row.policy)
+            problems = wanted_of_row(row).problems(run(program, (row.command, "policy"), folder=folder))
+            problems += sudo_problems(row, folder)
+        tally.note(f"{document.name}:{row.line}, a row", problems)
+
+
+def console_problems(block):
+    """Returns the commands of a `console` block that nothing runs."""
+    commands = [line[2:] for line in block.text.split("\n") if line.startswith("$ ")]
+    wrong = [command for command in commands if not command.startswith(ELSEWHERE)]
+    return [f"nothing runs {command!r}" for command in wrong]
+
+
+def run_forms(document, tally):
+    """Each output follows its command, each other command is run elsewhere, and each link leads to a file."""
+    for before, block in zip([None, *document.blocks], document.blocks):
+        if block.kind == "text":
+            alone = before is None or before.kind not in ("sh", "sh visudo")
+            tally.note(f"{document.name}:{block.line}, an output", ["no command prints it"] if alone else [])
+        if block.kind == "console":
+            tally.note(f"{document.name}:{block.line}, commands", console_problems(block))
+    folder = os.path.dirname(os.path.join(TOP, document.name))
+    broken = [f"line {number}: {link}" for number, link in document.links if not os.path.exists(os.path.join(folder, link))]
+    tally.note(f"{document.name}, links", broken)
+    most = LIMITS.get(document.name, document.lines)
+    tally.note(f"{document.name}, length", [f"more than {most} lines"] if document.lines > most else [])
+
+
+def names():
+    """Returns the names of all documents."""
+    paths = [path for pattern in PATTERNS for path in sorted(glob.glob(os.path.join(TOP, pattern)))]
+    return [os.path.relpath(path, TOP) for path in paths]
+
+
+def run_all(program, tally):
+    """Runs what all documents show."""
+    if not visudo():
+        tally.skip("documents, what sudo answers", f"visudo of sudo {SUDO.decode()} is not installed")
+    for name in names():
+        document = read_document(name)
+        run_commands(document, program, tally)
+        run_rows(document, program, tally)
+        run_forms(document, tally)

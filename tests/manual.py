@@ -1,0 +1,257 @@
+"""Tests the manual page: mandoc accepts it, its examples run, and its lists are complete.
+
+A display of EXAMPLES is a session: a line that begins with `$ ` is a command, up
+to the end of its here-document, and the lines after it are its output. All
+sessions run in order in one shell and one folder. The folder /etc/sudoers.d of
+the page is a scratch folder.
+
+DIAGNOSTICS has to list each error that the sources know: each variant of the
+fault types, with the text that FaultText.antt states for it.
+"""
+
+import glob
+import os
+import re
+import shutil
+import subprocess
+import tempfile
+
+from program import run
+from tally import difference
+
+TOP = os.path.dirname(os.path.dirname(os.path.abspath(__file__)))
+PAGE = os.path.join(TOP, "man/sudoers_tool.8")
+SECONDS = 60
+SUDOERS_D = "/etc/sudoers.d"
+
+ESCAPES = {"-": "-", "e": "\\", "&": "", "(aq": "'", "(dq": '"', "(ha": "^", "(ti": "~", "(ga": "`"}
+
+# The fault types, and what DIAGNOSTICS writes for each term of their texts.
+FAULTS = ("TextFault", "Why", "ReadFault", "ScriptFault", "EditFault", "LayerFault", "ToolFault")
+TERMS = (
+    (r'codes "(.*)"', r"\1"),
+    (r"file", "FILE"),
+    (r"decimal line", "LINE"),
+    (r"decimal col", "COL"),
+    (r"decimal at", "N"),
+    (r"kind_name k", "KIND"),
+    (r"name_text file k name", "FILE: KIND NAME"),
+    (r"why_name why", "CAUSE"),
+    (r'script_text line \(codes "(.*)"\)', r"script:LINE: \1"),
+    (r'edit_name place \(codes "(.*)"\)', r"edit N: \1"),
+    (r"text_of_\w+ .*", "ERROR"),
+)
+CARRIED = "ERROR"
+
+# What mandoc says about the other pages of the machine, and not about this one.
+OF_THE_MACHINE = ("referenced manual not found", "outdated mandoc.db")
+
+
+def read(path):
+    """Returns the text of a file of the repository."""
+    with open(os.path.join(TOP, path), encoding="utf-8") as file:
+        return file.read()
+
+
+def section(name):
+    """Returns the lines of a section of the page."""
+    match = re.search(rf"^\.Sh {name}\n(.*?)(?=^\.Sh |\Z)", read(PAGE), re.M | re.S)
+    return match[1].splitlines() if match else []
+
+
+def plain(line):
+    """Returns a line of the page without its escapes."""
+    return re.sub(r"\\(\(..|.)", lambda match: ESCAPES[match[1]], line)
+
+
+# ---- the form
+
+
+def run_lint(tally):
+    """mandoc says nothing about the page."""
+    mandoc = shutil.which("mandoc")
+    if mandoc is None:
+        tally.skip("manual page, form", "mandoc is missing")
+        return
+    words = [mandoc, "-T", "lint", "-W", "all", PAGE]
+    done = subprocess.run(words, stdout=subprocess.PIPE, stderr=subprocess.STDOUT, timeout=SECONDS, check=False)
+    lines = done.stdout.decode().splitlines()
+    tally.note("manual page, form", [line for line in lines if not any(words in line for words in OF_THE_MACHINE)])
+
+
+# ---- the examples
+
+
+def displays(lines):
+    """Returns the displays of a section, each a list of lines."""
+    found, inside = [], False
+    for line in lines:
+        if line.startswith(".Bd -literal"):
+            found, inside = [*found, []], True
+        elif line == ".Ed":
+            inside = False
+        elif inside:
+            found[-1].append(plain(line))
+    return found
+
+
+def commands_of(display):
+    """Returns the commands of a session, each with its output."""
+    commands, end = [], None
+    for line in display:
+        if end is None and line.startswith("$ "):
+            commands.append([line[2:] + "\n", ""])
+        elif not commands:
+            raise ValueError(f"{line!r} comes before a command")
+        else:
+            commands[-1][0 if end is not None else 1] += line + "\n"
+        if end is not None:
+            end = None if line == end else end
+        elif line.startswith("$ "):
+            match = re.search(r"<<'(\w+)'", line)
+            end = match and match[1]
+    return commands
+
+
+def environment(program, folder):
+    """Returns the environment of the shell: the program is on the PATH, and so is a visudo."""
+    os.mkdir(os.path.join(folder, "bin"))
+    os.symlink(program, os.path.join(folder, "bin/sudoers_tool"))
+    path = f"{folder}/bin:{os.environ['PATH']}:/usr/sbin:/sbin"
+    if shutil.which("visudo", path=path) is None:
+        os.symlink(shutil.which("true"), os.path.join(folder, "bin/visudo"))
+    return {"PATH": path, "HOME": folder, "LC_ALL": "C"}
+
+
+def session(commands, folder):
+    """Returns a script that runs the commands, with NUL after the output of each."""
+    lines = ["exec 2>&1 </dev/null", "after() { status=$?; printf '\\000'; return $status; }"]
+    for command, _ in commands:
+        lines += [command.replace(SUDOERS_D, folder) + "after"]
+    return "\n".join(lines) + "\n"
+
+
+def run_examples(program, tally):
+    """Runs the commands of EXAMPLES in order, and compares what each prints."""
+    commands = [command for display in displays(section("EXAMPLES")) for command in commands_of(display)]
+    with tempfile.TemporaryDirectory() as scratch:
+        room, sudoers_d = os.path.join(scratch, "room"), os.path.join(scratch, "sudoers_d")
+        os.mkdir(room)
+        os.mkdir(sudoers_d)
+        variables = environment(program, scratch)
+        if os.path.exists(os.path.join(scratch, "bin/visudo")):
+            tally.skip("manual page, visudo of EXAMPLES", "visudo is missing")
+        done = subprocess.run(
+            ["sh", "-c", session(commands, sudoers_d)],
+            stdout=subprocess.PIPE,
+            env=variables,
+            cwd=room,
+            timeout=SECONDS,
+            check=False,
+        )
+        left = {name: oct(os.stat(os.path.join(sudoers_d, name)).st_mode & 0o7777) for name in os.listdir(sudoers_d)}
+    outputs = done.stdout.replace(sudoers_d.encode(), SUDOERS_D.encode()).decode().split("\0")
+    for (command, wanted), output in zip(commands, outputs + ["no output"] * len(commands)):
+        tally.note(f"manual page, {command!r}", difference("output", wanted, output))
+    tally.note("manual page, installed policy", difference("files", {"web": "0o440"}, left))
+    tally.note("manual page, EXAMPLES", [] if commands else ["there is no command"])
+
+
+# ---- the errors
+
+
+def variants():
+    """Returns the variants of each fault type, by its name, as the sources declare them."""
+    found = {}
+    for path in glob.glob(os.path.join(TOP, "crates/sudoers_*/src/*.rt")):
+        for name, body in re.findall(r"^pub enum (\w+) \{\n(.*?)^\}", read(path), re.M | re.S):
+            if name in FAULTS:
+                found[name] = re.findall(r"^    ([A-Z]\w*)", body, re.M)
+    return found
+
+
+def text_of(term):
+    """Returns what DIAGNOSTICS writes for a term of a text."""
+    for pattern, text in TERMS:
+        match = re.fullmatch(pattern, term)
+        if match:
+            return match.expand(text)
+    raise ValueError(f"no text for the term {term!r}")
+
+
+def texts():
+    """Returns the text of each variant, as FaultText.antt states it: (type, variant) -> text."""
+    source = read("crates/sudoers_tool/specs/FaultText.antt")
+    types = {short: name for name, short in re.findall(r"declared\.\w+\.(\w+)\.TheVariants as (\w+)", source)}
+    found = {}
+    for row in re.sub(r"\n +", " ", source).splitlines():
+        match = re.match(r"(?:text_of_\w+|why_name) .*?\b(\w+)\.(\w+)[^=]*= (.*)", row)
+        if match and match[1] in types:
+            found[types[match[1]], match[2]] = "".join(map(text_of, match[3].split(" ++ ")))
+    return found
+
+
+def notes():
+    """Returns the texts of the notes and of the last line of `check`, as Report.antt states them."""
+    source = read("crates/sudoers_check/specs/Report.antt")
+    words = re.findall(r'note_text file \(codes "(\w+)"\)', source)
+    verdicts = re.findall(r'^verdict \w+ = codes "(.*)\\n"', source, re.M)
+    return [f"FILE:LINE:COL: {word} KIND NAME" for word in words] + ["FILE" + verdict for verdict in verdicts]
+
+
+def run_errors(tally):
+    """DIAGNOSTICS lists each error and each note, and nothing else."""
+    declared = variants()
+    tally.note("manual page, fault types", difference("types", sorted(FAULTS), sorted(declared)))
+    known = texts()
+    named = sorted((name, variant) for name, names in declared.items() for variant in names)
+    tally.note("manual page, variants", difference("variants", named, sorted(known)))
+    wanted = set(known.values()) - {CARRIED} | set(notes())
+    items = [line[len(".It ") :].replace('"', "") for line in section("DIAGNOSTICS") if line.startswith(".It ")]
+    problems = [f"{item!r} is missing" for item in sorted(wanted - set(items))]
+    problems += [f"nothing prints {item!r}" for item in sorted(set(items) - wanted)]
+    problems += [f"{item!r} is there twice" for item in sorted({item for item in items if items.count(item) > 1})]
+    tally.note("manual page, DIAGNOSTICS", problems)
+    refusals = [item for item in items if item.startswith("edit N: ")]
+    order = [known.get(("EditFault", variant)) for variant in declared["EditFault"]]
+    order = [item for item in order if item in refusals]
+    tally.note("manual page, order of the refusals", difference("items", order, refusals))
+
+
+# ---- the command line
+
+
+def options_of_help(text):
+    """Returns the options that a help text lists."""
+    return set(re.findall(r"(?<![\w-])(--?[A-Za-z][\w-]*)", text))
+
+
+def commands_of_help(text):
+    """Returns the commands that a help text lists."""
+    match = re.search(r"^Commands:\n((?: +.*\n)+)", text, re.M)
+    return set(re.findall(r"^  (\w+)", match[1], re.M)) if match else set()
+
+
+def helps(program):
+    """Returns the help text of the program, and those of its commands, by name."""
+    whole = run(program, ("--help",)).stdout.decode()
+    names = commands_of_help(whole) - {"help"}
+    return whole, {name: run(program, (name, "--help")).stdout.decode() for name in sorted(names)}
+
+
+def run_synopsis(program, tally):
+    """SYNOPSIS has the commands and options of the help texts."""
+    whole, each = helps(program)
+    lines = section("SYNOPSIS")
+    options = {"-" + name for name in re.findall(r"\bFl (-?\w+)", "\n".join(lines))}
+    tally.note("manual page, options", difference("options", options_of_help("".join([whole, *each.values()])), options))
+    commands = set(re.findall(r"\bCm (\w+)", "\n".join(lines)))
+    tally.note("manual page, commands", difference("commands", commands_of_help(whole), commands))
+
+
+def run_all(program, tally):
+    """Runs the tests of the page."""
+    run_lint(tally)
+    run_examples(program, tally)
+    run_errors(tally)
+    run_synopsis(program, tally)
