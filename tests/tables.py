@@ -195,7 +195,11 @@ def compare(program, cases, tally):
         if i >= len(lines):
             tally.note(case.name, ["no answer"])
             continue
-        tally.note(case.name, difference("answer", case.wanted, case.drawn(lines[i])))
+        try:
+            came = case.drawn(lines[i])
+        except (ArithmeticError, AttributeError, LookupError, TypeError, ValueError):
+            came = lines[i]  # no such answer can be drawn
+        tally.note(case.name, difference("answer", case.wanted, came))
 
 
 def run_table(path, programs, cases_of, tally):
