@@ -16,6 +16,9 @@ from tables import drawn_text
 KINDS = {"User": "user", "Runas": "runas", "Host": "host", "Cmnd": "cmnd"}
 DIGESTS = {"Sha224": "sha224:", "Sha256": "sha256:", "Sha384": "sha384:", "Sha512": "sha512:"}
 OPERATORS = {"Set": "=", "Add": "+=", "Remove": "-="}
+SIGN = {True: "!", False: ""}
+NO = {True: "", False: "NO"}
+INCLUDE = {True: "includedir ", False: "include "}
 OPTIONS = {
     "Role": "ROLE=",
     "Type": "TYPE=",
@@ -54,13 +57,23 @@ def drawn_syntax(line):
     if not line.startswith("Err("):
         return None
     _, fault = said.read(line)
-    if isinstance(fault, dict):
+    if isinstance(fault, dict) and fault[""] == "Syntax":
         return " " * fault["at"] + "^ " + fault["why"]
-    return fault
+    return line
+
+
+def held_in(form, value):
+    """What a variant with this name and one part holds."""
+    word, held = value
+    if word != form:
+        raise ValueError(word)
+    return held
 
 
 def items(listed):
     """The items of a list."""
+    if listed[""] != "Items":
+        raise ValueError(listed[""])
     return listed["items"]
 
 
@@ -76,14 +89,15 @@ def address(held):
 
 def mask(held):
     """A mask, as it was written."""
-    form, value = held
-    return f"/{value}" if form == "Bits" else "/" + address(value)
+    if held[0] == "Bits":
+        return f"/{held[1]}"
+    return "/" + address(held_in("Dotted", held))
 
 
 def args(held):
     """What is said of a command's arguments."""
     if isinstance(held, list):
-        return " args " + text(held[1])
+        return " args " + text(held_in("Pattern", held))
     return {"Any": "", "Nothing": " none"}[held]
 
 
@@ -114,7 +128,7 @@ class Drawing:
 
     def member(self, held):
         digests = "".join(DIGESTS[it["kind"]] + text(it["text"]) + " " for it in items(held["digests"]))
-        return self.place(held) + digests + ("!" if held["negated"] else "") + self.atom(held["atom"])
+        return self.place(held) + digests + SIGN[held["negated"]] + self.atom(held["atom"])
 
     def members(self, listed):
         return "[" + ", ".join(self.member(held) for held in items(listed)) + "]"
@@ -126,9 +140,9 @@ class Drawing:
         return f"({users}{groups}) "
 
     def command(self, held):
-        runas = "" if held["runas"] == "None" else self.runas(held["runas"][1])
+        runas = "" if held["runas"] == "None" else self.runas(held_in("Some", held["runas"]))
         options = "".join(OPTIONS[name] + text(value) + " " for name, value in items(held["options"]))
-        tags = "".join(("" if on else "NO") + TAGS[tag] for tag, on in items(held["tags"]))
+        tags = "".join(NO[on] + TAGS[tag] for tag, on in items(held["tags"]))
         return runas + options + tags + self.member(held["member"])
 
     def group(self, held):
@@ -138,16 +152,17 @@ class Drawing:
         return self.place(held) + text(held["name"]) + " " + self.members(held["members"])
 
     def param(self, held):
-        drawn = ("!" if held["negated"] else "") + text(held["name"])
+        drawn = SIGN[held["negated"]] + text(held["name"])
         if held["setting"] == "None":
             return drawn
-        setting = held["setting"][1]
+        setting = held_in("Some", held["setting"])
         return drawn + OPERATORS[setting["operator"]] + text(setting["value"])
 
     def scope(self, held):
         if held == "None":
             return ""
-        return f" for {KINDS[held[1]['kind']]} {self.members(held[1]['members'])}"
+        scope = held_in("Some", held)
+        return f" for {KINDS[scope['kind']]} {self.members(scope['members'])}"
 
     def node(self, held):
         """What a line says."""
@@ -155,7 +170,7 @@ class Drawing:
             return {"Blank": "blank", "Comment": "comment"}[held]
         form = held[""]
         if form == "Include":
-            return ("includedir " if held["dir"] else "include ") + text(held["path"])
+            return INCLUDE[held["dir"]] + text(held["path"])
         if form == "Defaults":
             return "defaults" + self.scope(held["scope"]) + ": " + ", ".join(map(self.param, items(held["params"])))
         if form == "Alias":
@@ -171,13 +186,14 @@ def drawn_node(held, places):
 
 def drawn_outline(line):
     """The outline of a line. Of a definition: its kind, its name, where it begins and how many members it has; then, as of a
-    specification, each alias that it mentions: the kind of its list, its name and where it ends. `whole` is any other line."""
+    specification, each alias that it mentions: the kind of its list, its name and where it ends. Of any other line: all that it
+    says, after `whole`."""
     syntax = drawn_syntax(line)
     if syntax is not None:
         return syntax
-    _, held = said.read(line)
+    held = held_in("Ok", said.read(line))
     if isinstance(held, list):
-        return {"Whole": "whole"}[held[0]]
+        return "whole: " + drawn_node(held_in("Whole", held), places=False)
     words = [{"Spec": "spec", "Alias": held.get("kind")}[held[""]]]
     if held[""] == "Alias":
         words += [drawn_text(held["name"]), str(held["start"]), str(held["members"])]

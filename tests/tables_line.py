@@ -26,9 +26,10 @@ Below the first byte of a token stands its kind: `:` Punct, `I` Id, `W` Word, `Q
 """
 
 import re
+from functools import partial
 
 import said
-from nodes import drawn_node, drawn_outline, drawn_syntax
+from nodes import drawn_node, drawn_outline, drawn_syntax, held_in
 from tables import Case, NoRow, frame_of_text, run_tables, text_of, unrolled
 
 TOKEN = re.compile(r"Token \{ kind: (\w+), start: (\d+), stop: (\d+) \}")
@@ -71,13 +72,14 @@ def drawn_lines(line):
     (count, empty), *lines, past = read
     if count != len(lines) or empty != (count == 0) or past != ["None", "None"]:
         return line
-    return b"|".join(bytes(text) for _, text in lines)
+    return b"|".join(bytes(held_in("Some", text)) for text in lines)
 
 
-def drawn_fault(line):
-    """The error of a text, or `none`."""
+def drawn_fault(line, text):
+    """The error of a text, or `none` if its lines are the whole text."""
     if line.startswith("("):
-        return "none"
+        lines = drawn_lines(line)
+        return "none" if isinstance(lines, bytes) and lines.replace(b"|", b"") == text else line
     read = said.read(line)
     if isinstance(read, dict) and read[""] == "Nul":
         return " " * read["at"] + "^ Nul"
@@ -119,12 +121,12 @@ def drawn_limits(line):
 
 def drawn_line(line):
     """What a line says, or its error."""
-    return drawn_syntax(line) or drawn_node(said.read(line)[1], places=False)
+    return drawn_syntax(line) or drawn_node(held_in("Ok", said.read(line)), places=False)
 
 
 def drawn_places(line):
     """What a line says, with places, or its error."""
-    return drawn_syntax(line) or drawn_node(said.read(line)[1], places=True)
+    return drawn_syntax(line) or drawn_node(held_in("Ok", said.read(line)), places=True)
 
 
 # What may be asked: the byte of it, how an answer is drawn, and what a row says of it.
@@ -154,6 +156,8 @@ def case_of(name, ask, row, answer):
     text, wanted = text_of(row), wanted_of(answer)
     if wanted == "⟨⟩":
         wanted = ""
+    if drawn is drawn_fault:
+        drawn = partial(drawn_fault, text=text)
     if drawn is drawn_tokens and wanted.endswith(".."):
         head = wanted[:-2]
 
