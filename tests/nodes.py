@@ -4,10 +4,10 @@
     alias KIND: NAME [MEMBERS] : NAME [MEMBERS]
     spec [USERS] [HOSTS] = COMMANDS : [HOSTS] = COMMANDS
 
-A member is its digests, `!` if it is negated, a word for its form and what is in it. A command has `none` after it if it
-takes no arguments, or `args` and their pattern. With places `START..STOP` comes before each member and definition. A byte
-that cannot be seen has its picture, and any other byte that is no sign of ASCII is `⟨ff⟩`. So a space comes only between
-two things.
+A member is its digests, `!` if it is negated, a word for its form and what is in it. A command has `none` after it
+if it takes no arguments, or `args` and their pattern. With places, `START..STOP` comes before each member and
+definition. A byte that cannot be seen has its picture, and any other byte that is no sign of ASCII is `⟨ff⟩`. So a
+space comes only between two things.
 """
 
 import said
@@ -185,9 +185,11 @@ def drawn_node(held, places):
 
 
 def drawn_outline(line):
-    """The outline of a line. Of a definition: its kind, its name, where it begins and how many members it has; then, as of a
-    specification, each alias that it mentions: the kind of its list, its name and where it ends. Of any other line: all that it
-    says, after `whole`."""
+    """The outline of a line.
+
+    Of a definition: its kind, its name, where it begins and how many members it has. Then, as of a specification, each
+    alias that it mentions: the kind of its list, its name and where it ends. Of any other line: all that it says.
+    """
     syntax = drawn_syntax(line)
     if syntax is not None:
         return syntax

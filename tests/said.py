@@ -1,8 +1,8 @@
 """Reads values as `{:?}` writes them.
 
-Numbers and texts become Python's, `true` and `false` too, and a unit variant becomes its name. A struct becomes a
-dictionary of its fields, with its name under "". A variant with parts becomes a list, with its name first. A tuple and a
-list become a list.
+Numbers, texts, `true` and `false` become Python's, and a unit variant becomes its name. A struct becomes a dictionary
+of its fields, with its name under "". A variant with parts becomes a list, with its name first. A tuple and a list
+become a list.
 """
 
 import json

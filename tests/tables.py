@@ -1,7 +1,8 @@
 """Reads tables of cases, asks a program the cases, and compares its answers with those of the tables.
 
-A table is a file `tables/FOLDER/NAME.table`. The text before its first group says what it shows. A row `== WORDS: TITLE`
-begins a group: its words say what is asked of each case, and its title what the cases show. Empty rows are passed over.
+A table is a file `tables/FOLDER/NAME.table`. The text before its first group says what it shows. A row
+`== WORDS: TITLE` begins a group: its words say what is asked of each case, and its title what the cases show. Empty
+rows are passed over.
 
 A row is no escaped text, because policies are full of backslashes and because marks must come below their bytes. A
 byte that cannot be seen has a picture: `␊` LF, `␍` CR, `␉` tab, `␀` NUL, `␠` a space. `⟨ff⟩` is a byte in hexadecimal
@@ -106,7 +107,7 @@ class Group:
 
 @dataclass(frozen=True)
 class Case:
-    """A case: its name, its frame, its wanted answer, and a function that draws a line of the program so."""
+    """A case: its name, its frame, its wanted answer, and a function that draws the program's line in the same form."""
 
     name: str
     frame: bytes
@@ -226,8 +227,10 @@ def check_folders(tally):
 
 
 def run_tables(crate, readers, tally):
-    """Asks the program of a crate the tables of its folders. `readers` has for each folder a function that makes cases of
-    the groups of a table."""
+    """Asks the program of a crate the tables of its folders.
+
+    `readers` has for each folder a function that makes cases of the groups of a table.
+    """
     built = programs_of(crate)
     if not os.access(built[0], os.X_OK):
         tally.note(crate, [f"no program: run `rt run < /dev/null` in crates/{crate}"])

@@ -18,11 +18,12 @@ The words of a group's head say what is asked of each of its cases:
     outline          the outline of a line
     frames NAME      no case: two rows are a line and its answer, both with a hole `~`
 
-Other rows come two by two, a case and its answer. In `parse in NAME` a case is a piece of a line: it is asked in each
-frame of that name, and so is its answer. An error there has its `^` below a byte of the piece.
+Other rows come two by two, a case and its answer. In `parse in NAME` a case is a piece of a line, and its answer is a
+piece of that of the line. Each frame of that name gets both in its holes. An error has its `^` below a byte of the
+piece.
 
-Below the first byte of a token stands its kind: `:` Punct, `I` Id, `W` Word, `Q` Quoted, `C` Comment, `P` Path, `A` Arg,
-`D` Digest, `N` Name, `V` Value, `B` Bad. Below each further byte of it stands `-`. Two dots leave open what comes next.
+Below the first byte of a token is its kind: `:` Punct, `I` Id, `W` Word, `Q` Quoted, `C` Comment, `P` Path, `A` Arg,
+`D` Digest, `N` Name, `V` Value, `B` Bad. Below each further byte of it is `-`. Two dots leave open what comes next.
 """
 
 import re

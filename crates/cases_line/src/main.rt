@@ -60,7 +60,7 @@ fn answer_of(alloc: Global, case: Case<'_>) -> Result<String, AllocError> {
     }
 }
 
-/// Returns how many lines there are, whether there is none, each line, and what stands at two places past the last.
+/// Returns how many lines there are, whether there is none, each line, and what is at two places after the last.
 fn lines_of(alloc: Global, lines: &Lines<'_>) -> Result<String, AllocError> {
     let mut said = format!(in alloc; "{:?}", (lines.len(), lines.is_empty()))?;
     for i in 0..lines.len() {
