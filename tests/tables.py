@@ -163,6 +163,8 @@ def groups_of(path):
         if row.startswith("== "):
             close()
             head, held = (number, row[3:]), []
+        elif row.startswith("=="):
+            raise NoRow(f"row {number}: a head is `== WORDS: TITLE`")
         elif row and head is not None:
             held.append((number, row))
     close()
@@ -179,12 +181,12 @@ def programs_of(crate):
 
 
 def asked(program, frames):
-    """The lines that a program answers to these frames."""
+    """The lines that a program answers to these frames, and the rest if its last line has no end."""
     done = subprocess.run(
         [program], input=b"".join(frames), stdout=subprocess.PIPE, env={}, timeout=SECONDS, check=True
     )
     *lines, rest = done.stdout.decode().split("\n")
-    return lines + [rest] if rest else lines
+    return lines + [rest + " without LF"] if rest else lines
 
 
 def compare(program, cases, tally):
@@ -220,10 +222,11 @@ def run_table(path, programs, cases_of, tally):
 
 def check_folders(tally):
     """Notes each file below `tables` that no part would read."""
-    for path in sorted(glob.glob(os.path.join(TABLES, "**"), recursive=True)):
-        folder, name = os.path.split(os.path.relpath(path, TABLES))
-        if os.path.isfile(path) and not (folder in PROGRAMS and name.endswith(".table")):
-            tally.note(os.path.relpath(path, TOP), ["no part reads this file"])
+    for path, _, names in os.walk(TABLES):
+        folder = os.path.relpath(path, TABLES)
+        for name in sorted(names):
+            if not (folder in PROGRAMS and re.fullmatch(r"[^.].*\.table", name)):
+                tally.note(os.path.relpath(os.path.join(path, name), TOP), ["no part reads this file"])
 
 
 def run_tables(crate, readers, tally):

@@ -24,6 +24,7 @@ piece.
 
 Below the first byte of a token is its kind: `:` Punct, `I` Id, `W` Word, `Q` Quoted, `C` Comment, `P` Path, `A` Arg,
 `D` Digest, `N` Name, `V` Value, `B` Bad. Below each further byte of it is `-`. Two dots leave open what comes next.
+Marks and a `^` count bytes: a sign that is not ASCII has several.
 """
 
 import re
@@ -213,6 +214,8 @@ def cases_of_group(group, frames):
             yield Case(name, frame_of_text(b"l", text_of(row.replace("|", ""))), text_of(row), drawn_lines)
         return
     if len(group.words) == 3 and rest[0] == "in" and first in ASKS:
+        if rest[1] not in frames:
+            raise NoRow(f"{group.title}: no frames {rest[1]}")
         for number, piece, said_of_piece in group.pairs():
             for line, answer in frames[rest[1]]:
                 row, wanted = filled(line, answer, piece, said_of_piece)
@@ -233,6 +236,9 @@ def cases_of(groups):
     frames = {}
     for group in groups:
         yield from cases_of_group(group, frames)
+    unused = set(frames) - {group.words[2] for group in groups if len(group.words) == 3}
+    if unused:
+        raise NoRow(f"no group asks the frames {', '.join(sorted(unused))}")
 
 
 def run_all(_program, tally):
