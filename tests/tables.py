@@ -1,0 +1,236 @@
+"""Reads tables of cases, asks a program the cases, and compares its answers with those of the tables.
+
+A table is a file `tables/FOLDER/NAME.table`. The text before its first group says what it shows. A row `== WORDS: TITLE`
+begins a group: its words say what is asked of each case, and its title what the cases show. Empty rows are passed over.
+
+A row is no escaped text, because policies are full of backslashes and because marks must come below their bytes. A
+byte that cannot be seen has a picture: `␊` LF, `␍` CR, `␉` tab, `␀` NUL, `␠` a space. `⟨ff⟩` is a byte in hexadecimal
+digits, `⟨⟩` is no byte, and `⟨65535×#⟩` is a repeated text, in which others may be repeated too.
+
+A frame is a byte that says what is asked, the length of its body in eight bytes, and the body. The body holds a text,
+or parts: the length of each in eight bytes, and the part.
+"""
+
+import glob
+import os
+import re
+import struct
+import subprocess
+import unicodedata
+from dataclasses import dataclass
+
+from tally import difference
+
+TOP = os.path.dirname(os.path.dirname(os.path.abspath(__file__)))
+TABLES = os.path.join(TOP, "tests", "tables")
+SECONDS = 120
+
+# The folders of tables, and the crate of the program that each is asked of.
+PROGRAMS = {
+    "text": "cases_line",
+    "line": "cases_line",
+}
+
+PICTURES = {"␊": b"\n", "␍": b"\r", "␉": b"\t", "␀": b"\0", "␠": b" "}
+DRAWN = {bytes_[0]: picture for picture, bytes_ in PICTURES.items()}
+SIGN = re.compile(r"⟨(\d+)×|⟨((?:[0-9a-f]{2})*)⟩|(⟩)|([^⟨⟩])|(⟨)")
+
+
+class NoRow(Exception):
+    """A row that has no form that a row may have."""
+
+
+def unrolled(row):
+    """The row with its repeated texts written out."""
+    open_texts = [("", [])]
+    for count, digits, end, sign, stray in SIGN.findall(row):
+        if count:
+            open_texts.append((count, []))
+        elif sign:
+            open_texts[-1][1].append(sign)
+        elif end and len(open_texts) > 1:
+            count, text = open_texts.pop()
+            open_texts[-1][1].append("".join(text) * int(count))
+        elif end or stray:
+            raise NoRow(f"a stray {end or stray}")
+        else:
+            open_texts[-1][1].append(f"⟨{digits}⟩")
+    if len(open_texts) > 1:
+        raise NoRow("a repeated text without its end")
+    return "".join(open_texts[0][1])
+
+
+def text_of(row):
+    """The bytes that a row stands for."""
+    row = unrolled(row)
+    for picture, byte in PICTURES.items():
+        row = row.replace(picture, byte.decode())
+    pieces = re.split(r"⟨([0-9a-f]*)⟩", row)
+    return b"".join(bytes.fromhex(piece) if i % 2 else piece.encode() for i, piece in enumerate(pieces))
+
+
+def drawn_text(data, blank="␠"):
+    """Bytes as a row has them, with a picture for each byte that cannot be seen. A space becomes `blank`."""
+    drawn = []
+    for byte in data:
+        if byte == 32:
+            drawn.append(blank)
+        elif 33 <= byte <= 126:
+            drawn.append(chr(byte))
+        else:
+            drawn.append(DRAWN.get(byte) or f"⟨{byte:02x}⟩")
+    return "".join(drawn)
+
+
+@dataclass(frozen=True)
+class Group:
+    """A group of a table: its place, the words of its head, its title, and its rows with their numbers."""
+
+    where: str
+    words: tuple
+    title: str
+    rows: tuple
+
+    def error(self, number, what):
+        """The error of one of its rows."""
+        return NoRow(f"row {number}: {what}")
+
+    def pairs(self):
+        """Its rows two by two, with the number of the first."""
+        for i in range(0, len(self.rows), 2):
+            number, row = self.rows[i]
+            if i + 1 == len(self.rows):
+                raise self.error(number, "a case without an answer")
+            yield number, row, self.rows[i + 1][1]
+
+
+@dataclass(frozen=True)
+class Case:
+    """A case: its name, its frame, its wanted answer, and a function that draws a line of the program so."""
+
+    name: str
+    frame: bytes
+    wanted: object
+    drawn: object
+
+
+def part(data):
+    """A part of a body."""
+    return struct.pack(">Q", len(data)) + data
+
+
+def frame(asked, *parts):
+    """A case or a call whose body holds parts. `asked` is one byte."""
+    return asked + part(b"".join(map(part, parts)))
+
+
+def frame_of_text(asked, text):
+    """A case whose body is a text."""
+    return asked + part(text)
+
+
+def check_row(row):
+    """Refuses a row that hides something: blanks at its end, or a sign that cannot be seen."""
+    if row != row.rstrip():
+        raise NoRow("blanks at its end: write ␠")
+    for sign in row:
+        if unicodedata.category(sign) in ("Cc", "Cf", "Zl", "Zp"):
+            raise NoRow(f"the sign {sign!r}: write a picture")
+
+
+def groups_of(path):
+    """The groups of a table."""
+    with open(path, encoding="utf-8", newline="\n") as table:
+        rows = table.read().split("\n")
+    groups, head, held = [], None, []
+
+    def close():
+        if head is None:
+            return
+        if not held:
+            raise NoRow(f"row {head[0]}: a group without a case")
+        words, colon, title = head[1].partition(": ")
+        if not colon or not words.split() or not title.strip():
+            raise NoRow(f"row {head[0]}: a head is `== WORDS: TITLE`")
+        groups.append(Group(os.path.relpath(path, TOP), tuple(words.split()), title, tuple(held)))
+
+    for number, row in enumerate(rows, 1):
+        try:
+            check_row(row)
+        except NoRow as error:
+            raise NoRow(f"row {number}: {error}") from None
+        if row.startswith("== "):
+            close()
+            head, held = (number, row[3:]), []
+        elif row and head is not None:
+            held.append((number, row))
+    close()
+    if not groups:
+        raise NoRow("a table without a group")
+    return groups
+
+
+def programs_of(crate):
+    """The builds of a crate's program: that of `rt run`, and that of Rattle's own compiler if it was made."""
+    built = os.path.join(TOP, "crates", crate, "out", crate)
+    other = built + ".by-rattle"
+    return [built, other] if os.path.exists(other) else [built]
+
+
+def asked(program, frames):
+    """The lines that a program answers to these frames."""
+    done = subprocess.run(
+        [program], input=b"".join(frames), stdout=subprocess.PIPE, env={}, timeout=SECONDS, check=True
+    )
+    *lines, rest = done.stdout.decode().split("\n")
+    return lines + [rest] if rest else lines
+
+
+def compare(program, cases, tally):
+    """Asks a program all the cases of a table, and notes each."""
+    lines = asked(program, [case.frame for case in cases])
+    if len(lines) > len(cases):
+        tally.note(f"{cases[0].name}: answers", [f"{len(lines) - len(cases)} too many"])
+    for i, case in enumerate(cases):
+        if i >= len(lines):
+            tally.note(case.name, ["no answer"])
+            continue
+        tally.note(case.name, difference("answer", case.wanted, case.drawn(lines[i])))
+
+
+def run_table(path, programs, cases_of, tally):
+    """Asks each program the cases of one table."""
+    where = os.path.relpath(path, TOP)
+    try:
+        cases = list(cases_of(groups_of(path)))
+        if not cases:
+            raise NoRow("a table without a case")
+        for program in programs:
+            compare(program, cases, tally)
+    except NoRow as error:
+        tally.note(where, [str(error)])
+    except (OSError, subprocess.SubprocessError, UnicodeError) as error:
+        tally.note(where, [f"{type(error).__name__}: {error}"])
+
+
+def check_folders(tally):
+    """Notes each file below `tables` that no part would read."""
+    for path in sorted(glob.glob(os.path.join(TABLES, "**"), recursive=True)):
+        folder, name = os.path.split(os.path.relpath(path, TABLES))
+        if os.path.isfile(path) and not (folder in PROGRAMS and name.endswith(".table")):
+            tally.note(os.path.relpath(path, TOP), ["no part reads this file"])
+
+
+def run_tables(crate, readers, tally):
+    """Asks the program of a crate the tables of its folders. `readers` has for each folder a function that makes cases of
+    the groups of a table."""
+    check_folders(tally)
+    wanted = {folder for folder, program in PROGRAMS.items() if program == crate}
+    if wanted != set(readers):
+        tally.note(crate, [f"the folders {sorted(wanted)} are read by {sorted(readers)}"])
+    for folder in sorted(readers):
+        paths = sorted(glob.glob(os.path.join(TABLES, folder, "*.table")))
+        if not paths:
+            tally.note(os.path.join("tests", "tables", folder), ["no table"])
+        for path in paths:
+            run_table(path, programs_of(crate), readers[folder], tally)
