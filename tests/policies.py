@@ -99,7 +99,12 @@ def some(line):
     if line.startswith("Some([") and line[6:7].isdigit():
         return json.loads(line[5:-1])  # bytes, of which there may be many
     value = said.read(line)
-    return None if value == "None" else value[1]
+    if value == "None":
+        return None
+    word, held = value
+    if word != "Some":
+        raise ValueError(line)
+    return held
 
 
 class Line:
@@ -194,23 +199,29 @@ def drawn_refusal(fault):
     return fault if isinstance(fault, str) else f"{fault[0]}, {drawn_fault(fault[1])}"
 
 
-def drawn_outcome(line):
-    """What comes of a call: `ok`, why it is refused, with the number of the edit if there are several, or `not allowed`."""
+def drawn_change(line):
+    """What comes of a changed line: `ok`, why it is refused, or `not allowed`."""
     if is_fault(line):
         return drawn_line_fault(line)
-    value = said.read(line)
-    if value == "None":
+    outcome = some(line)
+    if outcome is None:
         return "not allowed"
-    if value[0] == "Some":
-        value = value[1]
-        return "ok" if value == ["Ok", []] else drawn_fault(value[1])
-    if value == ["Ok", []]:
-        return "ok"
-    if isinstance(value[1], bool):
-        return "yes" if value[1] else "no"
-    if isinstance(value[1], list) and isinstance(value[1][0], int):
-        return f"{value[1][0] + 1}: {drawn_refusal(value[1][1])}"
-    return drawn_refusal(value[1])
+    word, held = outcome
+    return {"Ok": lambda: "ok", "Err": lambda: drawn_fault(held)}[word]()
+
+
+def drawn_outcome(line):
+    """What comes of edits: `ok`, `yes` or `no`, or why one is refused, with its number if there may be several."""
+    if is_fault(line):
+        return drawn_line_fault(line)
+    word, held = said.read(line)
+    if word == "Ok":
+        return {"[]": "ok", "True": "yes", "False": "no"}[str(held)]
+    if word != "Err":
+        raise ValueError(line)
+    if isinstance(held, list) and isinstance(held[0], int):
+        return f"{held[0] + 1}: {drawn_refusal(held[1])}"
+    return drawn_refusal(held)
 
 
 def drawn_bytes(line):

@@ -34,6 +34,7 @@ In answers, edits and physical lines count from 1, and the library's lines, plac
 
 import glob
 import os
+import re
 import resource
 
 import said
@@ -42,6 +43,7 @@ from policies import (
     Line,
     bytes_of,
     drawn_bytes,
+    drawn_change,
     drawn_definition,
     drawn_line_fault,
     drawn_notes,
@@ -127,9 +129,9 @@ POLICY_CALLS = {
     "says": (b"l", "number", lambda line: Line.drawn(line).drawn_node()),
     "definition": (b"d", "name", drawn_definition),
     "mentions": (b"m", "name", drawn_spans),
-    "insert": (b"w", "number and line", drawn_outcome),
-    "remove": (b"o", "number", drawn_outcome),
-    "replace": (b"i", "number and line", drawn_outcome),
+    "insert": (b"w", "number and line", drawn_change),
+    "remove": (b"o", "number", drawn_change),
+    "replace": (b"i", "number and line", drawn_change),
     "text-with": (b"W", "number and line", drawn_bytes),
     "text-without": (b"O", "number", drawn_bytes),
     "text-replaced": (b"I", "number and line", drawn_bytes),
@@ -219,16 +221,18 @@ def is_error(wanted):
 
 def drawn_outline(line):
     """The error of an outline, or that it is read."""
-    return drawn_line_fault(line) or "read"
+    return drawn_line_fault(line) or ("read" if re.fullmatch(r"(\d+ )*", line) else line)
 
 
 def says(name, _words, text, _row, answer):
     """What the lines of a policy say, or its error, which its outline has too. The policy gives its text back."""
     wanted = wanted_row(answer)
-    calls = [("says", call(b"a"), wanted, drawn_policy), ("text", call(b"t"), "kept", kept_or_fault(text))]
+    refused = is_error(wanted)
+    calls = [("says", call(b"a"), wanted, drawn_policy)]
+    calls.append(("text", call(b"t"), wanted if refused else text, drawn_bytes))
     yield from cases_of_calls(name, b"p", text, calls)
-    wanted = wanted if is_error(wanted) else "read"
-    yield from cases_of_calls(name, b"t", text, [("outline", call(b"o"), wanted, drawn_outline)])
+    calls = [("outline", call(b"o"), wanted if refused else "read", drawn_outline)]
+    yield from cases_of_calls(name, b"t", text, calls)
 
 
 def lines(name, _words, _text, row, answer):
@@ -254,7 +258,8 @@ def one_line(name, _words, text, _row, answer):
 def read(name, _words, text, _row, answer):
     """Whether a policy is read."""
     wanted = wanted_row(answer)
-    yield from cases_of_calls(name, b"p", text, [("read", call(b"r"), wanted, drawn_outline)])
+    calls = [("read", call(b"r"), wanted, lambda line: drawn_line_fault(line) or line)]
+    yield from cases_of_calls(name, b"p", text, calls)
     yield from cases_of_calls(name, b"t", text, [("outline", call(b"o"), wanted, drawn_outline)])
 
 
@@ -358,13 +363,13 @@ def cases_of_report(name, text, strict, file, report):
     is_fine = report[-1].endswith(VERDICTS[0])
 
     def fine(line):
-        """What the case wants, of the verdicts and the length."""
+        """The two verdicts, and the length of the text; those that the case does not say are as wanted."""
         loose_is_fine, strict_is_fine, size = said.read(line)
-        return (strict_is_fine,) if strict else (loose_is_fine, size if file == b"f" else len(wanted))
+        return loose_is_fine, strict_is_fine if strict else is_fine, len(wanted) if strict or file != b"f" else size
 
     calls = [
         ("report", call(b"p", body), wanted, drawn_bytes),
-        ("is fine", call(b"f"), (is_fine,) if strict else (is_fine, len(wanted)), fine),
+        ("is fine", call(b"f"), (True, is_fine, len(wanted)), fine),
     ]
     yield from cases_of_calls(name, b"p", text, calls)
     yield from cases_of_calls(name, b"t", text, [("in outline", call(b"k", body), wanted, drawn_bytes)])
