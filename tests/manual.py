@@ -244,7 +244,8 @@ def run_synopsis(program, tally):
     whole, each = helps(program)
     lines = section("SYNOPSIS")
     options = {"-" + name for name in re.findall(r"\bFl (-?\w+)", "\n".join(lines))}
-    tally.note("manual page, options", difference("options", options_of_help("".join([whole, *each.values()])), options))
+    wanted = options_of_help("".join([whole, *each.values()]))
+    tally.note("manual page, options", difference("options", wanted, options))
     commands = set(re.findall(r"\bCm (\w+)", "\n".join(lines)))
     tally.note("manual page, commands", difference("commands", commands_of_help(whole), commands))
 

@@ -11,15 +11,28 @@ import re
 TEXT = re.compile(r'("(?:[^"\\]|\\.)*")')
 ESCAPE = re.compile(r"\\(?:u\{([0-9a-f]+)\}|(.))", re.S)
 ESCAPED = {"n": "\n", "r": "\r", "t": "\t", "0": "\0"}
-# Each is replaced in turn, and what is left is JSON.
-FORMS = (
-    (re.compile(r"\b([A-Za-z_]\w*) \{"), r'{"": "\1", '),
-    (re.compile(r"\b([a-z_]\w*): "), r'"\1": '),
-    (re.compile(r"\b([A-Za-z_]\w*)\("), r'["\1", '),
-    (re.compile(r"\("), "["),
-    (re.compile(r"\)"), "]"),
-    (re.compile(r'(?<!")\b([A-Z]\w*)\b(?!")'), r'"\1"'),
-)
+WORD = re.compile(r"[A-Za-z_]\w*(?: \{|: |\()?|[()]")
+
+
+class Forms(dict):
+    """What a word becomes in JSON, with the sign after it."""
+
+    def __missing__(self, word):
+        if word.endswith(" {"):
+            form = f'{{"": "{word[:-2]}", '
+        elif word.endswith(": "):
+            form = f'"{word[:-2]}": '
+        elif word in ("(", ")"):
+            form = "[" if word == "(" else "]"
+        elif word.endswith("("):
+            form = f'["{word[:-1]}", '
+        else:
+            form = word if word in ("true", "false") else f'"{word}"'
+        self[word] = form
+        return form
+
+
+FORMS = Forms()
 
 
 def text_as_json(text):
@@ -38,9 +51,7 @@ def read(said):
         if i % 2 == 1:
             pieces[i] = text_as_json(piece)
             continue
-        for form, replacement in FORMS:
-            piece = form.sub(replacement, piece)
-        pieces[i] = piece
+        pieces[i] = WORD.sub(lambda found: FORMS[found[0]], piece)
     try:
         return json.loads("".join(pieces))
     except ValueError:
