@@ -16,7 +16,7 @@ The words of a group's head say what its rows are. Two rows, a case and its answ
 Rows of another form:
 
     report, strict      the policy, and as many rows as its report has, on the file `f` or, by `report as FILE`, another
-    time                a piece, and what follows: a policy of 4096 pieces takes not many times as long to check as 16 of 256
+    time                a piece, and what follows: a policy of 4096 pieces takes about as long to check as 16 of 256
     undefined           a policy, and then names, which it defines in no kind
     unmentioned         the same, with names that it mentions in no kind
     fronts              policies: each text that one begins with is kept byte for byte, or has an error
@@ -27,7 +27,7 @@ Rows of another form:
     refused             a policy, and then scripts, each with the number of the edit that is refused, and why
     policy, editor,
     text                a policy or a text, and then calls, each with its answer; CALLS has them
-    run COUNT           a policy, and then edits. Edits are drawn, and made or undone, until so many are made; then all are undone
+    run COUNT           a policy, and then edits, which are drawn until so many are made; on the way and last they are undone
 
 In answers, edits and physical lines count from 1, and the library's lines, places and bytes from 0.
 """
@@ -36,6 +36,7 @@ import glob
 import os
 import re
 import resource
+import subprocess
 
 import said
 from policies import (
@@ -72,6 +73,8 @@ def call(byte, body=b""):
 
 def number(word):
     """A number, as the program reads it."""
+    if not word.isdigit():
+        raise NoRow(f"{word}: no number")
     return int(word).to_bytes(8, "big")
 
 
@@ -88,7 +91,7 @@ def frame_of(sort, text, calls):
 
 
 def cases_of_calls(name, sort, text, calls):
-    """The cases of calls on one text: what each is called, its frame, its wanted answer, and how its answer is drawn."""
+    """The cases of calls on one text. A call is its name, its frame, its wanted answer, and how its answer is drawn."""
     frame = frame_of(sort, text, [one for _, one, _, _ in calls])
     for what, _, wanted, drawn in calls:
         yield Case(f"{name}: {what}", frame, wanted, drawn)
@@ -118,8 +121,8 @@ def kept_or_fault(text):
     return lambda line: "kept" if is_fault(line) and drawn_line_fault(line) or bytes_of(line) == text else line
 
 
-# Calls of a policy or an editor: the words before a number, a name or bytes; the call; and how its answer is drawn. `same` is
-# the text of the case, for an answer `as given`.
+# The calls of a policy, an editor and a text: the byte of each, what follows its name, and how its answer is drawn.
+# The answer `as given` is the first text of the group.
 POLICY_CALLS = {
     "read": (b"r", "", str),
     "len": (b"n", "", str),
@@ -159,7 +162,7 @@ CALLS = {
 
 
 def body_of(form, rest):
-    """The body of a call, of the words behind its name."""
+    """The body of a call, of the words after its name."""
     if form == "":
         if rest:
             raise NoRow(f"too many words: {rest}")
@@ -189,6 +192,18 @@ def call_of(row, answer, known, given):
     else:
         wanted = wanted_row(answer)
     return row, call(byte, body_of(form, rest)), wanted, drawn
+
+
+def calls_of(group, known):
+    """The text of a group, and the calls of its other rows."""
+    text, rest = first_and_rest(group)
+    calls = []
+    for at, row, answer in by_size(group, rest, 2):
+        try:
+            calls.append(call_of(row, answer, known, text))
+        except NoRow as error:
+            raise NoRow(f"row {at}: {error}") from None
+    return rest[0][0], text, calls
 
 
 def first_and_rest(group):
@@ -241,13 +256,18 @@ def lines(name, _words, _text, row, answer):
     if last != "none":
         raise NoRow(f"no `none` after the last kind: {answer}")
     text = text_of(row.replace("|", ""))
+    starts, at = [], 1
+    for line in text_of(row).split(b"|"):
+        starts.append(str(at))
+        at += line.count(b"\n")
     calls = [
         ("lines", call(b"a"), (text_of(row), " ".join(kinds)), drawn_marked),
-        ("after the last", call(b"l", number(len(kinds))), "none", POLICY_CALLS["kind"][2]),
+        ("after the last", call(b"l", number(str(len(kinds)))), "none", POLICY_CALLS["kind"][2]),
         ("text", call(b"t"), text, drawn_bytes),
         ("len", call(b"n"), str(len(kinds)), str),
     ]
     yield from cases_of_calls(name, b"p", text, calls)
+    yield from rows(name, (), text, row, " ".join(starts))
 
 
 def one_line(name, _words, text, _row, answer):
@@ -353,7 +373,10 @@ def cases_of_pairs(group):
     if len(words) != count:
         raise NoRow(f"{' '.join(group.words)}: {count} words after {word}")
     for at, row, answer in group.pairs():
-        yield from cases_of_pair(name_of(group, at, row), words, text_of(row), row, answer)
+        try:
+            yield from cases_of_pair(name_of(group, at, row), words, text_of(row), row, answer)
+        except NoRow as error:
+            raise NoRow(f"row {at}: {error}") from None
 
 
 def cases_of_report(name, text, strict, file, report):
@@ -425,6 +448,8 @@ def cases_of_fronts(group):
 
 def cases_in_frames(group, frames):
     """The cases of words that fill the holes of frames."""
+    if group.words[2] not in frames:
+        raise NoRow(f"{group.words[2]}: no frames of this name come before")
     for at, row in group.rows:
         for word in row.split():
             for line, answer in frames[group.words[2]]:
@@ -489,9 +514,8 @@ def cases_of_group(group, frames):
         yield from cases_of_pairs(group)
     elif word in CALLS and not words:
         sort, known = CALLS[word]
-        text, rest = first_and_rest(group)
-        calls = [call_of(row, answer, known, text) for _, row, answer in by_size(group, rest, 2)]
-        yield from cases_of_calls(name_of(group, rest[0][0], "calls"), sort, text, calls)
+        at, text, calls = calls_of(group, known)
+        yield from cases_of_calls(name_of(group, at, "calls"), sort, text, calls)
     elif word in ("report", "strict") and {word, *words[:1]} <= {"report", "strict", "as"}:
         yield from cases_of_reports(group)
     elif set(group.words) <= {"undefined", "unmentioned"}:
@@ -521,7 +545,7 @@ def cases_of(groups):
 
 def is_run_alone(group):
     """Whether a group is no list of cases: its times are measured, or its edits are drawn."""
-    return group.words == ("time",) or group.words[0] == "run" and len(group.words) == 2
+    return group.words == ("time",) or group.words[0] == "run" and group.words[-1].isdigit() and len(group.words) == 2
 
 
 def seconds_of(program, frame):
@@ -534,8 +558,8 @@ def seconds_of(program, frame):
 
 def run_times(program, group, tally):
     """Notes the pieces of which very many take many times as long to check as few."""
-    for at, row, behind in group.pairs():
-        whole, smaller = (text_of(f"⟨{count}×{row}⟩{behind}") for count in (4096, 4096 // PARTS))
+    for at, row, after in group.pairs():
+        whole, smaller = (text_of(f"⟨{count}×{row}⟩{after}") for count in (4096, 4096 // PARTS))
         often = 1
         while True:
             of_parts = seconds_of(program, frame_of(b"p", smaller, [call(b"f")] * PARTS * often))
@@ -587,7 +611,7 @@ class Run:
         size = 1 + len(self.asks) + len(self.queries)
         text, before, texts, made = self.policy, [], [], []
         for i, script in enumerate(turns):
-            outcome, found, steps, *told = answers[size * i : size * (i + 1)]
+            outcome, found, steps, *queried = answers[size * i : size * (i + 1)]
             outcome, found = drawn_outcome(outcome), bytes_of(found)
             what = f"turn {i + 1}, {script or 'undo'}"
             if script is None:
@@ -601,7 +625,7 @@ class Run:
             else:
                 self.check(f"{what}: the text of a refused edit", text, found)
             self.check(f"{what}: steps", str(len(before)), steps)
-            texts.append((what, text, told))
+            texts.append((what, text, queried))
         return texts, before, made
 
     def compare_anew(self, texts):
@@ -609,8 +633,8 @@ class Run:
         frames = [frame_of(b"p", text, self.queries) for _, text, _ in texts]
         lines = asked(self.program, frames)
         self.check("answers of texts", len(frames) * len(self.queries), len(lines))
-        for i, (what, _, told) in enumerate(texts):
-            self.check(f"{what}: read anew", lines[len(self.queries) * i : len(self.queries) * (i + 1)], told)
+        for i, (what, _, queried) in enumerate(texts):
+            self.check(f"{what}: read anew", lines[len(self.queries) * i : len(self.queries) * (i + 1)], queried)
 
     def go(self, count):
         """Edits are made until there are so many; then the inverse leads back, and each is undone."""
@@ -664,7 +688,7 @@ def run_alone(tally):
                 for program in programs_of("cases_edit") if groups else []:
                     for group in groups:
                         (run_times if group.words == ("time",) else run_edits)(program, group, tally)
-            except (NoRow, OSError) as error:
+            except (NoRow, OSError, subprocess.SubprocessError) as error:
                 tally.note(os.path.relpath(path, TOP), [f"{type(error).__name__}: {error}"])
 
 

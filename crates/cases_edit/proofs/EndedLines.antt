@@ -33,19 +33,19 @@ pub alone : (lines : List Line) (line : List ℕ) → length lines ≡ 0 → has
 alone [] line none = refl
 alone (k ∷ ks) line none = absurd (omega (arith, none))
 
--- a line put behind the last, which ends in LF
-pub behind : (lines : List Line) (n : ℕ) (line last : List ℕ) → has_unended_inside (texts lines) ≡ false → length lines ≡ suc n
+-- a line put after the last, which ends in LF
+pub after_last : (lines : List Line) (n : ℕ) (line last : List ℕ) → has_unended_inside (texts lines) ≡ false → length lines ≡ suc n
     → option_map (λ (l : Line). l.text) (slice_get lines n) ≡ Some last → ends_in_lf last ≡ true
     → has_unended_inside (insert (texts lines) (suc n) line) ≡ false
-behind [] n line last ended many is lf = absurd (omega (arith, many))
-behind (k ∷ []) zero line last ended many is lf =
+after_last [] n line last ended many is lf = absurd (omega (arith, many))
+after_last (k ∷ []) zero line last ended many is lf =
     let ends : ends_in_lf k.text ≡ true = ap (λ (o : Option (List ℕ)). ends_in_lf (unwrap_or o [])) is ∙ lf in
     rw ends refl
-behind (k ∷ []) (suc n) line last ended many is lf = absurd (omega (arith, many))
-behind (k ∷ j ∷ js) zero line last ended many is lf = absurd (omega (arith, many))
-behind (k ∷ j ∷ js) (suc n) line last ended many is lf =
+after_last (k ∷ []) (suc n) line last ended many is lf = absurd (omega (arith, many))
+after_last (k ∷ j ∷ js) zero line last ended many is lf = absurd (omega (arith, many))
+after_last (k ∷ j ∷ js) (suc n) line last ended many is lf =
     front k.text j.text (texts js) (insert (texts (j ∷ js)) (suc n) line) ended
-    (behind (j ∷ js) n line last (tail k.text (texts (j ∷ js)) ended) (omega (arith, many)) is lf)
+    (after_last (j ∷ js) n line last (tail k.text (texts (j ∷ js)) ended) (omega (arith, many)) is lf)
 
 -- a line taken out
 pub without : (lines : List Line) (at : ℕ) → has_unended_inside (texts lines) ≡ false → has_unended_inside (remove (texts lines) at) ≡ false

@@ -11,7 +11,7 @@ pub fn with_line(policy: &mut Policy, at: usize, line: &[u8]) -> Option<Result<(
     if at < policy.len() {
         put_before(policy, at, line)
     } else if at > 0 {
-        put_behind(policy, at, line)
+        put_last(policy, at, line)
     } else {
         put_first(policy, line)
     }
@@ -38,9 +38,9 @@ fn put_before(policy: &mut Policy, at: usize, line: &[u8]) -> Option<Result<(), 
     }
 }
 
-/// Puts a line behind the last, which ends in LF.
-#[tactic(auto, using(crate::proofs::EndedLines::behind))]
-fn put_behind(policy: &mut Policy, at: usize, line: &[u8]) -> Option<Result<(), ReadFault>> {
+/// Puts a line after the last one, which ends in LF.
+#[tactic(auto, using(crate::proofs::EndedLines::after_last))]
+fn put_last(policy: &mut Policy, at: usize, line: &[u8]) -> Option<Result<(), ReadFault>> {
     whole_line_is();
     are_ended(policy);
     let count = policy.len();
@@ -65,7 +65,7 @@ fn put_first(policy: &mut Policy, line: &[u8]) -> Option<Result<(), ReadFault>> 
     }
 }
 
-/// Puts a line in the place of another. `None` if it is no line that ends in LF, or there is none at the place.
+/// Replaces a line. `None` if it is no line that ends in LF, or there is none at the place.
 #[tactic(auto, using(crate::proofs::EndedLines::in_place))]
 pub fn line_replaced(policy: &mut Policy, at: usize, line: &[u8]) -> Option<Result<(), ReadFault>> {
     whole_line_is();

@@ -1,6 +1,6 @@
 //! Calls of an editor.
 
-use crate::policies::told;
+use crate::policies::query;
 use crate::texts::script_of;
 use case_frames::next_case;
 use std::alloc::{AllocError, Global};
@@ -57,7 +57,7 @@ fn called(
         b'-' => format!(in alloc; "{:?}", editor.undo()),
         b's' => format!(in alloc; "{}", editor.steps()),
         b'<' => script_of(alloc, editor.inverse()?.as_slice()),
-        _ => told(alloc, editor.policy(), asked, parts),
+        _ => query(alloc, editor.policy(), asked, parts),
     }
 }
 

@@ -1,7 +1,7 @@
 //! Answers cases of policies, checks and editors.
 //!
-//! The body of a case is a text and calls. Each call is answered by one line, as `{:?}` writes it. What can be asked, and of
-//! which parts, is said at the `match` of each sort of case.
+//! The body of a case is a text and calls. The answer to each call is one line, as `{:?}` writes it. The `match` of each sort
+//! of case has what can be asked.
 #![tactic(auto)]
 
 mod changes;

@@ -51,22 +51,27 @@ fn called(
         b'w' => format!(in alloc; "{:?}", with_line(policy, at, line)),
         b'o' => format!(in alloc; "{:?}", without_line(policy, at)),
         b'i' => format!(in alloc; "{:?}", line_replaced(policy, at, line)),
-        _ => told(alloc, policy, asked, parts),
+        _ => query(alloc, policy, asked, parts),
     }
 }
 
 /// The answer to a call that changes nothing.
-pub fn told(alloc: Global, policy: &Policy, asked: u8, parts: &[u8]) -> Result<String, AllocError> {
+pub fn query(
+    alloc: Global,
+    policy: &Policy,
+    asked: u8,
+    parts: &[u8],
+) -> Result<String, AllocError> {
     match asked {
         b'r' => String::from_str(alloc, "read"),
         b'n' => format!(in alloc; "{}", policy.len()),
         b't' => format!(in alloc; "{:?}", policy.text()?),
         // The number of a line.
-        b'l' => line_told(alloc, policy, number_in(parts).0),
+        b'l' => line_answer(alloc, policy, number_in(parts).0),
         // All lines.
-        b'a' => lines_told(alloc, policy),
+        b'a' => lines_answer(alloc, policy),
         // A kind of alias and a name.
-        b'd' => definition_told(alloc, policy, parts),
+        b'd' => definition_answer(alloc, policy, parts),
         b'm' => {
             let (kind, name) = named_in(parts);
             format!(in alloc; "{:?}", policy.mentions(kind, name)?)
@@ -74,13 +79,13 @@ pub fn told(alloc: Global, policy: &Policy, asked: u8, parts: &[u8]) -> Result<S
         b'k' => format!(in alloc; "{:?}", check(alloc, policy)?),
         b'u' => format!(in alloc; "{:?}", unused(alloc, policy)?),
         // The name of a file, and `s` for a strict report.
-        b'p' => reported(alloc, policy, parts),
-        b'f' => fine(alloc, policy),
+        b'p' => report_answer(alloc, policy, parts),
+        b'f' => fine_answer(alloc, policy),
         _ => changed_text(alloc, policy, asked, parts),
     }
 }
 
-fn line_told(alloc: Global, policy: &Policy, at: usize) -> Result<String, AllocError> {
+fn line_answer(alloc: Global, policy: &Policy, at: usize) -> Result<String, AllocError> {
     format!(in alloc;
         "{:?}\t{:?}\t{:?}",
         policy.line(at),
@@ -89,17 +94,17 @@ fn line_told(alloc: Global, policy: &Policy, at: usize) -> Result<String, AllocE
     )
 }
 
-fn lines_told(alloc: Global, policy: &Policy) -> Result<String, AllocError> {
+fn lines_answer(alloc: Global, policy: &Policy) -> Result<String, AllocError> {
     let mut said = String::new(alloc);
     for at in 0..policy.len() {
-        said.push_str(&line_told(alloc, policy, at)?)?;
+        said.push_str(&line_answer(alloc, policy, at)?)?;
         said.push('\t')?;
     }
     Ok(said)
 }
 
 /// Where a name is defined, its members, and the text of the line.
-fn definition_told(alloc: Global, policy: &Policy, parts: &[u8]) -> Result<String, AllocError> {
+fn definition_answer(alloc: Global, policy: &Policy, parts: &[u8]) -> Result<String, AllocError> {
     let (kind, name) = named_in(parts);
     let place = policy.definition(kind, name);
     let line = match place {
@@ -109,7 +114,7 @@ fn definition_told(alloc: Global, policy: &Policy, parts: &[u8]) -> Result<Strin
     format!(in alloc; "{place:?}\t{:?}\t{line:?}", policy.members(kind, name))
 }
 
-fn reported(alloc: Global, policy: &Policy, parts: &[u8]) -> Result<String, AllocError> {
+fn report_answer(alloc: Global, policy: &Policy, parts: &[u8]) -> Result<String, AllocError> {
     let (file, strict) = next_part(parts).unwrap_or((b"", b""));
     let report = check(alloc, policy)?;
     let text = report_text(alloc, &report, file, strict == b"s".as_slice())?;
@@ -117,7 +122,7 @@ fn reported(alloc: Global, policy: &Policy, parts: &[u8]) -> Result<String, Allo
 }
 
 /// Whether the report is fine, and is with strictness, and how long its text is.
-fn fine(alloc: Global, policy: &Policy) -> Result<String, AllocError> {
+fn fine_answer(alloc: Global, policy: &Policy) -> Result<String, AllocError> {
     let report = check(alloc, policy)?;
     let text = report_text(alloc, &report, b"f", false)?;
     format!(in alloc;
@@ -126,7 +131,7 @@ fn fine(alloc: Global, policy: &Policy) -> Result<String, AllocError> {
     )
 }
 
-/// The text with a line changed, or behind another text.
+/// The text with a line changed, or after another text.
 fn changed_text(
     alloc: Global,
     policy: &Policy,
