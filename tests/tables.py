@@ -6,7 +6,8 @@ rows are passed over.
 
 A row is no escaped text, because policies are full of backslashes and because marks must come below their bytes. A
 byte that cannot be seen has a picture: `␊` LF, `␍` CR, `␉` tab, `␀` NUL, `␠` a space. `⟨ff⟩` is a byte in hexadecimal
-digits, `⟨⟩` is no byte, and `⟨65535×#⟩` is a repeated text, in which others may be repeated too.
+digits, `⟨⟩` is no byte, and `⟨65535×#⟩` is a repeated text, in which others may be repeated too. In a repeated text `{n}`
+is the number of the time, from 1, and `{3n-2}` a number counted from it.
 
 A frame is a byte that says what is asked, the length of its body in eight bytes, and the body. The body holds a text,
 or parts: the length of each in eight bytes, and the part.
@@ -30,15 +31,29 @@ SECONDS = 120
 PROGRAMS = {
     "text": "cases_line",
     "line": "cases_line",
+    "tree": "cases_edit",
+    "check": "cases_edit",
+    "edit": "cases_edit",
 }
 
 PICTURES = {"␊": b"\n", "␍": b"\r", "␉": b"\t", "␀": b"\0", "␠": b" "}
 DRAWN = {bytes_[0]: picture for picture, bytes_ in PICTURES.items()}
+NUMBER = re.compile(r"\{(\d*)n([+-]\d+)?\}")
 SIGN = re.compile(r"⟨(\d+)×|⟨((?:[0-9a-f]{2})*)⟩|(⟩)|([^⟨⟩])|(⟨)")
 
 
 class NoRow(Exception):
     """A row that has no form that a row may have."""
+
+
+def repeated(text, count):
+    """The text so many times, with the number of the time where it is wanted."""
+    pieces = NUMBER.split(text)
+    if len(pieces) == 1:
+        return text * count
+    form = "".join(piece.replace("%", "%%") if i % 3 == 0 else "%d" * (i % 3 == 1) for i, piece in enumerate(pieces))
+    factors = [(int(factor or 1), int(more or 0)) for factor, more in zip(pieces[1::3], pieces[2::3])]
+    return "".join(form % tuple(factor * n + more for factor, more in factors) for n in range(1, count + 1))
 
 
 def unrolled(row):
@@ -51,7 +66,7 @@ def unrolled(row):
             open_texts[-1][1].append(sign)
         elif end and len(open_texts) > 1:
             count, text = open_texts.pop()
-            open_texts[-1][1].append("".join(text) * int(count))
+            open_texts[-1][1].append(repeated("".join(text), int(count)))
         elif end or stray:
             raise NoRow(f"a stray {end or stray}")
         else:

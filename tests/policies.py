@@ -1,0 +1,229 @@
+"""Draws what the libraries of policies and editors answer, as the tables of `tree`, `check` and `edit` write it."""
+
+import json
+
+import said
+from tables import drawn_text
+
+KINDS = ("user", "runas", "host", "cmnd")
+
+
+def items(value):
+    """The items of a list of the libraries."""
+    return value["items"]
+
+
+def bytes_of(line):
+    """The bytes that a line writes as a list of numbers."""
+    return bytes(json.loads(line))
+
+
+def drawn_part(line, member):
+    """The member as its part of the line."""
+    return drawn_text(line[member["start"] : member["stop"]])
+
+
+def drawn_members(line, members):
+    """Members in brackets."""
+    return "[" + ", ".join(drawn_part(line, member) for member in members) + "]"
+
+
+def drawn_command(line, command):
+    """A command, with the users and groups to run it as if there are some."""
+    runas = ""
+    if command["runas"] != "None":
+        users, groups = (items(command["runas"][1][field]) for field in ("users", "groups"))
+        runas = (drawn_members(line, users) if users else "") + (":" + drawn_members(line, groups) if groups else "")
+        runas = f"({runas}) "
+    return runas + drawn_part(line, command["member"])
+
+
+def drawn_group(line, group):
+    """A host group: its hosts, and its commands."""
+    commands = ", ".join(drawn_command(line, command) for command in items(group["commands"]))
+    return f"{drawn_members(line, items(group['hosts']))} = {commands}"
+
+
+def drawn_node(line, node):
+    """What a line says, each member as its part of the line. Options, tags and values are left out."""
+    name = node if isinstance(node, str) else node[""]
+    if name in ("Blank", "Comment"):
+        return name.lower()
+    if name == "Include":
+        return ("includedir " if node["dir"] else "include ") + drawn_text(bytes(items(node["path"])))
+    if name == "Defaults":
+        scope = ""
+        if node["scope"] != "None":
+            held = node["scope"][1]
+            scope = f" for {held['kind'].lower()} {drawn_members(line, items(held['members']))}"
+        return f"defaults{scope}: " + ", ".join(
+            drawn_text(bytes(items(param["name"]))) for param in items(node["params"])
+        )
+    if name == "Alias":
+        return f"alias {node['kind'].lower()}: " + " : ".join(
+            f"{drawn_text(bytes(items(one['name'])))} {drawn_members(line, items(one['members']))}"
+            for one in items(node["defs"])
+        )
+    groups = " : ".join(drawn_group(line, group) for group in items(node["groups"]))
+    return f"spec {drawn_members(line, items(node['users']))} {groups}"
+
+
+def drawn_fault(fault):
+    """The error of a text that is no policy."""
+    if isinstance(fault, list) and fault[0] == "Text":
+        (_, held) = fault
+        if isinstance(held, str):
+            return held
+        return f"Nul {held['at']}" if held[""] == "Nul" else f"{held['']} {held['line']}"
+    name = fault[""]
+    if name == "Syntax":
+        return f"{fault['line']}:{fault['col']} {fault['why']}"
+    if name == "TooMany":
+        return f"too many {fault['kind'].lower()}"
+    ends = {"Reserved": "is reserved", "Duplicate": "is defined twice"}
+    return f"{fault['kind'].lower()} {drawn_text(bytes(items(fault['name'])))} {ends[name]}"
+
+
+def is_fault(line):
+    """Whether a line is the error of a text that is no policy."""
+    return line.startswith(("Text(", "Syntax {", "Reserved {", "Duplicate {", "TooMany {"))
+
+
+def drawn_line_fault(line):
+    """The error that a line writes, or None if it writes none."""
+    return drawn_fault(said.read(line)) if is_fault(line) else None
+
+
+def some(line):
+    """What an option holds, or None."""
+    if line.startswith("Some([") and line[6:7].isdigit():
+        return json.loads(line[5:-1])  # bytes, of which there may be many
+    value = said.read(line)
+    if value == "None":
+        return None
+    word, held = value
+    if word != "Some":
+        raise ValueError(line)
+    return held
+
+
+class Line:
+    """A line of a policy: its text, its kind and what it says; each None if there is no such line."""
+
+    def __init__(self, text, kind, node):
+        text = some(text)
+        self.text = None if text is None else bytes(text)
+        self.kind = some(kind)
+        self.node = some(node)
+
+    @staticmethod
+    def drawn(line):
+        """The line that an answer writes."""
+        return Line(*line.split("\t"))
+
+    def drawn_kind(self):
+        """Its kind."""
+        return "none" if self.kind is None else self.kind.lower()
+
+    def drawn_node(self):
+        """What it says."""
+        return "none" if self.node is None else drawn_node(self.text, self.node)
+
+
+def lines_of(line):
+    """The lines of a policy."""
+    fields = line.split("\t")
+    if fields.pop() or len(fields) % 3:
+        raise ValueError(line)
+    return [Line(*fields[i : i + 3]) for i in range(0, len(fields), 3)]
+
+
+def drawn_says(text, line):
+    """What a text says as one line, or `none`."""
+    node = some(line)
+    return "none" if node is None else drawn_node(text, node)
+
+
+def drawn_policy(line):
+    """What the lines of a policy say, or its error."""
+    if not line:
+        return ""
+    return drawn_line_fault(line) or " | ".join(one.drawn_node() for one in lines_of(line))
+
+
+def drawn_definition(line):
+    """The line and the place of a definition, and its members; `none` if there is none."""
+    if is_fault(line):
+        return drawn_line_fault(line)
+    place, members, text = map(some, line.split("\t"))
+    if (place, members, text) == (None, None, None):
+        return "none"
+    return f"{place['line']}.{place['def']} {drawn_members(bytes(text), members)}"
+
+
+def drawn_place(line):
+    """The line and the place of a definition."""
+    if is_fault(line):
+        return drawn_line_fault(line)
+    place = some(line)
+    return "none" if place is None else f"{place['line']}.{place['def']}"
+
+
+def drawn_spans(line):
+    """The lines and bytes of mentions."""
+    if is_fault(line):
+        return drawn_line_fault(line)
+    return " ".join(f"{span['line']}:{span['start']}-{span['stop']}" for span in said.read(line)) or "none"
+
+
+def drawn_unused(line):
+    """The kinds and places of unused definitions."""
+    found = [f"{kind} {place['line']}.{place['def']}" for kind, place in said.read(line)]
+    return ", ".join(found) or "none"
+
+
+def drawn_notes(line):
+    """The notes of a report, each sort by itself."""
+    report, sorts = said.read(line), []
+    for sort in ("undefined", "cyclic", "unused"):
+        notes = [
+            f"{note['kind']} {drawn_text(bytes(items(note['name'])))} {note['line']}:{note['col']}"
+            for note in items(report[sort])
+        ]
+        sorts.append(f"{sort}: {', '.join(notes) or 'none'}")
+    return "; ".join(sorts)
+
+
+def drawn_refusal(fault):
+    """Why an edit is refused."""
+    return fault if isinstance(fault, str) else f"{fault[0]}, {drawn_fault(fault[1])}"
+
+
+def drawn_change(line):
+    """What comes of a changed line: `ok`, why it is refused, or `not allowed`."""
+    if is_fault(line):
+        return drawn_line_fault(line)
+    outcome = some(line)
+    if outcome is None:
+        return "not allowed"
+    word, held = outcome
+    return {"Ok": lambda: "ok", "Err": lambda: drawn_fault(held)}[word]()
+
+
+def drawn_outcome(line):
+    """What comes of edits: `ok`, `yes` or `no`, or why one is refused, with its number if there may be several."""
+    if is_fault(line):
+        return drawn_line_fault(line)
+    word, held = said.read(line)
+    if word == "Ok":
+        return {"[]": "ok", "True": "yes", "False": "no"}[str(held)]
+    if word != "Err":
+        raise ValueError(line)
+    if isinstance(held, list) and isinstance(held[0], int):
+        return f"{held[0] + 1}: {drawn_refusal(held[1])}"
+    return drawn_refusal(held)
+
+
+def drawn_bytes(line):
+    """Bytes, or what is said in their place."""
+    return bytes_of(line) if line.startswith("[") else drawn_line_fault(line) or line
