@@ -10,6 +10,7 @@ The words of a group's head say what is asked of each of its cases:
     value            what a word stands for
     name, reserved   whether words can name an alias, and whether they are reserved: below each word is `y` or `n`
     whole            whether a text is one logical line
+    argument         whether an argument is whole
     blanks           how many blanks begin a text
     end              how many bytes the line end has that begins a text
     lf               whether a text ends in LF
@@ -142,6 +143,7 @@ ASKS = {
     "name": (b"n", drawn_truth, unrolled),
     "reserved": (b"r", drawn_truth, unrolled),
     "whole": (b"i", drawn_truth, unrolled),
+    "argument": (b"a", drawn_truth, unrolled),
     "blanks": (b"b", drawn_number, unrolled),
     "end": (b"e", drawn_end, unrolled),
     "lf": (b"f", drawn_truth, unrolled),

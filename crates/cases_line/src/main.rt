@@ -10,7 +10,8 @@ use std::io::Write;
 use sudoers_line::{parse, parse_outline};
 use sudoers_text::{
     LINE_LIMIT, Lines, Mode, TEXT_LIMIT, begins_line_end, blanks_len, cut, ends_in_lf,
-    is_logical_line, is_name, is_reserved, line_end_len, line_mode, tokens, value,
+    is_logical_line, is_name, is_reserved, is_whole_argument, line_end_len, line_mode, tokens,
+    value,
 };
 
 fn main(rt: HostRuntime) -> io::Result<()> {
@@ -50,6 +51,7 @@ fn answer_of(alloc: Global, case: Case<'_>) -> Result<String, AllocError> {
         b'n' => format!(in alloc; "{:?}", is_name(text)),
         b'r' => format!(in alloc; "{:?}", is_reserved(text)),
         b'i' => format!(in alloc; "{:?}", is_logical_line(text)),
+        b'a' => format!(in alloc; "{:?}", is_whole_argument(text)),
         b'b' => format!(in alloc; "{:?}", blanks_len(text)),
         b'e' => format!(in alloc; "{:?}", (line_end_len(text), begins_line_end(text))),
         b'f' => format!(in alloc; "{:?}", ends_in_lf(text)),
