@@ -1,4 +1,4 @@
-"""Cases at the limits of edits of members, definitions and names, and of prune: more of the table in `large.py`."""
+"""Edits of members, definitions and names at the limits, and prune."""
 
 from large import (
     ALIAS_LIMIT,
@@ -26,7 +26,7 @@ ONE = b"User_Alias A = x\n"
 
 
 def filled(policy):
-    """The policy with comments behind it up to just as many bytes as a policy may have."""
+    """The policy with comments after it, up to just as many bytes as a policy may have."""
     rest = POLICY_LIMIT - len(policy)
     return policy + comment(LINE_LIMIT) * (rest // LINE_LIMIT) + comment(rest % LINE_LIMIT)
 
@@ -199,7 +199,7 @@ def drop_of_the_first_of_very_many_members_is_accepted():
 
 
 @case
-def drop_behind_the_last_of_very_many_members():
+def drop_after_the_last_of_very_many_members():
     return refused(b"drop cmnd A 20002\n", b"Cmnd_Alias A = /a" + b",/a" * 20_000 + b"\n", "edit 1: NoPlace")
 
 
@@ -217,7 +217,7 @@ def prune_of_very_many_lines_of_definitions():
 
 
 @case_of_prune
-def prune_where_as_many_definitions_as_allowed_are_used():
+def prune_of_a_policy_that_uses_as_many_definitions_as_allowed():
     policy = chain(b"User_Alias", ALIAS_LIMIT) + b"A1 h=ALL\n"
     return accepted(b"prune\n", policy, b"", policy)
 
@@ -274,7 +274,7 @@ def last_edit_that_is_refused_comes_before_too_many_that_take_back():
 
 
 @case
-def last_prune_that_is_refused_is_told():
+def refused_prune_as_the_last_edit_allowed():
     policy = b"Host_Alias A = % : B = y #1\nbob A=ALL\n"
     script = many_edits(EDIT_LIMIT - 2) + b"move 1 1\nprune\n"
     return refused(script, policy, f"edit {EDIT_LIMIT}: BadSplice")
@@ -324,7 +324,7 @@ def too_many_edits_come_before_an_empty_name_there():
 
 
 @case
-def too_many_edits_come_before_a_number_behind_a_prune_there():
+def too_many_edits_come_before_a_number_after_a_prune_there():
     return refused(many_edits() + b"prune 1\n", SMALL, "TooMany")
 
 
