@@ -26,7 +26,7 @@ MOST = 100_000
 
 
 class Stand:
-    """The program, the library that stands before it and the count of cases."""
+    """The program, the library that is preloaded into it and the count of cases."""
 
     def __init__(self, program, library, tally):
         self.program = program
@@ -44,7 +44,7 @@ class Stand:
     def until_none_is_met(self, case, what, setting, wanted_of, **settings):
         """Counts `setting` up from 1 until a run meets nothing.
 
-        `wanted_of` tells what a run has to answer that met something, from its
+        If a run met something, it has to answer what `wanted_of` makes of its
         counts. The last run has to answer as the case says.
         """
         for number in range(1, MOST):
@@ -64,19 +64,19 @@ NO_MEMORY = (fault("NoMemory").stderr, b"")
 def memory_problems(answer, ample, report):
     """What a run may answer whose growths were refused.
 
-    It answers as ever; or it tells NoMemory, or nothing where that text found no
-    memory either, and has written nothing; or its device failed as ever and the
-    text that tells so found no memory.
+    It answers as ever. Or it reports NoMemory, or nothing if that text found no
+    memory either, and has written nothing. Or its device failed as ever, and the
+    text of that error found no memory.
     """
-    told = answer.status == 1 and answer.stdout == b"" and answer.stderr in NO_MEMORY
+    reported = answer.status == 1 and answer.stdout == b"" and answer.stderr in NO_MEMORY
     silent = answer.status == 1 == ample.status and answer.stdout == ample.stdout and answer.stderr == b""
-    if answer == ample or report.refused and (told or silent):
+    if answer == ample or report.refused and (reported or silent):
         return []
     return ["wanted NoMemory or nothing with status 1, or the answer of ample memory", f"came {answer}"]
 
 
 def refuse_growths(stand, case, wanted, **settings):
-    """Refuses growth 1, 2, 3 and so on, alone and with all behind it, until none is met.
+    """Refuses growth 1, 2, 3 and so on, alone and with all after it, until none is met.
 
     `wanted` is what the run has to answer under these settings with ample memory.
     """
@@ -150,7 +150,7 @@ def last_allowed_read(stand, case, given):
     spare = READ_CALLS - given.limit - 1
     for what, settings, wanted in (
         ("last read fails", last, fault("Read")),
-        ("the read behind the last would fail", past, fault("NoEnd")),
+        ("the read after the last would fail", past, fault("NoEnd")),
         ("last read passes the limit", {"interrupt_reads": spare, "endless": 1, "short_read": 1}, given.too_large),
         ("last read meets the limit", {"interrupt_reads": spare + 1, "endless": 1, "short_read": 1}, fault("NoEnd")),
     ):
