@@ -30,7 +30,7 @@ FILES = {"words", "stdin", "policy", "stdout", "stderr", "stdout_has", "stderr_h
 
 @dataclass(frozen=True)
 class Case:
-    """One case: what is handed in and what has to come. It is of a folder or a row of a table, or made by a function."""
+    """One case: its input and what is wanted. It comes from a folder, a row of a table or a function."""
 
     name: str
     words: tuple
