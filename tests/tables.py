@@ -6,8 +6,8 @@ rows are passed over.
 
 A row is no escaped text, because policies are full of backslashes and because marks must come below their bytes. A
 byte that cannot be seen has a picture: `␊` LF, `␍` CR, `␉` tab, `␀` NUL, `␠` a space. `⟨ff⟩` is a byte in hexadecimal
-digits, `⟨⟩` is no byte, and `⟨65535×#⟩` is a repeated text, in which others may be repeated too. In a repeated text `{n}`
-is the number of the time, from 1, and `{3n-2}` a number counted from it.
+digits, `⟨⟩` is no byte, and `⟨65535×#⟩` is a repeated text, in which others may be repeated too. In a repeated text
+`{n}` is the number of the time, from 1, and `{3n-2}` a number counted from it.
 
 A frame is a byte that says what is asked, the length of its body in eight bytes, and the body. The body holds a text,
 or parts: the length of each in eight bytes, and the part.
