@@ -1,6 +1,6 @@
-"""The cases of the folder tests/cases, one folder a case.
+"""The cases of the folder tests/cases, one folder a case, in the folders GROUPS.
 
-The files of a folder, each of which may be missing:
+The files of a case, each of which may be missing:
 
     words        the command words, one a line (none)
     stdin        standard input (empty)
@@ -9,7 +9,7 @@ The files of a folder, each of which may be missing:
     stderr       standard error, byte for byte (empty)
     stdout_has   in place of stdout: each line of it has to occur there
     stderr_has   in place of stderr: each line of it has to occur there
-    status       the status, a decimal number (0)
+    status       the exit status, a decimal number (0)
     back         an empty flag: the output given as input again has to give the
                  case's input back, byte for byte
 
@@ -24,12 +24,13 @@ import way_back
 from program import Wanted, run
 
 FOLDER = os.path.join(os.path.dirname(os.path.abspath(__file__)), "cases")
+GROUPS = ("check", "edit", "show", "words")
 FILES = {"words", "stdin", "policy", "stdout", "stderr", "stdout_has", "stderr_has", "status", "back"}
 
 
 @dataclass(frozen=True)
 class Case:
-    """One case: what is handed in and what has to come."""
+    """One case: its input and what is wanted. It comes from a folder, a row of a table or a function."""
 
     name: str
     words: tuple
@@ -37,6 +38,7 @@ class Case:
     wanted: Wanted
     back: bool = False
     folder: object = None
+    table: str = ""
 
 
 def read_file(folder, name):
@@ -63,12 +65,12 @@ def read_stream(folder, name):
     return read_file(folder, name) or b"", ()
 
 
-def load(name):
+def load(group, name):
     """Reads the case in the folder of this name."""
-    folder = os.path.join(FOLDER, name)
-    unknown = set(os.listdir(folder)) - FILES
-    if unknown:
-        raise ValueError(f"case {name}: unknown files {sorted(unknown)}")
+    folder = os.path.join(FOLDER, group, name)
+    files = set(os.listdir(folder))
+    if not files or files - FILES:
+        raise ValueError(f"case {group}/{name}: no files, or unknown ones: {sorted(files - FILES)}")
     stdout, stdout_has = read_stream(folder, "stdout")
     stderr, stderr_has = read_stream(folder, "stderr")
     status = int(read_file(folder, "status") or b"0")
@@ -76,19 +78,27 @@ def load(name):
     wanted = Wanted(stdout, stderr, status, stdout_has, stderr_has)
     back = read_file(folder, "back") is not None
     if back and not way_back.is_accepted(words, wanted):
-        raise ValueError(f"case {name}: no accepted edit is given back")
+        raise ValueError(f"case {group}/{name}: no accepted edit is given back")
     return Case(name, words, read_file(folder, "stdin") or b"", wanted, back, folder)
 
 
 def load_all():
-    """All cases, by name."""
-    return [load(name) for name in sorted(os.listdir(FOLDER))]
+    """All cases of the folders, by group and name."""
+    groups = sorted(os.listdir(FOLDER))
+    if groups != sorted(GROUPS):
+        raise ValueError(f"tests/cases holds {groups}, wanted {sorted(GROUPS)}")
+    return [load(group, name) for group in groups for name in sorted(os.listdir(os.path.join(FOLDER, group)))]
+
+
+def run_case(program, tally, case):
+    """Runs a case, and the way back of an accepted edit."""
+    problems = case.wanted.problems(run(program, case.words, case.stdin, folder=case.folder))
+    if way_back.is_accepted(case.words, case.wanted) and not problems:
+        problems = way_back.problems(program, case.words, case.stdin, case.wanted.stdout, whole=case.back)
+    tally.note(f"tests/rows/{case.table}: {case.name}" if case.table else case.name, problems)
 
 
 def run_all(program, tally):
-    """Runs each case of the folder, and the way back of each accepted edit."""
+    """Runs each case of the folders."""
     for case in load_all():
-        problems = case.wanted.problems(run(program, case.words, case.stdin, folder=case.folder))
-        if way_back.is_accepted(case.words, case.wanted) and not problems:
-            problems = way_back.problems(program, case.words, case.stdin, case.wanted.stdout, whole=case.back)
-        tally.note(case.name, problems)
+        run_case(program, tally, case)

@@ -37,7 +37,7 @@ LIMITS = {"README.md": 160, "docs/ARCHITECTURE.md": 110}
 ELSEWHERE = (
     "bash scripts/build",  # the gate proves and builds with the same words of rt
     "bash scripts/test",  # these tests are a part of it
-    "bash bench/run",  # a benchmark
+    "bench/run",  # a benchmark
     "bash scripts/package",  # installing.py
     "sudo bash scripts/install",  # installing.py
     "sudo bash scripts/uninstall",  # installing.py

@@ -1,15 +1,15 @@
-"""Each fault of a policy, as `show`, `check` and `edit` tell it: of their input, and of what an edit would leave.
+"""Each error of a policy, as `show`, `check` and `edit` print it: of their input, and of the result of an edit.
 
-The texts of faults have FILE in front, which is the word given in `show` and `check` and `policy` in `edit`. To `check` a
-fault of the policy is no fault of its own: it stands on standard output.
+The text of an error begins with FILE: the word given to `show` or `check`, and `policy` in `edit`. `check` prints an
+error of the policy on standard output.
 """
 
 from program import Wanted, fault, run
 
 MARK = b"%%\n"
 
-# A logical line that says nothing, without its line end; where its fault stands, the physical line in it and the
-# column, from 1; and the cause.
+# A logical line with a syntax error, without its line end; the physical line and the column of the error, from 1; and
+# the cause.
 SYNTAX = (
     (b"bob \rALL=ALL", 1, 5, "UnexpectedByte"),
     (b'bob ALL=/b \\\n"x,y"', 2, 3, "UnexpectedByte"),
@@ -33,7 +33,7 @@ SYNTAX = (
     (b"bob ALL=/bin/x ^-l$", 1, 16, "Regex"),
 )
 
-# Two lines of which the second alone gives no policy, and what is then told behind FILE.
+# A line, a second line that may not be added to it, and the text of the error after FILE.
 NAMES = (
     (b"User_Alias A = x\n", b"User_Alias A = y\n", "User_Alias A defined twice"),
     (b"Runas_Alias A = x\n", b"Runas_Alias B = x : A = y\n", "Runas_Alias A defined twice"),
@@ -47,7 +47,7 @@ NAMES = (
     (b"# a\n", b"Cmd_Alias EXEC = /x\n", "Cmnd_Alias EXEC reserved"),
 )
 
-# Texts that are not cut into lines, and what is then told behind FILE.
+# Texts that are not cut into lines, and the text of the error after FILE.
 TEXTS = (
     (b"bob ALL=ALL \\\n", ": OpenContinuation"),
     (b"bob\\", ": OpenContinuation"),
@@ -59,12 +59,12 @@ TEXTS = (
 
 
 def syntax(line, column, why):
-    """What is told of a syntax fault behind FILE."""
+    """The text of a syntax error after FILE."""
     return f":{line}:{column}: syntax error: {why}"
 
 
 def payload(line):
-    """The lines of a script that stand for a line that ends in LF."""
+    """The lines of a script that spell a line that ends in LF."""
     return b"".join(b"|" + piece + b"\n" for piece in line[:-1].split(b"\n"))
 
 
@@ -76,36 +76,36 @@ class Stand:
         self.tally = tally
 
     def answers(self, wanted, text, words, stdin):
-        """A run that has to answer so because of the fault with this text."""
+        """A run that has to answer so because of the error with this text."""
         problems = wanted.problems(run(self.program, words, stdin))
         self.tally.note(f"{text} of {' '.join(words) or 'no words'}, {stdin!r}", problems)
 
     def ends_in(self, text, words, stdin):
-        """A run that has to end in the fault with this text."""
+        """A run that has to end in the error with this text."""
         self.answers(fault(text), text, words, stdin)
 
     def is_checked(self, policy, text):
-        """`check` tells the fault of a policy on standard output, and with `-q` by its status alone."""
-        told = Wanted(f"-{text}\n".encode(), status=1)
-        self.answers(told, "-" + text, ("check", "-"), policy)
-        self.answers(told, "-" + text, ("check", "-s", "-"), policy)
+        """`check` prints the error of a policy on standard output. With `-q` it only sets the exit status."""
+        printed = Wanted(f"-{text}\n".encode(), status=1)
+        self.answers(printed, "-" + text, ("check", "-"), policy)
+        self.answers(printed, "-" + text, ("check", "-s", "-"), policy)
         self.answers(Wanted(status=1), "-" + text, ("check", "-q", "-"), policy)
 
     def refuses(self, policy, text):
-        """`show`, `check` and `edit` tell the fault of a policy."""
+        """`show`, `check` and `edit` print the error of a policy."""
         self.ends_in("-" + text, ("show", "-"), policy)
         self.is_checked(policy, text)
         self.ends_in("policy" + text, (), MARK + policy)
         self.ends_in("policy" + text, ("edit",), b"delete 1\n" + MARK + policy)
 
     def refuses_to_insert(self, at, line, policy, text):
-        """An edit that would insert the line tells the fault of what it would leave."""
+        """An edit that would insert the line is refused with the error of its result."""
         script = b"insert %d\n" % at + payload(line)
         self.ends_in("edit 1: NotPolicy: policy" + text, (), script + MARK + policy)
 
 
 def run_syntax(stand):
-    """A line that says nothing stands before, between and behind lines that do."""
+    """A line with a syntax error: alone, between lines without one, and inserted before and after them."""
     for line, row, column, why in SYNTAX:
         stand.refuses(line, syntax(row, column, why))
         line += b"\n"
@@ -116,7 +116,7 @@ def run_syntax(stand):
 
 
 def run_names(stand):
-    """A definition that may not stand comes to a policy without it."""
+    """A definition that may not be added: in the policy, and inserted."""
     for first, second, text in NAMES:
         stand.refuses(first + second, ": " + text)
         stand.refuses(first + b"\nbob ALL=ALL\n" + second + b"bob\n", ": " + text)
@@ -124,7 +124,7 @@ def run_names(stand):
 
 
 def run_texts(stand):
-    """A text that is not cut is told so, whatever its lines say."""
+    """A text that is not cut has this error, whatever its lines are."""
     for policy, text in TEXTS:
         stand.refuses(policy, text)
 

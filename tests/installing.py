@@ -5,6 +5,7 @@ compared. A file that is installed is a row of INSTALLED, and a file that only
 the package has is named in `packaged`.
 """
 
+import glob
 import gzip
 import os
 import re
@@ -156,9 +157,10 @@ def packaged():
     files = wanted_files("usr")
     del files["usr/share/man/man8/sudoers_tool.8"]
     names = ["usr/share/man/man8/sudoers_tool.8.gz"]
-    names += [DOCUMENTS + name for name in ("README.md", "differences.md", "copyright")]
-    examples = os.path.join(TOP, "examples")
-    names += [f"{DOCUMENTS}examples/{path}" for path in modes_under(examples)[0]]
+    names += [DOCUMENTS + name for name in ("README.md", "tests/README.md", "bench/README.md", "copyright")]
+    names += [DOCUMENTS + os.path.relpath(page, TOP) for page in glob.glob(os.path.join(TOP, "crates/*/README.md"))]
+    for folder in ("docs", "examples"):
+        names += [f"{DOCUMENTS}{folder}/{path}" for path in modes_under(os.path.join(TOP, folder))[0]]
     return {**files, **{name: oct(0o644) for name in names}}
 
 

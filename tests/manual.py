@@ -181,7 +181,7 @@ def text_of(term):
 
 def texts():
     """Returns the text of each variant, as FaultText.antt states it: (type, variant) -> text."""
-    source = read("crates/sudoers_tool/specs/FaultText.antt")
+    source = read("crates/sudoers_run/specs/FaultText.antt")
     types = {short: name for name, short in re.findall(r"declared\.\w+\.(\w+)\.TheVariants as (\w+)", source)}
     found = {}
     for row in re.sub(r"\n +", " ", source).splitlines():

@@ -1,6 +1,6 @@
 """Builds the preloaded library and runs the program under it.
 
-What the library does is told in shim/shim.c.
+shim/shim.c says what the library does.
 """
 
 import os

@@ -14,7 +14,7 @@ def is_accepted(words, wanted):
 
 
 def policy_of(text):
-    """What stands behind the first line of an input or output of `edit` that is the mark."""
+    """What comes after the first line of an input or output of `edit` that is the mark."""
     return (b"\n" + text).partition(b"\n" + MARK)[2]
 
 

@@ -3,6 +3,7 @@ use Rattle.std.specs.Prelude.{◌≡◌, ℕ, ◌&&◌, ◌||◌, not, Bool, tru
 use Rattle.std.specs.Str.{bytes_eq}
 use Rattle.sudoers_text.specs.declared.token.TokenKind.{TokenKind}
 use Rattle.sudoers_text.specs.declared.token.TokenKind.TheVariants as kind
+use Rattle.sudoers_text.specs.Part.{is_whole_argument}
 use Rattle.sudoers_text.specs.Value.{value_of}
 use Rattle.sudoers_line.specs.declared.fault.Why.{Why}
 use Rattle.sudoers_line.specs.declared.fault.Why.TheVariants.{UnexpectedByte, UnexpectedToken, EndOfLine, OpenQuote, EmptyName, BadId, BadAddress, BadStamp, Regex}
@@ -49,10 +50,10 @@ is_bare kind.Quoted text =
     bytes_eq name (codes "%") || bytes_eq name (codes "%:") || bytes_eq name (codes "+") || bytes_eq name (codes "#")
 is_bare k text = false
 
--- quotes with nothing in them, also as an argument
+-- quotes with nothing in them, also as a whole argument
 abbrev pub is_empty_quotes : TokenKind → List ℕ → Bool
 is_empty_quotes kind.Quoted text = bytes_eq (value_of text) []
-is_empty_quotes kind.Arg text = bytes_eq (value_of text) []
+is_empty_quotes kind.Arg text = is_whole_argument text && bytes_eq (value_of text) []
 is_empty_quotes k text = false
 
 -- without a `%` before it

@@ -12,7 +12,7 @@ use crate::fault::Why;
 use crate::number::{are_digits, is_slashed};
 use crate::part::{Part, begins_with};
 use std::alloc::{AllocError, Global};
-use sudoers_text::{TokenKind, value};
+use sudoers_text::{TokenKind, is_whole_argument, value};
 
 /// Whether the token is a prefix with no name behind it. The name is what the text stands for.
 fn is_bare(kind: TokenKind, text: &[u8], name: &[u8]) -> bool
@@ -31,13 +31,14 @@ fn is_bare(kind: TokenKind, text: &[u8], name: &[u8]) -> bool
     }
 }
 
-/// Whether the token is quotes with nothing in them, also as an argument.
+/// Returns whether the token is quotes with nothing in them, also as a whole argument.
 fn is_empty_quotes(kind: TokenKind, text: &[u8], name: &[u8]) -> bool
     requires { name.now ≡ value_of text.now }
     ensures { result ≡ is_empty_quotes kind text.now }
 {
     match kind {
-        TokenKind::Quoted | TokenKind::Arg => name == b"".as_slice(),
+        TokenKind::Quoted => name == b"".as_slice(),
+        TokenKind::Arg => is_whole_argument(text) && name == b"".as_slice(),
         _ => false,
     }
 }

@@ -40,12 +40,12 @@ one_token (form ∷ others) before bytes k l n m (inr x) (inl y) = absurd (x.0 m
 one_token (form ∷ others) before bytes k l n m (inr x) (inr y) = one_token others before bytes k l n m x.1 y.1
 
 longest_next : (form : Form) (others : List Form) (before : List LineUnit) (bytes : List ℕ) (k : TokenKind) (n : ℕ) → NoneBegins form before bytes → LongestOrNone others before bytes k n → LongestOrNone (form ∷ others) before bytes k n
-longest_next form others before bytes k n none (inl x) = inl x
+longest_next form others before bytes k n none (inl x) = inl (x.0, (suc x.1.0, omega (arith, x.1.1), x.1.2), x.2, x.3)
 longest_next form others before bytes k n none (inr x) = inr (x.0, (none, x.1))
 
 pub longest_or_none : (fs : List Form) (before : List LineUnit) (bytes : List ℕ) (k : TokenKind) (n : ℕ) → IsToken fs before bytes k n → LongestOrNone fs before bytes k n
 longest_or_none [] before bytes k n x = inr (x.0, tt)
-longest_or_none (form ∷ others) before bytes k n (inl x) = inl (form, x.0, x.1)
+longest_or_none (form ∷ others) before bytes k n (inl x) = inl (form, (0, omega arith, refl), x.0, x.1)
 longest_or_none (form ∷ others) before bytes k n (inr x) =
     longest_next form others before bytes k n x.0 (longest_or_none others before bytes k n x.1)
 

@@ -11,7 +11,7 @@ use Rattle.sudoers_text.specs.declared.context.ScopeList.TheVariants as scope
 use Rattle.sudoers_text.specs.declared.context.Context.{Context}
 use Rattle.sudoers_text.specs.declared.context.Context.TheVariants as context
 use Rattle.sudoers_text.specs.Unit.{is_separator}
-use Rattle.sudoers_text.specs.Part.{is_punct, begins_with, is_run, whole_size}
+use Rattle.sudoers_text.specs.Part.{is_punct, begins_with, is_run, is_whole_argument}
 use Rattle.sudoers_text.specs.Piece.{Form, Mark, Operator, Number, NonUnixGroup, Run, CommandPath, QuotedPart, CommentPart, IncludeWord, FirstWord, Argument, QuotedRest, begins_scope}
 use Rattle.sudoers_text.specs.Word.{is_among, is_tag, is_option_name, digest_kinds, include_words}
 
@@ -111,7 +111,7 @@ behind_option_value k text = context.Commands
 -- behind a token among arguments
 abbrev pub behind_argument : TokenKind → List ℕ → Context
 behind_argument kind.Punct text = behind_mark context.Hosts context.Commands text
-behind_argument kind.Arg text = if whole_size text == length text then context.Arguments else context.QuotedArgument
+behind_argument kind.Arg text = if is_whole_argument text then context.Arguments else context.QuotedArgument
 behind_argument k text = context.Arguments
 
 -- the quoted part has gone on, or has been closed

@@ -137,6 +137,10 @@ argument_unit bytes = or_else (unit_size rule.Path bytes) (between_quotes rule.C
 unfoldable pub whole_size : List ℕ → ℕ
 whole_size bytes = reach argument_unit 0 bytes
 
+-- an argument that is no part of a quoted one which a `,`, `:` or `=` breaks off
+abbrev pub is_whole_argument : List ℕ → Bool
+is_whole_argument text = whole_size text == length text
+
 -- how many bytes a quoted part has up to a `,`, `:` or `=` in it, its first quote included
 unfoldable pub broken_size : List ℕ → ℕ
 broken_size [] = 0

@@ -1,5 +1,6 @@
 -- The tokens of a line.
 use Rattle.std.specs.Prelude.{◌≡◌, ℕ, zero, suc, ◌+◌, ◌-◌, ◌<◌, ◌≤◌, ◌⊎◌, ◌==◌, ◌&&◌, Bool, true, false, List, [], ◌∷◌, length, take, drop, if◌then◌else◌}
+use Rattle.std.specs.List.{Contains}
 use Rattle.sudoers_text.specs.declared.part.Rule.TheVariants as rule
 use Rattle.sudoers_text.specs.declared.token.TokenKind.{TokenKind}
 use Rattle.sudoers_text.specs.declared.token.TokenKind.TheVariants as kind
@@ -40,10 +41,10 @@ abbrev pub NoneOf : List Form → List LineUnit → List ℕ → Type 0
 NoneOf [] before bytes = Unit {0}
 NoneOf (form ∷ others) before bytes = NoneBegins form before bytes × NoneOf others before bytes
 
--- This many bytes are the longest piece of a form of this kind, or no piece of the forms begins and it is Bad.
+-- This many bytes are the longest piece of one of the forms, of this kind, or no piece of the forms begins and it is Bad.
 abbrev pub LongestOrNone : List Form → List LineUnit → List ℕ → TokenKind → ℕ → Type 0
 LongestOrNone fs before bytes k size =
-    ((form : Form) × (k ≡ kind_of form) × IsLongest form before bytes size)
+    ((form : Form) × Contains fs form × (k ≡ kind_of form) × IsLongest form before bytes size)
     ⊎ ((k ≡ kind.Bad) × NoneOf fs before bytes)
 
 -- the unit that begins with this byte, where a quoted part and a comment are no units but their bytes

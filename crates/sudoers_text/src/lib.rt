@@ -29,6 +29,7 @@ pub use laws::{
 pub use line::{Lines, cut};
 pub use meaning::{blanks_len, value};
 pub use modes::line_mode;
+pub use part::is_whole_argument;
 pub use token::{Mode, Token, TokenKind};
 pub use token_laws::{longest_or_none, one_token_list, tokens_are, tokens_ascend};
 pub use tokenizing::tokens;

@@ -2,7 +2,7 @@
 
 ghost use Rattle.std.specs.Prelude.{◌≡◌, ◌≤◌, length};
 ghost use Rattle.sudoers_text.specs.declared.part.Rule.TheVariants as rules;
-ghost use Rattle.sudoers_text.specs.Part.{is_punct, is_include_byte, is_word_byte, is_path_byte, is_value_byte, is_quoted_byte, is_clean_byte, is_upper, is_alphanumeric, is_name_byte, is_digest_byte, pair_in, continuation_in, escape_in, by_backslash, open_size, unit_size, reach, run_size, begins_with, between_quotes, argument_unit, whole_size, broken_size};
+ghost use Rattle.sudoers_text.specs.Part.{is_punct, is_include_byte, is_word_byte, is_path_byte, is_value_byte, is_quoted_byte, is_clean_byte, is_upper, is_alphanumeric, is_name_byte, is_digest_byte, pair_in, continuation_in, escape_in, by_backslash, open_size, unit_size, reach, run_size, begins_with, between_quotes, argument_unit, whole_size, is_whole_argument, broken_size};
 
 use crate::unit::{Unit, begins_line_end, escaped, is_blank, is_separator};
 
@@ -297,6 +297,13 @@ pub fn whole_len(bytes: &[u8]) -> usize
         len += unit;
     }
     len
+}
+
+/// Returns whether an argument is whole, and no part of a quoted argument that a `,`, `:` or `=` breaks off.
+pub fn is_whole_argument(text: &[u8]) -> bool
+    ensures { result ≡ is_whole_argument text.now }
+{
+    whole_len(text) == text.len()
 }
 
 /// How many bytes the quoted part that begins the bytes has up to a `,`, `:` or `=` in it, or none.

@@ -22,8 +22,8 @@ pub fn one_token_list()
         → HasTokens mode line others → tokens ≡ others }
 {}
 
-/// A token that is not Bad is a piece of its kind, and no piece of that form with which the bytes begin is longer. Where it is
-/// Bad, none of the pieces that may stand there begins.
+/// A token that is not Bad is a piece of its kind, of a form that may stand there, and no piece of that form with which the bytes begin is
+/// longer. Where it is Bad, none of the pieces that may stand there begins.
 pub fn longest_or_none()
     ensures { (here : ContextOf) (before : List LineUnit) (bytes : List ℕ) (kind : Kind) (size : ℕ)
         → IsToken (forms here) before bytes kind size → LongestOrNone (forms here) before bytes kind size }

@@ -1,23 +1,13 @@
 //! A tool for sudoers policies whose promises are proved.
 #![tactic(auto)]
 
-mod check;
-mod device;
-mod fault;
-mod program;
-mod show;
-
-use check::run_check;
 use clap::error::ErrorKind;
 use clap::{Arg, ArgAction, ArgMatches, Command, Error};
-use device::Counted;
-use fault::{ToolFault, fault_text};
-use program::run_edit;
-use show::run_show;
 use std::alloc::{AllocError, Global};
 use std::io::Write;
 use std::process::ExitCode;
 use std::{fs, io};
+use sudoers_run::{Counted, ToolFault, fault_text, run_check, run_edit, run_show};
 
 /// The policy's name in the texts of the faults of `edit`.
 const POLICY: &str = "policy";
@@ -29,7 +19,8 @@ const STDIN: &str = "-";
 const VERSION: &str = "0.5.0";
 
 /// What help prints last.
-const EXIT_STATUS: &str = "Exit status: 0 success; 1 an error, or a policy that `check` does not pass; 2 a wrong command line. See sudoers_tool(8).";
+const EXIT_STATUS: &str =
+    "Exit status: 0 success; 1 an error, or a policy that `check` does not pass; 2 a wrong command line. See sudoers_tool(8).";
 
 /// Returns the exit status: 0 for success, 1 for an error or a policy that `check` does not pass, 2 for a wrong command line.
 fn main(rt: HostRuntime) -> ExitCode {

@@ -1,0 +1,42 @@
+use Rattle.std.proofs.Common.{◌≡◌, ◌∷◌, ◌++◌, ◌+◌, ◌-◌, ◌≤◌, ℕ, List, ap, ◌∙◌, sym, arith, length, drop, take}
+use Rattle.std.proofs.lemmas.List.{take_rest, drop-drop, length-drop}
+use Rattle.std.proofs.Math.Seq.{take-add}
+use Rattle.std.specs.Option.{option_map}
+use Rattle.sudoers_text.specs.Line.{join}
+use Rattle.sudoers_edit.specs.Physical.{physical_lines}
+use Rattle.sudoers_run.specs.Program.{split_lines}
+use Rattle.sudoers_run.proofs.ProgramLemmas.{split_more, split_found}
+use Rattle.sudoers_run.proofs.program.split_mark.Goals as goal
+
+pub returns-then-is_mark : goal.returns-then-is_mark
+returns-then-is_mark c =
+    let input : List ℕ = c.args.input.now in
+    let at : ℕ = c.loop-at.at in
+    let line : List ℕ = c.split_at.result.0.now in
+    let after : List ℕ = c.split_at.result.1.now in
+    let tail : take (length input - at) (drop at input) ≡ drop at input = take_rest input at in
+    let cut : physical_lines (drop at input) ≡ line ∷ physical_lines after = ap physical_lines (sym tail) ∙ c.first_line_len.ensures.first ∙ ap (λ (z : List ℕ). z ∷ physical_lines (drop c.first_line_len.result (take (length input - at) (drop at input)))) (sym c.split_at.ensures.front) ∙ ap (λ (z : List ℕ). line ∷ physical_lines z) (sym c.split_at.ensures.back) in
+    sym (split_found (take at input) line after (c.physical_lines_join.ensures after) (sym c.if-is_mark.ensures))
+    ∙ ap (λ ls. option_map {U = List ℕ × List ℕ} (λ p. (take at input ++ join p.0, join p.1)) (split_lines ls)) (sym cut)
+    ∙ c.loop-at.invariant.1
+
+pub loop-at-preserved : goal.loop-at-preserved
+loop-at-preserved c =
+    let input : List ℕ = c.args.input.now in
+    let at : ℕ = c.loop-at.at in
+    let line : List ℕ = c.split_at.result.0.now in
+    let after : List ℕ = c.split_at.result.1.now in
+    let n : ℕ = c.first_line_len.result in
+    let tail : take (length input - at) (drop at input) ≡ drop at input = take_rest input at in
+    let cut : physical_lines (drop at input) ≡ line ∷ physical_lines after = ap physical_lines (sym tail) ∙ c.first_line_len.ensures.first ∙ ap (λ (z : List ℕ). z ∷ physical_lines (drop n (take (length input - at) (drop at input)))) (sym c.split_at.ensures.front) ∙ ap (λ (z : List ℕ). line ∷ physical_lines z) (sym c.split_at.ensures.back) in
+    let line_is : line ≡ take n (drop at input) = c.split_at.ensures.front ∙ ap (take n) tail in
+    let long : length line ≡ n = c.split_at.ensures.front_len in
+    let later : take (at + length line) input ≡ take at input ++ line = ap (λ k. take (at + k) input) long ∙ take-add at n input ∙ ap (λ (z : List ℕ). take at input ++ z) (sym line_is) in
+    let left : drop (at + length line) input ≡ after = sym (drop-drop (length line) at input) ∙ ap (λ k. drop k (drop at input)) long ∙ ap (drop n) (sym tail) ∙ sym c.split_at.ensures.back in
+    let within : at + length line ≤ length input = omega (arith, ap length tail, length-drop at input, c.first_line_len.ensures.within, c.loop-at.invariant.0) in (
+      within,
+      ap (λ (z : List ℕ). option_map {U = List ℕ × List ℕ} (λ p. (take (at + length line) input ++ join p.0, join p.1)) (split_lines (physical_lines z))) left
+          ∙ split_more (take at input) (take (at + length line) input) line (physical_lines after) later (sym c.if-is_mark.ensures)
+          ∙ ap (λ ls. option_map {U = List ℕ × List ℕ} (λ p. (take at input ++ join p.0, join p.1)) (split_lines ls)) (sym cut)
+          ∙ c.loop-at.invariant.1,
+    )

@@ -1,0 +1,6 @@
+use Rattle.std.proofs.Common.{◌≡◌, ◌++◌, ◌+◌, drop}
+use Rattle.sudoers_run.specs.Shown.{shown_defs}
+use Rattle.sudoers_run.proofs.show.append_defs.Given as goal
+
+abbrev pub invariant-loop-place : goal.invariant-loop-place
+invariant-loop-place l = l.out.items ++ shown_defs l.kind l.line (l.place + 1) (drop l.place l.defs) ≡ l.initial.out.items ++ shown_defs l.kind l.line 1 l.defs

@@ -1,0 +1,58 @@
+-- What `check` writes for a policy file.
+use Rattle.std.specs.Prelude.{◌≡◌, ℕ, Bool, if◌then◌else◌, List, [], ◌++◌, codes, Option, Result, Ok, Err}
+use Rattle.sudoers_text.specs.Fault.{text_limit}
+use Rattle.sudoers_tree.specs.declared.line.Line.{Line}
+use Rattle.sudoers_tree.specs.declared.fault.ReadFault.{ReadFault}
+use Rattle.sudoers_tree.specs.Reading.{read_of}
+use Rattle.sudoers_check.specs.Report.{report_of, report_text, is_fine}
+use Rattle.sudoers_run.specs.declared.fault.LayerFault.TheVariants as layer
+use Rattle.sudoers_run.specs.declared.fault.ToolFault.{ToolFault}
+use Rattle.sudoers_run.specs.declared.fault.ToolFault.TheVariants as tool
+use Rattle.sudoers_run.specs.Device.{TakesAtMost}
+use Rattle.sudoers_run.specs.FaultText.{text_of_read}
+
+-- the report on a policy, or the fault of a text that is none
+abbrev pub check_text : List ℕ → Bool → Result (List Line) ReadFault → List ℕ
+check_text file strict (Ok lines) = report_text file strict (report_of lines)
+check_text file strict (Err fault) = text_of_read fault file ++ codes "\n"
+
+-- 0 for a policy that is fine, else 1
+abbrev pub check_status : Bool → Result (List Line) ReadFault → ℕ
+check_status strict (Ok lines) = if is_fine strict (report_of lines) then 0 else 1
+check_status strict (Err fault) = 1
+
+-- what is told of an input
+abbrev pub TellsCheck : List ℕ → Bool → List ℕ → ℕ → List ℕ → Type 0
+TellsCheck file strict text status input = (text ≡ check_text file strict (read_of input)) × (status ≡ check_status strict (read_of input))
+
+-- what is written: nothing, if it is to be quiet
+abbrev pub check_output : List ℕ → Bool → Bool → List ℕ → List ℕ
+check_output file quiet strict input = if quiet then [] else check_text file strict (read_of input)
+
+-- the faults of checking a file; those of the file are told in what is written
+abbrev pub IsCheckFault : ToolFault → Type 0
+IsCheckFault tool.Read = Unit {0}
+IsCheckFault tool.Write = Unit {0}
+IsCheckFault tool.NoEnd = Unit {0}
+IsCheckFault (tool.Layer fault) = fault ≡ layer.NoMemory
+IsCheckFault tool.NoMark = ⊥
+IsCheckFault tool.InputTooLarge = ⊥
+
+-- a reader that failed or was given up had given no byte past the limit
+abbrev pub StopsCheck : Option (List ℕ) → Option (List ℕ) → ToolFault → Type 0
+StopsCheck old new tool.Read = TakesAtMost old new text_limit
+StopsCheck old new tool.NoEnd = TakesAtMost old new text_limit
+StopsCheck old new (tool.Layer fault) = Unit {0}
+StopsCheck old new tool.Write = Unit {0}
+StopsCheck old new tool.NoMark = Unit {0}
+StopsCheck old new tool.InputTooLarge = Unit {0}
+
+-- The outcome asks that the file was read: not if reading failed or was given up, nor if memory ran out.
+abbrev pub NeedsFile : Result ℕ ToolFault → Type 0
+NeedsFile (Ok status) = Unit {0}
+NeedsFile (Err tool.Write) = Unit {0}
+NeedsFile (Err tool.Read) = ⊥
+NeedsFile (Err tool.NoEnd) = ⊥
+NeedsFile (Err (tool.Layer fault)) = ⊥
+NeedsFile (Err tool.NoMark) = ⊥
+NeedsFile (Err tool.InputTooLarge) = ⊥

@@ -1,0 +1,97 @@
+-- The text that is shown for a fault. `file` is the policy's name.
+use Rattle.std.specs.Prelude.{ℕ, ◌+◌, List, ◌++◌, codes}
+use Rattle.std.specs.Fmt.{decimal}
+use Rattle.sudoers_text.specs.declared.fault.TextFault.{TextFault}
+use Rattle.sudoers_text.specs.declared.fault.TextFault.TheVariants as text
+use Rattle.sudoers_line.specs.declared.fault.Why.{Why}
+use Rattle.sudoers_line.specs.declared.fault.Why.TheVariants as why
+use Rattle.sudoers_line.specs.declared.node.Kind.{Kind}
+use Rattle.sudoers_tree.specs.declared.fault.ReadFault.{ReadFault}
+use Rattle.sudoers_tree.specs.declared.fault.ReadFault.TheVariants as read
+use Rattle.sudoers_tree.specs.Kind.{kind_name}
+use Rattle.sudoers_edit.specs.declared.edit.EditFault.{EditFault}
+use Rattle.sudoers_edit.specs.declared.edit.EditFault.TheVariants as edit
+use Rattle.sudoers_edit.specs.declared.script.ScriptFault.{ScriptFault}
+use Rattle.sudoers_edit.specs.declared.script.ScriptFault.TheVariants as script
+use Rattle.sudoers_run.specs.declared.fault.LayerFault.{LayerFault}
+use Rattle.sudoers_run.specs.declared.fault.LayerFault.TheVariants as layer
+use Rattle.sudoers_run.specs.declared.fault.ToolFault.{ToolFault}
+use Rattle.sudoers_run.specs.declared.fault.ToolFault.TheVariants as tool
+
+-- a fault of the policy's text: its lines count from 1, its bytes from 0
+abbrev pub text_of_text : TextFault → List ℕ → List ℕ
+text_of_text text.TooLarge file = file ++ codes ": TooLarge"
+text_of_text (text.LineTooLong line) file = file ++ codes ":" ++ decimal line ++ codes ":1: line too long"
+text_of_text (text.Nul at) file = file ++ codes ": NUL at byte " ++ decimal at
+text_of_text text.OpenContinuation file = file ++ codes ": OpenContinuation"
+text_of_text text.NoMemory file = codes "NoMemory"
+
+abbrev pub why_name : Why → List ℕ
+why_name why.UnexpectedByte = codes "UnexpectedByte"
+why_name why.UnexpectedToken = codes "UnexpectedToken"
+why_name why.EndOfLine = codes "EndOfLine"
+why_name why.OpenQuote = codes "OpenQuote"
+why_name why.EmptyName = codes "EmptyName"
+why_name why.BadId = codes "BadId"
+why_name why.BadAddress = codes "BadAddress"
+why_name why.BadStamp = codes "BadStamp"
+why_name why.Regex = codes "Regex"
+
+-- a kind's name in a file
+abbrev pub name_text : List ℕ → Kind → List ℕ → List ℕ
+name_text file k name = file ++ codes ": " ++ kind_name k ++ codes " " ++ name
+
+-- a fault of a policy: its lines and columns count from 1
+abbrev pub text_of_read : ReadFault → List ℕ → List ℕ
+text_of_read (read.Text fault) file = text_of_text fault file
+text_of_read (read.Syntax line col why) file =
+    file ++ codes ":" ++ decimal line ++ codes ":" ++ decimal col ++ codes ": syntax error: " ++ why_name why
+text_of_read (read.Reserved k name) file = name_text file k name ++ codes " reserved"
+text_of_read (read.Duplicate k name) file = name_text file k name ++ codes " defined twice"
+text_of_read (read.TooMany k) file = file ++ codes ": too many " ++ kind_name k
+text_of_read read.NoMemory file = codes "NoMemory"
+
+-- a fault at a line of the script
+abbrev pub script_text : ℕ → List ℕ → List ℕ
+script_text line name = codes "script:" ++ decimal line ++ codes ": " ++ name
+
+abbrev pub text_of_script : ScriptFault → List ℕ
+text_of_script (script.BadWord line) = script_text line (codes "BadWord")
+text_of_script (script.BadNumber line) = script_text line (codes "BadNumber")
+text_of_script (script.NoPayload line) = script_text line (codes "NoPayload")
+text_of_script script.TooMany = codes "TooMany"
+text_of_script script.NoMemory = codes "NoMemory"
+
+-- a refusal of the edit at a place: its number counts from 1
+abbrev pub edit_name : ℕ → List ℕ → List ℕ
+edit_name place name = codes "edit " ++ decimal (place + 1) ++ codes ": " ++ name
+
+-- Want of memory has one text, wherever it was met.
+abbrev pub text_of_edit : ℕ → EditFault → List ℕ → List ℕ
+text_of_edit place edit.NoLine file = edit_name place (codes "NoLine")
+text_of_edit place edit.NotOneLine file = edit_name place (codes "NotOneLine")
+text_of_edit place edit.OpenLine file = edit_name place (codes "OpenLine")
+text_of_edit place edit.NoAlias file = edit_name place (codes "NoAlias")
+text_of_edit place edit.NoPlace file = edit_name place (codes "NoPlace")
+text_of_edit place edit.OnlyOne file = edit_name place (codes "OnlyOne")
+text_of_edit place edit.BadName file = edit_name place (codes "BadName")
+text_of_edit place edit.NameTaken file = edit_name place (codes "NameTaken")
+text_of_edit place edit.BadSplice file = edit_name place (codes "BadSplice")
+text_of_edit place edit.EndAsIs file = edit_name place (codes "EndAsIs")
+text_of_edit place edit.TooLarge file = edit_name place (codes "TooLarge")
+text_of_edit place (edit.NotPolicy fault) file = edit_name place (codes "NotPolicy: ") ++ text_of_read fault file
+text_of_edit place edit.NoMemory file = codes "NoMemory"
+
+abbrev pub text_of_layer : LayerFault → List ℕ → List ℕ
+text_of_layer (layer.Policy fault) file = text_of_read fault file
+text_of_layer (layer.Script fault) file = text_of_script fault
+text_of_layer (layer.Edit place fault) file = text_of_edit place fault file
+text_of_layer layer.NoMemory file = codes "NoMemory"
+
+abbrev pub text_of_tool : ToolFault → List ℕ → List ℕ
+text_of_tool tool.Read file = codes "Read"
+text_of_tool tool.Write file = codes "Write"
+text_of_tool tool.NoEnd file = codes "NoEnd"
+text_of_tool (tool.Layer fault) file = text_of_layer fault file
+text_of_tool tool.NoMark file = codes "NoMark"
+text_of_tool tool.InputTooLarge file = codes "InputTooLarge"

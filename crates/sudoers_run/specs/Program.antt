@@ -1,0 +1,142 @@
+-- What `edit` writes for what it reads, and its faults in their order.
+use Rattle.std.specs.Prelude.{◌≡◌, ◌⊎◌, ◌+◌, ℕ, Bool, false, ◌&&◌, ◌==◌, nat_lt, if◌then◌else◌, List, [], ◌∷◌, ◌++◌, length, Option, Some, None, Result, Ok, Err}
+use Rattle.std.specs.Option.{option_map}
+use Rattle.sudoers_text.specs.Line.{join}
+use Rattle.sudoers_tree.specs.declared.fault.ReadFault.{ReadFault}
+use Rattle.sudoers_tree.specs.Policy.{texts}
+use Rattle.sudoers_tree.specs.Reading.{read_of}
+use Rattle.sudoers_edit.specs.declared.edit.Edit.{Edit}
+use Rattle.sudoers_edit.specs.declared.edit.EditFault.{EditFault}
+use Rattle.sudoers_edit.specs.declared.script.ScriptFault.{ScriptFault}
+use Rattle.sudoers_edit.specs.declared.script.ScriptFault.TheVariants as script
+use Rattle.sudoers_run.specs.declared.fault.LayerFault.{LayerFault}
+use Rattle.sudoers_run.specs.declared.fault.LayerFault.TheVariants as layer
+use Rattle.sudoers_run.specs.declared.fault.ToolFault.{ToolFault}
+use Rattle.sudoers_run.specs.declared.fault.ToolFault.TheVariants as tool
+use Rattle.sudoers_run.specs.Device.{TakesAtMost, TakesExactly}
+use Rattle.sudoers_edit.specs.Physical.{physical_lines}
+use Rattle.sudoers_edit.specs.Editing.{run_all, inv_run}
+use Rattle.sudoers_edit.specs.Script.{edit_limit, spelling}
+use Rattle.sudoers_edit.specs.ScriptReading.{reading}
+
+-- how many bytes `edit` reads
+abbrev pub input_limit : ℕ
+input_limit = 4000000
+
+-- how often it asks the reader
+abbrev pub pull_limit : ℕ
+pull_limit = 4194304
+
+-- the line `%%`, which only LF ends
+abbrev pub is_mark : List ℕ → Bool
+is_mark (a ∷ b ∷ c ∷ []) = (a == 37) && (b == 37) && (c == 10)
+is_mark _ = false
+
+-- the lines before the first mark, and those behind it
+abbrev pub split_lines : List (List ℕ) → Option (List (List ℕ) × List (List ℕ))
+split_lines [] = None
+split_lines (line ∷ lines) =
+    if is_mark line then Some ([], lines) else option_map (λ parts. (line ∷ parts.0, parts.1)) (split_lines lines)
+
+-- the script, before the mark, and the policy behind it
+abbrev pub split_text : List ℕ → Option (List ℕ × List ℕ)
+split_text text = option_map (λ parts. (join parts.0, join parts.1)) (split_lines (physical_lines text))
+
+infixl 10 ◌>>=◌
+abbrev pub ◌>>=◌ : {A B : Type 0} → Result A LayerFault → (A → Result B LayerFault) → Result B LayerFault
+(Ok x) >>= next = next x
+(Err fault) >>= next = Err fault
+
+abbrev pub by_script : {A : Type 0} → Result A ScriptFault → Result A LayerFault
+by_script (Ok x) = Ok x
+by_script (Err fault) = Err (layer.Script fault)
+
+abbrev pub by_read : {A : Type 0} → Result A ReadFault → Result A LayerFault
+by_read (Ok x) = Ok x
+by_read (Err fault) = Err (layer.Policy fault)
+
+abbrev pub by_edit : {A : Type 0} → Result A (ℕ × EditFault) → Result A LayerFault
+by_edit (Ok x) = Ok x
+by_edit (Err refused) = Err (layer.Edit refused.0 refused.1)
+
+-- the spelling of the inverse edits, the mark and the policy's text, unless the edits are too many
+abbrev pub output_text : List Edit → List (List ℕ) → Result (List ℕ) LayerFault
+output_text inverse lines =
+    if nat_lt edit_limit (length inverse) then Err (layer.Script script.TooMany)
+    else Ok (spelling inverse ++ 37 ∷ 37 ∷ 10 ∷ [] ++ join lines)
+
+-- what comes of edits of these lines: the inverse script, the mark and the edited policy, or the first refusal
+abbrev pub edited_output : List Edit → List (List ℕ) → Result (List ℕ) LayerFault
+edited_output edits lines = by_edit (run_all 0 edits lines) >>= (λ new. output_text (inv_run edits lines) new)
+
+-- the same of a script and a policy; or the first fault of the script, of the policy, of the edits
+abbrev pub edit_output : List ℕ → List ℕ → Result (List ℕ) LayerFault
+edit_output script policy =
+    by_script (reading script) >>= (λ edits. by_read (read_of policy) >>= (λ lines. edited_output edits (texts lines)))
+
+abbrev pub by_layer : {A : Type 0} → Result A LayerFault → Result A ToolFault
+by_layer (Ok x) = Ok x
+by_layer (Err fault) = Err (tool.Layer fault)
+
+abbrev pub of_parts : Option (List ℕ × List ℕ) → Result (List ℕ) ToolFault
+of_parts None = Err tool.NoMark
+of_parts (Some parts) = by_layer (edit_output parts.0 parts.1)
+
+-- what the program writes for an input, or why it gives up
+abbrev pub output_of : List ℕ → Result (List ℕ) ToolFault
+output_of input =
+    if nat_lt input_limit (length input) then Err tool.InputTooLarge else of_parts (split_text input)
+
+-- the stated fault, or want of memory
+abbrev pub TellsLayer : {A : Type 0} → LayerFault → Result A LayerFault → Type 0
+TellsLayer fault wanted = (fault ≡ layer.NoMemory) ⊎ (wanted ≡ Err fault)
+
+-- a fault that the input has; those of the devices and of memory say nothing of it
+abbrev pub TellsTool : ToolFault → List ℕ → Type 0
+TellsTool tool.Read input = Unit {0}
+TellsTool tool.Write input = Unit {0}
+TellsTool tool.NoEnd input = Unit {0}
+TellsTool (tool.Layer fault) input = (fault ≡ layer.NoMemory) ⊎ (output_of input ≡ Err (tool.Layer fault))
+TellsTool tool.NoMark input = output_of input ≡ Err tool.NoMark
+TellsTool tool.InputTooLarge input = output_of input ≡ Err tool.InputTooLarge
+
+-- The outcome asks that the reader told its end: not if reading failed, was given up or was too much, and not if memory ran out.
+abbrev pub NeedsEnd : Result ℕ ToolFault → Type 0
+NeedsEnd (Ok status) = Unit {0}
+NeedsEnd (Err tool.Read) = ⊥
+NeedsEnd (Err tool.NoEnd) = ⊥
+NeedsEnd (Err tool.InputTooLarge) = ⊥
+NeedsEnd (Err (tool.Layer layer.NoMemory)) = ⊥
+NeedsEnd (Err (tool.Layer (layer.Policy fault))) = Unit {0}
+NeedsEnd (Err (tool.Layer (layer.Script fault))) = Unit {0}
+NeedsEnd (Err (tool.Layer (layer.Edit place fault))) = Unit {0}
+NeedsEnd (Err tool.NoMark) = Unit {0}
+NeedsEnd (Err tool.Write) = Unit {0}
+
+-- Where reading stopped that has this limit: with the first byte past it the input is too large; a reader that failed or was
+-- given up had given no such byte.
+abbrev pub StopsReading : ℕ → Option (List ℕ) → Option (List ℕ) → ToolFault → Type 0
+StopsReading limit old new tool.InputTooLarge = TakesExactly old new (limit + 1)
+StopsReading limit old new tool.Read = TakesAtMost old new limit
+StopsReading limit old new tool.NoEnd = TakesAtMost old new limit
+StopsReading limit old new (tool.Layer fault) = Unit {0}
+StopsReading limit old new tool.NoMark = Unit {0}
+StopsReading limit old new tool.Write = Unit {0}
+
+-- the faults of reading
+abbrev pub IsReadFault : ToolFault → Type 0
+IsReadFault tool.Read = Unit {0}
+IsReadFault tool.NoEnd = Unit {0}
+IsReadFault tool.InputTooLarge = Unit {0}
+IsReadFault (tool.Layer fault) = fault ≡ layer.NoMemory
+IsReadFault tool.Write = ⊥
+IsReadFault tool.NoMark = ⊥
+
+-- the faults of an input that was read
+abbrev pub IsAnswerFault : ToolFault → Type 0
+IsAnswerFault (tool.Layer fault) = Unit {0}
+IsAnswerFault tool.NoMark = Unit {0}
+IsAnswerFault tool.Read = ⊥
+IsAnswerFault tool.Write = ⊥
+IsAnswerFault tool.NoEnd = ⊥
+IsAnswerFault tool.InputTooLarge = ⊥

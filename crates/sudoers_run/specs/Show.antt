@@ -1,0 +1,64 @@
+-- What `show` writes for a policy file.
+use Rattle.std.specs.Prelude.{◌≡◌, ◌⊎◌, ◌+◌, ℕ, List, Option, Result, Ok, Err}
+use Rattle.sudoers_text.specs.Fault.{text_limit}
+use Rattle.sudoers_text.specs.declared.fault.TextFault.TheVariants as text
+use Rattle.sudoers_tree.specs.declared.line.Line.{Line}
+use Rattle.sudoers_tree.specs.declared.fault.ReadFault.{ReadFault}
+use Rattle.sudoers_tree.specs.declared.fault.ReadFault.TheVariants as read
+use Rattle.sudoers_tree.specs.Reading.{read_of}
+use Rattle.sudoers_run.specs.declared.fault.LayerFault.{LayerFault}
+use Rattle.sudoers_run.specs.declared.fault.LayerFault.TheVariants as layer
+use Rattle.sudoers_run.specs.declared.fault.ToolFault.{ToolFault}
+use Rattle.sudoers_run.specs.declared.fault.ToolFault.TheVariants as tool
+use Rattle.sudoers_run.specs.Device.{TakesAtMost, TakesExactly}
+use Rattle.sudoers_run.specs.Shown.{shown}
+
+-- what is shown of a policy, or the fault of a text that is none
+abbrev pub show_read : Result (List Line) ReadFault → Result (List ℕ) LayerFault
+show_read (Ok lines) = Ok (shown lines)
+show_read (Err fault) = Err (layer.Policy fault)
+
+abbrev pub show_output : List ℕ → Result (List ℕ) LayerFault
+show_output input = show_read (read_of input)
+
+-- a fault that the file has; those of the devices and of memory say nothing of it
+abbrev pub TellsShow : ToolFault → List ℕ → Type 0
+TellsShow tool.Read input = Unit {0}
+TellsShow tool.Write input = Unit {0}
+TellsShow tool.NoEnd input = Unit {0}
+TellsShow (tool.Layer fault) input = (fault ≡ layer.NoMemory) ⊎ (show_output input ≡ Err fault)
+TellsShow tool.NoMark input = ⊥
+TellsShow tool.InputTooLarge input = ⊥
+
+-- the faults of a file
+abbrev pub IsFileFault : LayerFault → Type 0
+IsFileFault (layer.Policy fault) = Unit {0}
+IsFileFault layer.NoMemory = Unit {0}
+IsFileFault (layer.Script fault) = ⊥
+IsFileFault (layer.Edit place fault) = ⊥
+
+-- the faults of showing a file
+abbrev pub IsShowFault : ToolFault → Type 0
+IsShowFault tool.Read = Unit {0}
+IsShowFault tool.Write = Unit {0}
+IsShowFault tool.NoEnd = Unit {0}
+IsShowFault (tool.Layer fault) = IsFileFault fault
+IsShowFault tool.NoMark = ⊥
+IsShowFault tool.InputTooLarge = ⊥
+
+-- Where reading stopped: with the first byte past the limit the file is too large; a reader that failed or was given up had
+-- given no such byte.
+abbrev pub StopsShow : Option (List ℕ) → Option (List ℕ) → ToolFault → Type 0
+StopsShow old new (tool.Layer (layer.Policy (read.Text text.TooLarge))) = TakesExactly old new (text_limit + 1)
+StopsShow old new tool.Read = TakesAtMost old new text_limit
+StopsShow old new tool.NoEnd = TakesAtMost old new text_limit
+StopsShow old new fault = Unit {0}
+
+-- The outcome asks that the reader told its end: not if reading failed or was given up, nor if the file is too large or memory
+-- ran out.
+abbrev pub NeedsShowEnd : Result ℕ ToolFault → Type 0
+NeedsShowEnd (Err tool.Read) = ⊥
+NeedsShowEnd (Err tool.NoEnd) = ⊥
+NeedsShowEnd (Err (tool.Layer layer.NoMemory)) = ⊥
+NeedsShowEnd (Err (tool.Layer (layer.Policy (read.Text text.TooLarge)))) = ⊥
+NeedsShowEnd outcome = Unit {0}

@@ -1,0 +1,180 @@
+//! Readers and writers that count what they do.
+ghost use Rattle.std.specs.Prelude.{◌≡◌, ℕ, ◌<◌, ◌≤◌, length, IfOk, OnErr};
+ghost use Rattle.std.specs.Io.{WritesAtMost, ReadsAtMost};
+ghost use Rattle.std.specs.Io.KnownBytes.{Keeps, WriteAppends, ReadConsumes};
+ghost use Rattle.sudoers_run.specs.Device.{CountsFailures, CountsEnds, CountsOffers, CountsBytes, IsWithin, Takes, counted_up};
+
+use std::io;
+use std::io::{ErrorKind, Read, Write};
+
+/// What one read gave: how many bytes, or an interruption.
+#[derive(Clone, Copy, Debug, PartialEq, Eq)]
+pub enum Pulled {
+    Bytes(usize),
+    Interrupted,
+}
+
+/// The device failed.
+#[derive(Clone, Copy, Debug, PartialEq, Eq)]
+pub struct DeviceFailed;
+
+/// A reader that counts how often it was asked, how often with room, how many bytes it gave, how often it failed and how often it
+/// told its end.
+pub trait Source: Read {
+    /// How often it has failed, up to the greatest number.
+    ghost failures: { Self → ℕ };
+
+    /// How often it has been asked, up to the greatest number.
+    ghost pulls: { Self → ℕ };
+
+    /// How often it has been asked with a buffer that has room, up to the greatest number.
+    ghost offers: { Self → ℕ };
+
+    /// How many bytes it has given, up to the greatest number.
+    ghost given: { Self → ℕ };
+
+    /// How often it has told its end, up to the greatest number.
+    ghost ends: { Self → ℕ };
+
+    /// One read. No bytes, where the buffer has room, tell the end of the input.
+    ///
+    /// # Errors
+    ///
+    /// The device failed; what it has left to give is as before.
+    fn pull(&mut self, buf: &mut [u8]) -> Result<Pulled, DeviceFailed>
+        ensures within { IfOk result (λ pulled. IsWithin pulled buf.new) }
+        ensures bytes { IfOk result (λ pulled. Takes (Self.remaining self.old) (Self.remaining self.new) pulled buf.new) }
+        ensures kept { OnErr result (Keeps (Self.remaining self.old) (Self.remaining self.new)) }
+        ensures failed { CountsFailures (failures self.old) (failures self.new) result }
+        ensures asked { pulls self.new ≡ counted_up (pulls self.old) }
+        ensures offered { CountsOffers (offers self.old) (offers self.new) buf.new }
+        ensures given { CountsBytes (given self.old) (given self.new) result }
+        ensures ended { CountsEnds (ends self.old) (ends self.new) result buf.new };
+
+    /// How often it has failed, up to the greatest number.
+    fn failures(&self) -> u64
+        ensures { result ≡ failures self.now };
+}
+
+/// A writer that counts its failures.
+pub trait Sink: Write {
+    /// How often it has failed, up to the greatest number.
+    ghost failures: { Self → ℕ };
+
+    /// One write: how many bytes it took. An interrupted one has failed, and so has one that takes no byte of a piece.
+    ///
+    /// # Errors
+    ///
+    /// The device failed; what it holds is as before.
+    fn push(&mut self, piece: &[u8]) -> Result<usize, DeviceFailed>
+        ensures within { IfOk result (λ n. n ≤ length piece.now) }
+        ensures some { 0 < length piece.now → IfOk result (λ n. 0 < n) }
+        ensures bytes { WriteAppends (Self.contents self.old) (Self.contents self.new) result piece.now }
+        ensures failed { CountsFailures (failures self.old) (failures self.new) result };
+
+    /// How often it has failed, up to the greatest number.
+    fn failures(&self) -> u64
+        ensures { result ≡ failures self.now };
+}
+
+/// Any reader or writer, with counts of what `pull` and `push` did. It passes the bytes on.
+#[derive(Drop)]
+pub struct Counted<T> {
+    device: T,
+    failures: u64,
+    pulls: u64,
+    offers: u64,
+    given: u64,
+    ends: u64,
+}
+
+impl<T> Counted<T> {
+    /// The device, which has done nothing yet.
+    pub fn new(device: T) -> Counted<T>
+        ensures { result ≡ record { device = device; failures = 0; pulls = 0; offers = 0; given = 0; ends = 0 } }
+    {
+        Counted {
+            device,
+            failures: 0,
+            pulls: 0,
+            offers: 0,
+            given: 0,
+            ends: 0,
+        }
+    }
+}
+
+impl<R: Read> Read for Counted<R> {
+    ghost remaining = { λ c. R.remaining c.device };
+
+    fn read(&mut self, buf: &mut [u8]) -> io::Result<usize> {
+        self.device.read(buf)
+    }
+}
+
+impl<W: Write> Write for Counted<W> {
+    ghost contents = { λ c. W.contents c.device };
+
+    fn write(&mut self, buf: &[u8]) -> io::Result<usize> {
+        self.device.write(buf)
+    }
+
+    fn flush(&mut self) -> io::Result<()> {
+        self.device.flush()
+    }
+}
+
+impl<R: Read> Source for Counted<R> {
+    ghost failures = { λ c. c.failures };
+
+    ghost pulls = { λ c. c.pulls };
+
+    ghost offers = { λ c. c.offers };
+
+    ghost given = { λ c. c.given };
+
+    ghost ends = { λ c. c.ends };
+
+    fn pull(&mut self, buf: &mut [u8]) -> Result<Pulled, DeviceFailed> {
+        self.pulls = self.pulls.saturating_add(1);
+        if !buf.is_empty() {
+            self.offers = self.offers.saturating_add(1);
+        }
+        match self.device.read(buf) {
+            Ok(n) => {
+                self.given = self.given.saturating_add(n as u64);
+                if n == 0 && !buf.is_empty() {
+                    self.ends = self.ends.saturating_add(1);
+                }
+                Ok(Pulled::Bytes(n))
+            }
+            Err(e) if e.kind() == ErrorKind::Interrupted => Ok(Pulled::Interrupted),
+            Err(_) => {
+                self.failures = self.failures.saturating_add(1);
+                Err(DeviceFailed)
+            }
+        }
+    }
+
+    fn failures(&self) -> u64 {
+        self.failures
+    }
+}
+
+impl<W: Write> Sink for Counted<W> {
+    ghost failures = { λ c. c.failures };
+
+    fn push(&mut self, piece: &[u8]) -> Result<usize, DeviceFailed> {
+        match self.device.write(piece) {
+            Ok(n) if n > 0 || piece.is_empty() => Ok(n),
+            _ => {
+                self.failures = self.failures.saturating_add(1);
+                Err(DeviceFailed)
+            }
+        }
+    }
+
+    fn failures(&self) -> u64 {
+        self.failures
+    }
+}

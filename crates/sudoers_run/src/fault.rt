@@ -1,0 +1,330 @@
+//! Why the program gives up, and the text that it then shows.
+ghost use Rattle.std.specs.Prelude.{◌≡◌, ◌+◌, ◌<◌, ◌^◌, ◌++◌, IfOk, OnOk};
+ghost use Rattle.std.specs.Fmt.{decimal};
+ghost use Rattle.sudoers_run.specs.FaultText.{text_of_tool, text_of_layer, text_of_read, text_of_text, text_of_script, text_of_edit, script_text, edit_name, name_text, why_name};
+
+use std::alloc::{AllocError, Global};
+use sudoers_edit::{EditFault, ScriptFault};
+use sudoers_line::{Kind, Why};
+use sudoers_text::TextFault;
+use sudoers_tree::{ReadFault, kind_word};
+use thiserror::Error;
+
+/// A fault of a layer below. Want of memory is `NoMemory` here, wherever it was met.
+#[derive(Debug, Drop, Error)]
+pub enum LayerFault {
+    /// The text is no policy.
+    #[error("{0}")]
+    Policy(ReadFault),
+    /// The script is none, or the inverse list is too long.
+    #[error("{0}")]
+    Script(ScriptFault),
+    /// The edit at this place, from 0, is refused.
+    #[error("edit at {0}: {1}")]
+    Edit(usize, EditFault),
+    /// A growth of memory was refused.
+    #[error("NoMemory")]
+    NoMemory,
+}
+
+/// Why the program gives up.
+#[derive(Debug, Drop, Error)]
+pub enum ToolFault {
+    /// The reader failed.
+    #[error("Read")]
+    Read,
+    /// The writer failed; a front of the output has been written.
+    #[error("Write")]
+    Write,
+    /// The input has no end within the reads that are allowed.
+    #[error("NoEnd")]
+    NoEnd,
+    /// The policy, the script or an edit is at fault, or memory ran out.
+    #[error("{0}")]
+    Layer(LayerFault),
+    /// No line of the input is the mark.
+    #[error("NoMark")]
+    NoMark,
+    /// The input passes its limit.
+    #[error("InputTooLarge")]
+    InputTooLarge,
+}
+
+impl From<ReadFault> for LayerFault {
+    ghost use Rattle.std.specs.Prelude.{◌≡◌};
+    ghost use Rattle.sudoers_run.specs.LayerOf.{layer_of_read};
+
+    ghost from_gives = { λ fault e. e ≡ layer_of_read fault };
+
+    fn from(fault: ReadFault) -> LayerFault {
+        match fault {
+            ReadFault::NoMemory => LayerFault::NoMemory,
+            fault => LayerFault::Policy(fault),
+        }
+    }
+}
+
+impl From<ScriptFault> for LayerFault {
+    ghost use Rattle.std.specs.Prelude.{◌≡◌};
+    ghost use Rattle.sudoers_run.specs.LayerOf.{layer_of_script};
+
+    ghost from_gives = { λ fault e. e ≡ layer_of_script fault };
+
+    fn from(fault: ScriptFault) -> LayerFault {
+        match fault {
+            ScriptFault::NoMemory => LayerFault::NoMemory,
+            _ => LayerFault::Script(fault),
+        }
+    }
+}
+
+impl From<(usize, EditFault)> for LayerFault {
+    ghost use Rattle.std.specs.Prelude.{◌≡◌};
+    ghost use Rattle.sudoers_run.specs.LayerOf.{layer_of_edit};
+
+    ghost from_gives = { λ refused e. e ≡ layer_of_edit refused.0 refused.1 };
+
+    fn from(refused: (usize, EditFault)) -> LayerFault {
+        let (place, fault) = refused;
+        match fault {
+            EditFault::NoMemory => LayerFault::NoMemory,
+            fault => LayerFault::Edit(place, fault),
+        }
+    }
+}
+
+impl From<AllocError> for LayerFault {
+    ghost use Rattle.std.specs.Prelude.{◌≡◌};
+    ghost use Rattle.sudoers_run.specs.declared.fault.LayerFault.TheVariants.{NoMemory};
+
+    ghost from_gives = { λ _ e. e ≡ NoMemory };
+
+    fn from(_error: AllocError) -> LayerFault {
+        LayerFault::NoMemory
+    }
+}
+
+impl From<LayerFault> for ToolFault {
+    ghost use Rattle.std.specs.Prelude.{◌≡◌};
+    ghost use Rattle.sudoers_run.specs.declared.fault.ToolFault.TheVariants.{Layer};
+
+    ghost from_gives = { λ fault e. e ≡ Layer fault };
+
+    fn from(fault: LayerFault) -> ToolFault {
+        ToolFault::Layer(fault)
+    }
+}
+
+impl From<AllocError> for ToolFault {
+    ghost use Rattle.std.specs.Prelude.{◌≡◌};
+    ghost use Rattle.sudoers_run.specs.declared.fault.LayerFault.TheVariants.{NoMemory};
+    ghost use Rattle.sudoers_run.specs.declared.fault.ToolFault.TheVariants.{Layer};
+
+    ghost from_gives = { λ _ e. e ≡ Layer NoMemory };
+
+    fn from(_error: AllocError) -> ToolFault {
+        ToolFault::Layer(LayerFault::NoMemory)
+    }
+}
+
+/// The text that is shown for a fault, without LF. `file` is the policy's name in it.
+///
+/// # Errors
+///
+/// Want of memory alone.
+pub fn fault_text(alloc: Global, fault: &ToolFault, file: &[u8]) -> Result<Vec<u8>, AllocError>
+    ensures { IfOk result (λ text. text.items ≡ text_of_tool fault.now file.now) }
+{
+    match fault {
+        ToolFault::Read => Vec::from_slice(alloc, b"Read"),
+        ToolFault::Write => Vec::from_slice(alloc, b"Write"),
+        ToolFault::NoEnd => Vec::from_slice(alloc, b"NoEnd"),
+        ToolFault::NoMark => Vec::from_slice(alloc, b"NoMark"),
+        ToolFault::InputTooLarge => Vec::from_slice(alloc, b"InputTooLarge"),
+        ToolFault::Layer(fault) => layer_text(alloc, fault, file),
+    }
+}
+
+fn layer_text(alloc: Global, fault: &LayerFault, file: &[u8]) -> Result<Vec<u8>, AllocError>
+    ensures { IfOk result (λ text. text.items ≡ text_of_layer fault.now file.now) }
+{
+    match fault {
+        LayerFault::Policy(fault) => read_fault_text(alloc, fault, file),
+        LayerFault::Script(fault) => script_fault_text(alloc, fault),
+        LayerFault::Edit(place, fault) => edit_fault_text(alloc, *place, fault, file),
+        LayerFault::NoMemory => Vec::from_slice(alloc, b"NoMemory"),
+    }
+}
+
+/// The text of a fault of a policy file.
+pub fn read_fault_text(alloc: Global, fault: &ReadFault, file: &[u8]) -> Result<Vec<u8>, AllocError>
+    ensures { IfOk result (λ text. text.items ≡ text_of_read fault.now file.now) }
+{
+    match fault {
+        ReadFault::Text(fault) => text_fault_text(alloc, fault, file),
+        ReadFault::Syntax { line, col, why } => syntax_text(alloc, *line, *col, *why, file),
+        ReadFault::Reserved { kind, name } => {
+            at_name(alloc, *kind, name.as_slice(), b" reserved", file)
+        }
+        ReadFault::Duplicate { kind, name } => {
+            at_name(alloc, *kind, name.as_slice(), b" defined twice", file)
+        }
+        ReadFault::TooMany { kind } => {
+            let mut text = concat(alloc, file, b": too many ")?;
+            text.extend_from_slice(kind_word(*kind))?;
+            Ok(text)
+        }
+        ReadFault::NoMemory => Vec::from_slice(alloc, b"NoMemory"),
+    }
+}
+
+fn syntax_text(
+    alloc: Global,
+    line: usize,
+    col: usize,
+    why: Why,
+    file: &[u8],
+) -> Result<Vec<u8>, AllocError>
+    ensures { IfOk result (λ text. text.items ≡ text_of_read (ReadFault.Syntax line col why) file.now) }
+{
+    let mut text = concat(alloc, file, b":")?;
+    append_number(alloc, &mut text, line)?;
+    text.extend_from_slice(b":")?;
+    append_number(alloc, &mut text, col)?;
+    text.extend_from_slice(b": syntax error: ")?;
+    text.extend_from_slice(why_word(why))?;
+    Ok(text)
+}
+
+/// A kind's name in the file, and what is wrong with it.
+fn at_name(
+    alloc: Global,
+    kind: Kind,
+    name: &[u8],
+    wrong: &[u8],
+    file: &[u8],
+) -> Result<Vec<u8>, AllocError>
+    ensures { IfOk result (λ text. text.items ≡ name_text file.now kind name.now ++ wrong.now) }
+{
+    let mut text = concat(alloc, file, b": ")?;
+    text.extend_from_slice(kind_word(kind))?;
+    text.extend_from_slice(b" ")?;
+    text.extend_from_slice(name)?;
+    text.extend_from_slice(wrong)?;
+    Ok(text)
+}
+
+fn why_word(why: Why) -> &'static [u8]
+    ensures { result.now ≡ why_name why }
+{
+    match why {
+        Why::UnexpectedByte => b"UnexpectedByte",
+        Why::UnexpectedToken => b"UnexpectedToken",
+        Why::EndOfLine => b"EndOfLine",
+        Why::OpenQuote => b"OpenQuote",
+        Why::EmptyName => b"EmptyName",
+        Why::BadId => b"BadId",
+        Why::BadAddress => b"BadAddress",
+        Why::BadStamp => b"BadStamp",
+        Why::Regex => b"Regex",
+    }
+}
+
+fn text_fault_text(alloc: Global, fault: &TextFault, file: &[u8]) -> Result<Vec<u8>, AllocError>
+    ensures { IfOk result (λ text. text.items ≡ text_of_text fault.now file.now) }
+{
+    match fault {
+        TextFault::TooLarge => concat(alloc, file, b": TooLarge"),
+        TextFault::OpenContinuation => concat(alloc, file, b": OpenContinuation"),
+        TextFault::NoMemory => Vec::from_slice(alloc, b"NoMemory"),
+        TextFault::LineTooLong { line } => {
+            let mut text = concat(alloc, file, b":")?;
+            append_number(alloc, &mut text, *line)?;
+            text.extend_from_slice(b":1: line too long")?;
+            Ok(text)
+        }
+        TextFault::Nul { at } => {
+            let mut text = concat(alloc, file, b": NUL at byte ")?;
+            append_number(alloc, &mut text, *at)?;
+            Ok(text)
+        }
+    }
+}
+
+fn script_fault_text(alloc: Global, fault: &ScriptFault) -> Result<Vec<u8>, AllocError>
+    ensures { IfOk result (λ text. text.items ≡ text_of_script fault.now) }
+{
+    match fault {
+        ScriptFault::BadWord { line } => at_script_line(alloc, *line, b"BadWord"),
+        ScriptFault::BadNumber { line } => at_script_line(alloc, *line, b"BadNumber"),
+        ScriptFault::NoPayload { line } => at_script_line(alloc, *line, b"NoPayload"),
+        ScriptFault::TooMany => Vec::from_slice(alloc, b"TooMany"),
+        ScriptFault::NoMemory => Vec::from_slice(alloc, b"NoMemory"),
+    }
+}
+
+fn edit_fault_text(
+    alloc: Global,
+    place: usize,
+    fault: &EditFault,
+    file: &[u8],
+) -> Result<Vec<u8>, AllocError>
+    ensures { IfOk result (λ text. text.items ≡ text_of_edit place fault.now file.now) }
+{
+    match fault {
+        EditFault::NoMemory => Vec::from_slice(alloc, b"NoMemory"),
+        EditFault::NoLine => at_edit(alloc, place, b"NoLine"),
+        EditFault::NotOneLine => at_edit(alloc, place, b"NotOneLine"),
+        EditFault::OpenLine => at_edit(alloc, place, b"OpenLine"),
+        EditFault::NoAlias => at_edit(alloc, place, b"NoAlias"),
+        EditFault::NoPlace => at_edit(alloc, place, b"NoPlace"),
+        EditFault::OnlyOne => at_edit(alloc, place, b"OnlyOne"),
+        EditFault::BadName => at_edit(alloc, place, b"BadName"),
+        EditFault::NameTaken => at_edit(alloc, place, b"NameTaken"),
+        EditFault::BadSplice => at_edit(alloc, place, b"BadSplice"),
+        EditFault::EndAsIs => at_edit(alloc, place, b"EndAsIs"),
+        EditFault::TooLarge => at_edit(alloc, place, b"TooLarge"),
+        EditFault::NotPolicy(fault) => {
+            let mut text = at_edit(alloc, place, b"NotPolicy: ")?;
+            text.extend_from_slice(read_fault_text(alloc, fault, file)?.as_slice())?;
+            Ok(text)
+        }
+    }
+}
+
+fn at_script_line(alloc: Global, line: usize, name: &[u8]) -> Result<Vec<u8>, AllocError>
+    ensures { IfOk result (λ text. text.items ≡ script_text line name.now) }
+{
+    let mut text = Vec::from_slice(alloc, b"script:")?;
+    append_number(alloc, &mut text, line)?;
+    text.extend_from_slice(b": ")?;
+    text.extend_from_slice(name)?;
+    Ok(text)
+}
+
+fn at_edit(alloc: Global, place: usize, name: &[u8]) -> Result<Vec<u8>, AllocError>
+    ensures { IfOk result (λ text. text.items ≡ edit_name place name.now) }
+{
+    let mut text = Vec::from_slice(alloc, b"edit ")?;
+    let number = (place as u128 + 1).to_string(alloc)?;
+    text.extend_from_slice(number.as_bytes())?;
+    text.extend_from_slice(b": ")?;
+    text.extend_from_slice(name)?;
+    Ok(text)
+}
+
+fn concat(alloc: Global, front: &[u8], back: &[u8]) -> Result<Vec<u8>, AllocError>
+    ensures { IfOk result (λ text. text.items ≡ front.now ++ back.now) }
+{
+    let mut text = Vec::from_slice(alloc, front)?;
+    text.extend_from_slice(back)?;
+    Ok(text)
+}
+
+/// Puts a number in decimal behind a text.
+pub fn append_number(alloc: Global, text: &mut Vec<u8>, number: usize) -> Result<(), AllocError>
+    ensures { OnOk result (text.new.items ≡ text.old.items ++ decimal number) }
+{
+    let digits = number.to_string(alloc)?;
+    text.extend_from_slice(digits.as_bytes())
+}

@@ -1,0 +1,201 @@
+//! `edit`: a script and a policy in, the inverse script and the edited policy out.
+ghost use Rattle.std.specs.Prelude.{◌≡◌, ◌≢◌, ◌+◌, ◌<◌, ◌≤◌, ◌++◌, length, Ok, Err, IfOk, IfErr, OnOk, OnErr, IfSome, IsOkAnd, MatchResult, min, ◌-◌, ◌^◌};
+ghost use Rattle.std.specs.Option.{option_map};
+ghost use Rattle.std.specs.Io.KnownBytes.{Keeps, Appends};
+ghost use Rattle.sudoers_tree.specs.Policy.{texts};
+ghost use Rattle.sudoers_edit.specs.Named.{AreNamed};
+ghost use Rattle.sudoers_run.specs.Device.{Rose, Reads, Writes, AppendsFront, TakesAtMost, TakesExactly, counted_up, counted_by};
+ghost use Rattle.sudoers_run.specs.Program.{is_mark as is_mark_text, split_text, edit_output as output_of_edit, edited_output, output_of, output_text, input_limit, TellsLayer, TellsTool, NeedsEnd, StopsReading, IsReadFault, IsAnswerFault, pull_limit};
+
+use crate::device::{DeviceFailed, Pulled, Sink, Source};
+use crate::fault::{LayerFault, ToolFault};
+use std::alloc::Global;
+use sudoers_edit::{
+    Edit, Editor, Edits, first_line_len, named_are_written, physical_lines_join, read_script,
+    write_script,
+};
+use sudoers_tree::Policy;
+
+/// How many bytes `edit` reads at most.
+pub const INPUT_LIMIT: usize = 4_000_000;
+
+/// How often it asks one reader at most.
+pub const PULL_LIMIT: usize = 4_194_304;
+
+/// The line between the script and the policy.
+const MARK: &[u8] = b"%%\n";
+
+/// Reads a script, the mark and a policy, and writes the script that takes the edits back, the mark and the edited
+/// policy.
+///
+/// # Errors
+///
+/// [`ToolFault`]: of reading, then of the input, in the order mark, script, policy, edits, inverse; then of writing.
+/// Nothing is written before a fault other than `Write`.
+pub fn run_edit<R: Source, W: Sink>(
+    alloc: Global,
+    reader: &mut R,
+    writer: &mut W,
+) -> Result<u8, ToolFault>
+    // Status 0, and what is written is the stated function of what is read.
+    ensures ok { IfOk result (λ status. (status ≡ 0) × IfSome (R.remaining reader.old) (λ input.
+        IsOkAnd (output_of input) (Appends (W.contents writer.old) (W.contents writer.new)))) }
+    // A fault of the input is the stated one.
+    ensures fault { IfErr result (λ fault. IfSome (R.remaining reader.old) (TellsTool fault)) }
+    // Where a write failed a front of the output is written.
+    ensures front { result ≡ Err ToolFault.Write → IfSome (R.remaining reader.old) (λ input.
+        IsOkAnd (output_of input) (AppendsFront (W.contents writer.old) (W.contents writer.new))) }
+    // `Read` and `Write` are told exactly where that device failed; the reader is asked at most so often, and `NoEnd` is told only
+    // after so many calls with room.
+    ensures reads { Reads pull_limit result (R.Source.failures reader.old) (R.Source.failures reader.new)
+        (R.Source.pulls reader.old) (R.Source.pulls reader.new) (R.offers reader.old) (R.offers reader.new) }
+    ensures writes { Writes result (W.Sink.failures writer.old) (W.Sink.failures writer.new)
+        (W.contents writer.old) (W.contents writer.new) }
+    // It stops at the first byte past the limit, and only there is the input too large.
+    ensures stops { IfErr result (StopsReading input_limit (R.remaining reader.old) (R.remaining reader.new)) }
+    ensures given { result ≡ Err ToolFault.InputTooLarge
+        → counted_by (input_limit + 1) (R.given reader.old) ≤ R.given reader.new }
+    // Any other outcome, but want of memory and an input that is too large, comes only where the reader told its end.
+    ensures ended { NeedsEnd result → Rose (R.ends reader.old) (R.ends reader.new) }
+{
+    let input = read_all(alloc, reader, INPUT_LIMIT)?;
+    let output = answer(alloc, input.as_slice())?;
+    write_all(writer, output.as_slice())?;
+    Ok(0)
+}
+
+/// Reads all there is, up to a limit: with the first byte past it the input is too large.
+pub fn read_all<R: Source>(
+    alloc: Global,
+    reader: &mut R,
+    limit: usize,
+) -> Result<Vec<u8>, ToolFault>
+    requires { limit ≤ input_limit }
+    ensures all { IfOk result (λ input. (length input.items ≤ limit)
+        × IfSome (R.remaining reader.old) (λ known. input.items ≡ known)) }
+    ensures large { result ≡ Err ToolFault.InputTooLarge
+        → IfSome (R.remaining reader.old) (λ known. limit < length known) }
+    ensures faults { IfErr result IsReadFault }
+    ensures reads { Reads pull_limit result (R.Source.failures reader.old) (R.Source.failures reader.new)
+        (R.Source.pulls reader.old) (R.Source.pulls reader.new) (R.offers reader.old) (R.offers reader.new) }
+    ensures stops { IfErr result (StopsReading limit (R.remaining reader.old) (R.remaining reader.new)) }
+    ensures given { result ≡ Err ToolFault.InputTooLarge
+        → counted_by (limit + 1) (R.given reader.old) ≤ R.given reader.new }
+    ensures ended { OnOk result (Rose (R.ends reader.old) (R.ends reader.new)) }
+{
+    let mut input = Vec::new(alloc);
+    let mut buffer = [0u8; 65_536];
+    for pull in 0..PULL_LIMIT {
+        // Only the proof looks at this count.
+        let _ = pull;
+        let room = buffer.len().min(limit + 1 - input.len());
+        match reader.pull(&mut buffer[..room]) {
+            Ok(Pulled::Bytes(n)) => {
+                if n == 0 {
+                    return Ok(input);
+                }
+                input.extend_from_slice(&buffer[..n])?;
+                if input.len() > limit {
+                    return Err(ToolFault::InputTooLarge);
+                }
+            }
+            Ok(Pulled::Interrupted) => {}
+            Err(DeviceFailed) => return Err(ToolFault::Read),
+        }
+    }
+    Err(ToolFault::NoEnd)
+}
+
+/// Writes all the bytes.
+pub fn write_all<W: Sink>(writer: &mut W, bytes: &[u8]) -> Result<(), ToolFault>
+    ensures all { OnOk result (Appends (W.contents writer.old) (W.contents writer.new) bytes.now) }
+    ensures part { OnErr result (AppendsFront (W.contents writer.old) (W.contents writer.new) bytes.now) }
+    ensures fault { IfErr result (λ fault. (fault ≡ ToolFault.Write)
+        × Rose (W.Sink.failures writer.old) (W.Sink.failures writer.new)) }
+    ensures well { OnOk result (W.Sink.failures writer.new ≡ W.Sink.failures writer.old) }
+{
+    let mut at = 0;
+    while at < bytes.len() {
+        match writer.push(&bytes[at..]) {
+            Ok(n) => at += n,
+            Err(DeviceFailed) => return Err(ToolFault::Write),
+        }
+    }
+    Ok(())
+}
+
+/// What is written for an input within the limit.
+fn answer(alloc: Global, input: &[u8]) -> Result<Vec<u8>, ToolFault>
+    requires { length input.now ≤ input_limit }
+    ensures ok { IfOk result (λ out. output_of input.now ≡ Ok out.items) }
+    ensures fault { IfErr result (λ fault. TellsTool fault input.now × IsAnswerFault fault) }
+{
+    let Some((script, policy)) = split_mark(input) else {
+        return Err(ToolFault::NoMark);
+    };
+    let out = edit_output(alloc, script, policy)?;
+    Ok(out)
+}
+
+/// The script before the first line that is the mark, and the policy behind it.
+fn split_mark(input: &[u8]) -> Option<(&[u8], &[u8])>
+    ensures { option_map (λ parts. (parts.0.now, parts.1.now)) result ≡ split_text input.now }
+{
+    physical_lines_join();
+    let mut at = 0;
+    while at < input.len() {
+        let rest = &input[at..];
+        let (line, after) = rest.split_at(first_line_len(rest));
+        if is_mark(line) {
+            return Some((&input[..at], after));
+        }
+        at += line.len();
+    }
+    None
+}
+
+fn is_mark(line: &[u8]) -> bool
+    ensures { result ≡ is_mark_text line.now }
+{
+    match line {
+        [a, b, c] => *a == b'%' && *b == b'%' && *c == b'\n',
+        _ => false,
+    }
+}
+
+/// The inverse script, the mark and the edited policy.
+fn edit_output(alloc: Global, script: &[u8], policy: &[u8]) -> Result<Vec<u8>, LayerFault>
+    ensures { MatchResult result (λ out. output_of_edit script.now policy.now ≡ Ok out.items)
+        (λ fault. TellsLayer fault (output_of_edit script.now policy.now)) }
+{
+    named_are_written();
+    let edits = read_script(alloc, script)?;
+    let policy = Policy::read(alloc, policy)?;
+    edited(alloc, edits.as_slice(), policy)
+}
+
+/// What comes of edits of a policy.
+fn edited(alloc: Global, edits: &[Edit], policy: Policy) -> Result<Vec<u8>, LayerFault>
+    requires { AreNamed edits.now }
+    ensures { MatchResult result (λ out. edited_output edits.now (texts policy) ≡ Ok out.items)
+        (λ fault. TellsLayer fault (edited_output edits.now (texts policy))) }
+{
+    let mut editor = Editor::new(policy);
+    editor.apply_all(edits)?;
+    let inverse = editor.inverse()?;
+    named_are_written();
+    output(alloc, &inverse, editor.policy())
+}
+
+/// A script, the mark and a policy.
+fn output(alloc: Global, inverse: &Edits, policy: &Policy) -> Result<Vec<u8>, LayerFault>
+    requires { AreNamed inverse.now }
+    ensures { MatchResult result (λ out. output_text inverse.now (texts policy.now) ≡ Ok out.items)
+        (λ fault. TellsLayer fault (output_text inverse.now (texts policy.now))) }
+{
+    named_are_written();
+    let mut out = write_script(alloc, inverse.as_slice())?;
+    out.extend_from_slice(MARK)?;
+    out.extend_from_slice(policy.text()?.as_slice())?;
+    Ok(out)
+}

@@ -1,6 +1,0 @@
-use Rattle.std.proofs.Common.{◌≡◌, ◌++◌, ◌+◌, drop}
-use Rattle.sudoers_tool.specs.ShownOutline.{shown_outlines}
-use Rattle.sudoers_tool.proofs.show.shown.Given as goal
-
-abbrev pub invariant-loop-place : goal.invariant-loop-place
-invariant-loop-place l = l.out.items ++ shown_outlines (l.place + 1) (drop l.place l.lines) ≡ shown_outlines 1 l.lines

@@ -1,0 +1,194 @@
+"""The cases that run with refused growths and failing devices: chosen from the folders and tables, or made here."""
+
+from dataclasses import dataclass
+
+import cases
+import rows
+from program import Wanted, fault
+
+
+@dataclass(frozen=True)
+class Input:
+    """How many bytes the program reads with these words, and what it answers to more."""
+
+    words: tuple
+    limit: int
+    too_large: Wanted
+
+
+EDIT = Input((), 4_000_000, fault("InputTooLarge"))
+SHOW = Input(("show", "-"), 1_048_576, fault("-: TooLarge"))
+CHECK = Input(("check", "-"), 1_048_576, Wanted(b"-: TooLarge\n", status=1))
+QUIET = Input(("check", "-q", "-"), 1_048_576, Wanted(status=1))
+
+# Folders and rows that run under every refusal and failure.
+EDITS = (
+    "delete_first_line_and_back",
+    "several_edits_and_back",
+    "replace_the_open_last_line",
+    "empty_script_and_empty_policy",
+    "word_edit_does_the_same_as_no_word",
+    "refused_edit_after_accepted_ones",
+    "insert_of_two_lines",
+    "payload_lines_count_as_script_lines",
+    "insert_without_payload",
+    "nul_on_the_open_last_line",
+    "policy_ending_in_a_continuation",
+    "mark_with_a_carriage_return",
+    "empty_input_has_no_mark",
+    "definition_may_be_replaced_by_delete_and_insert",
+    "add_a_member_in_the_middle_of_a_list_of_three_pieces",
+    "drop_the_first_member",
+    "add_of_a_member_with_a_blank_too_many",
+    "adddef_in_front",
+    "dropdef_of_the_last",
+    "dropdef_that_would_make_a_comment_an_id",
+    "rename_of_a_defined_and_mentioned_alias",
+    "rename_to_a_name_that_is_mentioned",
+    "prune_of_definitions_of_a_line",
+    "prune_is_refused_if_one_of_several_drops_is",
+    "insert_of_a_second_definition",
+    "insert_of_a_reserved_word_as_a_name",
+    "syntax_error_of_an_edit_has_its_place_in_the_result",
+    "syntax_error_of_the_policy_comes_before_edits",
+    "policy_is_read_if_the_script_is_empty",
+    "two_moves_give_moves_last_edit_first",
+    "moves_and_ends_and_back",
+    "endline_and_insert_after_it",
+    "move_of_an_open_last_line_before_another",
+    "openend_of_a_line_that_ends_in_a_continuation_and_a_line_end",
+    "endline_of_an_empty_policy",
+)
+SHOWS = (
+    "show_of_standard_input",
+    "show_of_an_empty_standard_input",
+    "show_takes_no_script",
+)
+CHECKS = (
+    "check_of_standard_input",
+    "quiet_strict_check_of_standard_input",
+    "strict_check_of_standard_input",
+    "check_of_an_empty_standard_input",
+    "check_of_a_standard_input_with_an_error",
+    "quiet_check_of_a_standard_input_with_an_error",
+)
+
+# Folders that run under every refusal of memory alone: they read no standard input.
+WORDS = (
+    "unknown_subcommand_is_a_bad_word",
+    "edit_takes_no_word",
+    "unknown_long_flag_is_a_bad_word",
+    "help_names_the_program_and_its_subcommands",
+    "help_of_edit",
+    "help_of_show",
+    "show_without_a_file",
+    "show_of_a_file_that_is_not_there",
+    "show_of_a_folder",
+    "show_of_each_kind_of_line",
+    "show_of_a_second_definition",
+    "show_of_a_reserved_word",
+    "show_of_a_syntax_error",
+    "show_of_an_open_end",
+    "show_of_a_nul",
+    "help_of_check",
+    "check_without_a_file",
+    "check_of_a_file_that_is_not_there",
+    "quiet_check_of_a_folder",
+    "check_of_a_site_with_some_of_everything",
+    "check_of_each_note_with_each_kind",
+    "quiet_strict_check_of_undefined_cyclic_and_unused_aliases",
+    "check_of_a_second_definition",
+    "check_of_a_reserved_word",
+    "check_of_a_syntax_error",
+    "check_of_an_open_end",
+    "check_of_a_nul",
+    "quiet_check_of_a_second_definition",
+)
+
+
+def ordinary_line(number):
+    """A comment, or at every fifth number a user specification."""
+    if number % 5 > 0:
+        return b"# line %d\n" % number
+    return b"user%d ALL=(ALL) \\\n    /usr/bin/tool%d\n" % (number, number)
+
+
+def many_lines_case():
+    """Twelve edits on a policy of twenty lines, so that every list grows often."""
+    numbers = range(1, 13)
+    script = b"".join(b"insert %d\n|# line %d is new\n" % (2 * n, n) for n in numbers)
+    inverse = b"".join(b"delete %d\n" % (2 * n) for n in reversed(numbers))
+    old = [ordinary_line(number) for number in range(1, 21)]
+    new = list(old)
+    for n in numbers:
+        new.insert(2 * n - 1, b"# line %d is new\n" % n)
+    wanted = Wanted(inverse + b"%%\n" + b"".join(new))
+    return cases.Case("twelve_edits_on_twenty_lines", (), script + b"%%\n" + b"".join(old), wanted)
+
+
+def many_definitions_case():
+    """`show` of twenty lines of definitions, so that every list and the index of names grow often."""
+    numbers = range(1, 21)
+    policy = b"".join(b"User_Alias A%d = bob, ann : B%d = A%d\n" % (n, n, n) for n in numbers)
+    lines = b"".join(b"%d alias %d\n%d.1 User_Alias A%d 2\n%d.2 User_Alias B%d 1\n" % (6 * (n,)) for n in numbers)
+    return cases.Case("show_of_forty_definitions", ("show", "-"), policy, Wanted(lines))
+
+
+def many_moves_case():
+    """Moves and ends on a policy of twenty lines, so that every list grows often."""
+    numbers = range(1, 7)
+    script = b"".join(b"move %d 20\nopenend\nendline\n" % n for n in numbers)
+    inverse = b"".join(b"openend\nendline\nmove 20 %d\n" % n for n in reversed(numbers))
+    old = [ordinary_line(number) for number in range(1, 21)]
+    new = list(old)
+    for n in numbers:
+        new.append(new.pop(n - 1))
+    wanted = Wanted(inverse + b"%%\n" + b"".join(new))
+    return cases.Case("eighteen_moves_and_ends_on_twenty_lines", (), script + b"%%\n" + b"".join(old), wanted)
+
+
+def many_notes_case():
+    """`check` of twenty lines with notes of each sort, so that every list and every set of names grow often."""
+    numbers = range(10, 30)
+    policy = b"".join(b"User_Alias A%d = A%d, B%d : C%d = x\n" % (4 * (n,)) for n in numbers)
+    notes = [b"%d:23: undefined User_Alias B%d" % (n - 9, n) for n in numbers]
+    notes += [b"%d:12: cyclic User_Alias A%d" % (n - 9, n) for n in numbers]
+    for n in numbers:
+        notes += [b"%d:12: unused User_Alias A%d" % (n - 9, n), b"%d:29: unused User_Alias C%d" % (n - 9, n)]
+    wanted = Wanted(b"".join(b"-:" + note + b"\n" for note in notes) + b"-: parsed OK\n")
+    return cases.Case("check_of_eighty_notes", ("check", "-"), policy, wanted)
+
+
+def inputs_at_the_limit():
+    """The greatest inputs that are read to their end."""
+    script = b"#" * EDIT.limit
+    yield cases.Case("input_of_edit_at_the_limit", EDIT.words, script, fault("NoMark"))
+    line = b"#" * 65_535 + b"\n"
+    shown = b"".join(b"%d comment %d\n" % (number, number) for number in range(1, 17))
+    yield cases.Case("input_of_show_at_the_limit", SHOW.words, line * 16, Wanted(shown))
+    yield cases.Case("input_of_check_at_the_limit", CHECK.words, line * 16, Wanted(b"-: parsed OK\n"))
+    yield cases.Case("input_of_quiet_check_at_the_limit", QUIET.words, line * 16, Wanted())
+
+
+@dataclass(frozen=True)
+class Chosen:
+    """The cases, by what is done to them."""
+
+    every: tuple
+    read: tuple
+    words: tuple
+    some: tuple
+    given: tuple
+
+    @staticmethod
+    def load():
+        """The cases of all folders and tables, chosen by their names."""
+        by_name = rows.load_every()
+        edits, shows, checks, words = ([by_name[name] for name in names] for names in (EDITS, SHOWS, CHECKS, WORDS))
+        return Chosen(
+            every=tuple(by_name.values()),
+            read=(*edits, *shows, *checks),
+            words=tuple(words),
+            some=(edits[1], edits[5], shows[0], shows[2], *checks[:2], *checks[4:]),
+            given=((edits[1], EDIT), (shows[0], SHOW), (checks[0], CHECK), (checks[1], QUIET)),
+        )
