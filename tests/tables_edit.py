@@ -638,22 +638,22 @@ class Run:
 
     def go(self, count):
         """Edits are made until there are so many; then the inverse leads back, and each is undone."""
-        per_turn = self.asks + self.queries
         turns = self.turns(4 * count)
-        calls = [[call(b"-") if script is None else call(b"1", script), *per_turn] for script in turns]
-        answers = self.answers(self.policy, sum(calls, []))
+        edits = [call(b"-") if script is None else call(b"1", script) for script in turns]
         made, upto = 0, 0
-        for script, line in zip(turns, answers[:: 1 + len(per_turn)]):
+        for script, line in zip(turns, self.answers(self.policy, edits)):
             upto += 1
             made += script is not None and line == "Ok(())"
             if made == count:
                 break
         self.check("edits made", count, made)
-        texts, before, made = self.follow(turns[:upto], answers)
+        turns, edits = turns[:upto], edits[:upto]
+        answers = self.answers(self.policy, [one for edit in edits for one in (edit, *self.asks, *self.queries)])
+        texts, before, made = self.follow(turns, answers)
         self.compare_anew(texts)
         commands = {script.split()[0] for script in self.scripts}
         self.check("commands made", commands, {script.split()[0] for script in made})
-        self.come_back(sum(calls[:upto], []), texts[-1][1], before)
+        self.come_back(edits, texts[-1][1], before)
 
     def come_back(self, calls, text, before):
         """The inverse leads back to the policy, and each edit is undone."""
