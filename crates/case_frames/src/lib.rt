@@ -1,7 +1,7 @@
 //! The cases that a program of cases reads from standard input.
 //!
-//! A case is a byte that says what is asked, the length of its body in eight bytes, greatest first, and the body.
-//! A part is its length in eight bytes, and so many bytes. A body holds parts, or parts and then further cases.
+//! A case is one byte that names the question, the length of the body in eight bytes (most significant first), and the body.
+//! A part is a length in eight bytes, and then the bytes. A body holds parts, or parts and then further cases.
 #![tactic(auto)]
 
 use std::io;

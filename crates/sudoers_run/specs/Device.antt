@@ -61,15 +61,16 @@ TakesAtMost old new most = (bytes : List ℕ) × (length bytes ≤ most) × Cons
 abbrev pub TakesExactly : Option (List ℕ) → Option (List ℕ) → ℕ → Type 0
 TakesExactly old new count = (bytes : List ℕ) × (length bytes ≡ count) × Consumes old new bytes
 
--- What a call does with a reader that it asks until the end: a failure is told exactly where the reader failed, it is asked at most so often,
--- and it is given up only after so many calls with room.
+-- What a call does with its reader. `Read` means that the count of failures rose, and without `Read` it did not. The reader is asked
+-- at most `most` times. `NoEnd` comes only after `most` calls with room for a byte.
 pub record Reads {A : Type 0} (most : ℕ) (result : Result A ToolFault) (failures failures-new pulls pulls-new offers offers-new : ℕ) : Type 0 where
   pub told : result ≡ Err Read → Rose failures failures-new
   pub well : result ≢ Err Read → failures-new ≡ failures
   pub asked : pulls-new ≤ pulls + most
   pub no_end : result ≡ Err NoEnd → counted_by most offers ≤ offers-new
 
--- What a call does with a writer: a failure is told exactly where the writer failed, and nothing is written before any other fault.
+-- What a call does with its writer. `Write` means that the count of failures rose, and without `Write` it did not. Before any other
+-- fault nothing is written.
 pub record Writes {A : Type 0} (result : Result A ToolFault) (failures failures-new : ℕ) (contents contents-new : Option (List ℕ)) : Type 0 where
   pub told : result ≡ Err Write → Rose failures failures-new
   pub well : result ≢ Err Write → failures-new ≡ failures

@@ -37,11 +37,11 @@ pub fn run_check<R: Source, W: Sink>(
         Appends (W.contents writer.old) (W.contents writer.new) (check_output file.now quiet strict input))) }
     // A fault is one of the devices or want of memory.
     ensures named { IfErr result IsCheckFault }
-    // Where a write failed a front of the output is written.
+    // After `Write`, what was written is a beginning of the output.
     ensures front { result ≡ Err ToolFault.Write → IfSome (R.remaining reader.old) (λ input.
         AppendsFront (W.contents writer.old) (W.contents writer.new) (check_output file.now quiet strict input)) }
-    // `Read` and `Write` are told exactly where that device failed; the reader is asked at most so often, and `NoEnd` is told only
-    // after so many calls with room.
+    // `Read` means that the reader failed, and `Write` that the writer failed, as their counts show. The reader is asked at most
+    // `pull_limit` times. `NoEnd` comes only after that many calls with room for a byte.
     ensures reads { Reads pull_limit result (R.Source.failures reader.old) (R.Source.failures reader.new)
         (R.Source.pulls reader.old) (R.Source.pulls reader.new) (R.offers reader.old) (R.offers reader.new) }
     ensures writes { Writes result (W.Sink.failures writer.old) (W.Sink.failures writer.new)
