@@ -5,7 +5,7 @@ ghost use Rattle.sudoers_text.specs.Unit.{LineUnit};
 ghost use Rattle.sudoers_text.specs.Left.{Agrees};
 ghost use Rattle.sudoers_text.specs.Context.{is_scope_sign, is_parameter_mark, word_forms, command_forms, parameter_forms, first_forms, scope_forms, forms, is_mark, is_word, behind_mark, behind_word, behind_command, behind_option_value, behind_argument, behind_quoted_argument, behind_parameter, is_member, begins, behind_first, behind};
 
-use crate::part::{Rule, begins_with, run_len, whole_len};
+use crate::part::{Rule, begins_with, is_whole_argument, run_len};
 use crate::piece::begins_scope;
 use crate::token::{Mode, TokenKind};
 use crate::word::{is_digest_kind, is_include_word, is_option_name, is_tag};
@@ -117,7 +117,7 @@ fn behind_argument(kind: TokenKind, text: &[u8]) -> Context
 {
     match kind {
         TokenKind::Punct => behind_mark(Context::Hosts, Context::Commands, text),
-        TokenKind::Arg if whole_len(text) != text.len() => Context::QuotedArgument,
+        TokenKind::Arg if !is_whole_argument(text) => Context::QuotedArgument,
         _ => Context::Arguments,
     }
 }
