@@ -1,0 +1,11 @@
+pub mod Keeps
+pub mod Repeats
+pub mod Parts
+pub mod Members
+pub mod Digests
+pub mod Commands
+pub mod Specs
+pub mod Aliases
+pub mod Defaults
+pub mod Whole
+pub mod First

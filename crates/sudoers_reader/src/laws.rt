@@ -1,0 +1,20 @@
+//! Laws of the descent. Each is the contract of a function that does nothing.
+
+ghost use Rattle.std.specs.Prelude.{◌≡◌, List, [], ◌++◌};
+ghost use Rattle.sudoers_line.specs.declared.node.Node.{Node as NodeOf};
+ghost use Rattle.sudoers_line.specs.Piece.{Piece as PieceOf};
+ghost use Rattle.sudoers_line.specs.Grammar.{Reads};
+ghost use Rattle.sudoers_line.specs.Fault.{IsFirstFault};
+ghost use Rattle.sudoers_reader.specs.Reader.{Read, Halt};
+ghost use Rattle.sudoers_reader.specs.Descent.{line, cause_at};
+
+/// The descent reads exactly what the grammar has. It halts at the first fault, and `cause_at` is the cause of that fault.
+pub fn descent_is()
+    // The tokens say what is read, and none of them is left.
+    ensures sound { (ts : List PieceOf) (node : NodeOf) (rest : List PieceOf) → line ts ≡ Read node rest → (rest ≡ []) × Reads ts node }
+    // What the tokens say is read.
+    ensures complete { (ts : List PieceOf) (node : NodeOf) → Reads ts node → line ts ≡ Read node [] }
+    // A halt is the first fault, with its cause.
+    ensures fault { (ts rest : List PieceOf) → line ts ≡ Halt rest
+        → (before : List PieceOf) × (ts ≡ before ++ rest) × IsFirstFault ts rest (cause_at before rest) }
+{}
