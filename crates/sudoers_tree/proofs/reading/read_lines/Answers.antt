@@ -1,12 +1,13 @@
-use Rattle.std.proofs.Common.{◌≡◌, ◌∙◌, ◌++◌, ◌∷◌, [], ◌<◌, List, ℕ, length, take, drop, slice_get, Option, Some, None, Err, sym, ap, subst, rules, arith}
+use Rattle.std.proofs.Common.{◌≡◌, ◌∙◌, ◌++◌, ◌∷◌, [], ◌+◌, ◌-◌, ◌<◌, ◌≤◌, List, ℕ, length, take, drop, slice_get, Option, Some, None, Ok, Err, sym, ap, subst, rules, arith}
 use Rattle.std.proofs.lemmas.List.{length-append}
 use Rattle.std.proofs.lemmas.Option.{slice_get_within}
 use Rattle.sudoers_text.specs.Line.{join}
+use Rattle.sudoers_text.specs.Fault.{text_limit}
 use Rattle.sudoers_tree.specs.declared.line.Line.{Line}
 use Rattle.sudoers_tree.specs.declared.fault.ReadFault.{ReadFault}
 use Rattle.sudoers_tree.specs.Policy.{texts}
-use Rattle.sudoers_tree.specs.Reading.{read_behind}
-use Rattle.sudoers_tree.specs.Index.{ReadsAll}
+use Rattle.sudoers_tree.specs.Reading.{line_behind, read_behind}
+use Rattle.sudoers_tree.specs.Index.{Takes, ReadsAll}
 use Rattle.sudoers_tree.proofs.Joined.{fits_before, drop_none}
 use Rattle.sudoers_tree.proofs.Taken.{next_texts, next_read, stops}
 use Rattle.sudoers_tree.proofs.reading.read_lines.Goals as goal
@@ -15,24 +16,29 @@ use Rattle.sudoers_tree.proofs.reading.read_lines.Goals as goal
 at_next : (lines : List (List ℕ)) (n m : ℕ) (o : Option (List ℕ)) → n ≡ m → o ≡ slice_get lines n → slice_get lines m ≡ o
 at_next lines n m o same is = ap (slice_get lines) (sym same) ∙ sym is
 
+room : (lines : List (List ℕ)) (read : List Line) (text : List ℕ) → texts read ≡ take (length read) lines → slice_get lines (length read) ≡ Some text
+    → length (join lines) ≤ text_limit → length (join (texts read)) + length text ≤ text_limit
+room lines read text front next fits =
+    let before : length (join (texts read)) ≡ length (join (take (length read) lines)) = ap (λ ts. length (join ts)) front in
+    omega (arith, fits_before lines (length read) text next, before, fits)
+
+fewer : (lines : List (List ℕ)) (read new : List Line) (line : Line) (text : List ℕ) → slice_get lines (length read) ≡ Some text → new ≡ read ++ line ∷ []
+    → length lines - length new < length lines - length read
+fewer lines read new line text next more = omega (arith, slice_get_within lines (length read) text next, ap length more, length-append read (line ∷ []))
+
 pub take_line-requires-clause-fits : goal.take_line-requires-clause-fits
 take_line-requires-clause-fits c =
     let read : List Line = c.loop-text.reading.lines.items in
     let count : c.len-in-loop-text.result ≡ length read = search rules in
     let next = at_next c.args.lines.now c.len-in-loop-text.result (length read) (Some c.in-Some.text.now) count c.in-Some.ensures in
-    let fits = fits_before c.args.lines.now (length read) c.in-Some.text.now next in
-    let front : length (join (texts read)) ≡ length (join (take (length read) c.args.lines.now)) = ap (λ ts. length (join ts)) c.loop-text.invariant.0 in
-    omega (arith, fits, front, c.requires)
+    room c.args.lines.now read c.in-Some.text.now c.loop-text.invariant.0 next c.requires
 
 pub loop-text-smaller : goal.loop-text-smaller
 loop-text-smaller c =
     let read : List Line = c.loop-text.reading.lines.items in
     let count : c.len-in-loop-text.result ≡ length read = search rules in
     let next = at_next c.args.lines.now c.len-in-loop-text.result (length read) (Some c.in-Some.text.now) count c.in-Some.ensures in
-    let within : length read < length c.args.lines.now = slice_get_within c.args.lines.now (length read) c.in-Some.text.now next in
-    let line : Line = c.in_ok-take_line.ensures.taken.0 in
-    let more : length c.take_line.new.self.lines.items ≡ length (read ++ line ∷ []) = ap length c.in_ok-take_line.ensures.taken.2 in
-    omega (arith, within, more, length-append read (line ∷ []))
+    fewer c.args.lines.now read c.take_line.new.self.lines.items c.in_ok-take_line.ensures.taken.0 c.in-Some.text.now next c.in_ok-take_line.ensures.taken.2
 
 pub loop-text-preserved : goal.loop-text-preserved
 loop-text-preserved c =
@@ -41,7 +47,7 @@ loop-text-preserved c =
     let count : c.len-in-loop-text.result ≡ length read = search rules in
     let next = at_next lines c.len-in-loop-text.result (length read) (Some c.in-Some.text.now) count c.in-Some.ensures in
     let line : Line = c.in_ok-take_line.ensures.taken.0 in
-    let is = c.in_ok-take_line.ensures.taken.1 in
+    let is : line_behind read c.in-Some.text.now ≡ Ok line = c.in_ok-take_line.ensures.taken.1 in
     let more : read ++ line ∷ [] ≡ c.take_line.new.self.lines.items = sym c.in_ok-take_line.ensures.taken.2 in (
       subst (λ ls. texts ls ≡ take (length ls) lines) more (next_texts lines read c.in-Some.text.now line c.loop-text.invariant.0 next is),
       c.in_ok-take_line.ensures.reading,
@@ -56,8 +62,9 @@ returns-in_err-take_line c =
     let next = at_next lines c.len-in-loop-text.result (length read) (Some c.in-Some.text.now) count c.in-Some.ensures in
     let fault : ReadFault = c.in_err-take_line.field-0.0 in
     let same : c.from_residual-in_err-take_line.result ≡ Err fault = search rules in
+    let taken : Takes (Err fault) read c.take_line.new.self.lines.items (line_behind read c.in-Some.text.now) = c.in_err-take_line.ensures.taken in
     subst (λ r. ReadsAll r (read_behind [] lines)) (sym same)
-    (stops lines read c.take_line.new.self.lines.items c.in-Some.text.now fault next c.loop-text.invariant.2 c.in_err-take_line.ensures.taken)
+    (stops lines read c.take_line.new.self.lines.items c.in-Some.text.now fault next c.loop-text.invariant.2 taken)
 
 pub returns : goal.returns
 returns c =

@@ -1,4 +1,4 @@
-use Rattle.std.proofs.Common.{◌≡◌, ◌∙◌, ◌⊎◌, List, ℕ, insert, IfErr, ap, sym, subst, rules, Ok, Err}
+use Rattle.std.proofs.Common.{◌≡◌, ◌∙◌, ◌⊎◌, List, ℕ, insert, Result, IfErr, OnErr, refl, ap, sym, subst, rules, Ok, Err}
 use Rattle.sudoers_text.specs.Line.{join}
 use Rattle.sudoers_tree.specs.declared.fault.ReadFault.{ReadFault}
 use Rattle.sudoers_tree.specs.declared.fault.ReadFault.TheVariants.{NoMemory}
@@ -28,3 +28,10 @@ returns-in_err-self-inside-clause-fault c =
     ∙ ap (λ before. join (insert (texts before) c.args.at c.args.line.now)) (c.as_slice.ensures.value ∙ c.self.view_is) in
     subst (λ r. IfErr r (λ e. (e ≡ NoMemory) ⊎ IsFaultOf (join lines) e)) (sym same)
     (subst (λ t. (fault ≡ NoMemory) ⊎ IsFaultOf t fault) text c.in_err-self-inside.ensures.fault)
+
+when_refused : (r : Result (Unit {0}) ReadFault) (P : Type 0) → P → OnErr r P
+when_refused (Ok u) P p = tt
+when_refused (Err fault) P p = p
+
+pub returns-in_err-self-inside-clause-unchanged : goal.returns-in_err-self-inside-clause-unchanged
+returns-in_err-self-inside-clause-unchanged c = when_refused c.from_residual-in_err-self-inside.result _ refl
