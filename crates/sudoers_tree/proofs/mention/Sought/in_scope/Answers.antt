@@ -1,9 +1,8 @@
-use Rattle.std.proofs.Common.{◌≡◌, ◌∙◌, ◌++◌, if◌then◌else◌, true, [], List, Option, Some, OnOk, refl, ap, sym, subst, rules}
+use Rattle.std.proofs.Common.{◌≡◌, ◌∙◌, ◌++◌, if◌then◌else◌, true, [], Some, OnOk, refl, ap, sym, subst, rules}
 use denote.Enum.Bare.{same_true}
 use Rattle.sudoers_line.specs.contracts.node.Kind.{the_type}
 use Rattle.sudoers_line.specs.declared.node.Kind.{Kind}
 use Rattle.sudoers_line.specs.declared.node.Kind.TheVariants.{User, Runas, Host, Cmnd}
-use Rattle.sudoers_line.specs.declared.node.Member.{Member}
 use Rattle.sudoers_line.specs.declared.node.Scope.{Scope}
 use Rattle.sudoers_tree.specs.Definition.{is_kind}
 use Rattle.sudoers_tree.specs.Mention.{in_scope, spans_of}
