@@ -8,6 +8,7 @@ pub mod Lists
 pub mod Computed
 pub mod Local
 pub mod Closed
+pub mod FirstLf
 pub mod Outcomes
 pub mod Found
 pub mod LogicalLine

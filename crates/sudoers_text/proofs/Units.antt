@@ -14,6 +14,11 @@ bool_false : (b : Bool) → (b ≡ true → ⊥) → b ≡ false
 bool_false true h = absurd (h refl)
 bool_false false h = refl
 
+pub neither : (a b : Bool) → ((a || b) ≡ true → ⊥) → (a ≡ false) × (b ≡ false)
+neither true b none = absurd (none refl)
+neither false true none = absurd (none refl)
+neither false false none = (refl, refl)
+
 and_false : (b : Bool) → (b && false) ≡ false
 and_false true = refl
 and_false false = refl

@@ -7,7 +7,7 @@ ghost use Rattle.sudoers_text.specs.Fault.{EndsOpen, IsFirstFault, StandsIn, lf_
 
 use crate::fault::TextFault;
 use crate::unit::{Left, line_end_len, unit_at};
-use memchr::memchr;
+use memchr::{memchr, memchr2};
 use std::alloc::{AllocError, Global};
 
 /// How many bytes a text may have.
@@ -111,8 +111,27 @@ fn physical_line(text: &[u8], at: usize) -> usize
     text[..at].iter().filter(|byte| **byte == b'\n').count() + 1
 }
 
-/// The end of the line that begins at a place.
+/// Returns the end of the line that begins at a place.
 pub fn line_end(text: &[u8], start: usize) -> LineEnd
+    requires { start < length text.now }
+    ensures later { start < result.stop }
+    ensures inside { result.stop ≤ length text.now }
+    ensures line { IsLine (slice_range text.now start result.stop) (drop result.stop text.now) }
+    ensures open_text { result.stop ≡ length text.now
+        → (IsTrue result.continues ↔ IsOpen (slice_range text.now start result.stop)) }
+{
+    let rest = &text[start..];
+    match memchr2(b'\n', b'\\', rest) {
+        Some(lf) if rest[lf] == b'\n' => LineEnd {
+            stop: start + lf + 1,
+            continues: false,
+        },
+        _ => end_by_units(text, start),
+    }
+}
+
+/// Returns the end of the line that begins at a place. It is read unit by unit.
+fn end_by_units(text: &[u8], start: usize) -> LineEnd
     requires { start < length text.now }
     ensures later { start < result.stop }
     ensures inside { result.stop ≤ length text.now }

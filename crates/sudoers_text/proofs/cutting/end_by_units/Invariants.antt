@@ -1,6 +1,6 @@
 use Rattle.std.proofs.Common.{◌-◌, length}
 use Rattle.sudoers_text.proofs.Reading.{Reading}
-use Rattle.sudoers_text.proofs.cutting.line_end.Given as goal
+use Rattle.sudoers_text.proofs.cutting.end_by_units.Given as goal
 
 abbrev pub invariant-loop-unit : goal.invariant-loop-unit
 invariant-loop-unit l = Reading l.text l.start l.at l.left
