@@ -1,9 +1,10 @@
 //! What a word stands for.
 
-ghost use Rattle.std.specs.Prelude.{◌≡◌, ◌≤◌, ◌<◌, ◌++◌, length, IfOk, OnOk, Option, Some, None, true, if◌then◌else◌};
-ghost use Rattle.sudoers_text.specs.Value.{is_hex, hex_number, begins_hex, hex_byte, blanks_size, escape_taken, escape_value, value_of};
+ghost use Rattle.std.specs.Prelude.{◌≡◌, ◌≤◌, ◌<◌, ◌++◌, length, take, drop, false, IfOk, OnOk, Option, Some, None, true, if◌then◌else◌};
+ghost use Rattle.sudoers_text.specs.Value.{is_hex, hex_number, begins_hex, hex_byte, blanks_size, escape_taken, escape_value, value_from, value_of};
 
 use crate::unit::{begins_line_end, is_blank, line_end_len};
+use memchr::memchr2;
 use std::alloc::{AllocError, Global};
 
 /// Whether it is a hexadecimal digit.
@@ -86,6 +87,14 @@ fn push_escape(value: &mut Vec<u8>, quoted: bool, rest: &[u8]) -> Result<(), All
     Ok(())
 }
 
+/// Returns how many bytes stand before the first quote or backslash.
+fn plain_len(word: &[u8]) -> usize
+    ensures within { result ≤ length word.now }
+    ensures plain { take result word.now ++ value_from 0 false (drop result word.now) ≡ value_from 0 false word.now }
+{
+    memchr2(b'"', b'\\', word).unwrap_or(word.len())
+}
+
 /// What a word stands for, without its quotes and escapes (sudoers(5), Aliases; Other special characters and reserved words).
 ///
 /// # Errors
@@ -95,9 +104,9 @@ fn push_escape(value: &mut Vec<u8>, quoted: bool, rest: &[u8]) -> Result<(), All
 pub fn value(alloc: Global, word: &[u8]) -> Result<Vec<u8>, AllocError>
     ensures { IfOk result (λ value. value.items ≡ value_of word.now) }
 {
-    let mut value = Vec::new(alloc);
+    let mut at = plain_len(word);
+    let mut value = Vec::from_slice(alloc, &word[..at])?;
     let mut quoted = false;
-    let mut at = 0;
     while at < word.len() {
         let byte = word[at];
         at += 1;
