@@ -1,8 +1,10 @@
 -- The patterns that texts are.
-use Rattle.std.proofs.Common.{◌≡◌, ℕ, zero, suc, ◌+◌, ◌-◌, ◌<◌, List, [], ◌∷◌, ◌++◌, length, take, drop, get_or, refl, sym, ap, ◌∙◌, append_assoc}
+use Rattle.std.proofs.Common.{◌≡◌, ◌≢◌, ℕ, zero, suc, ◌+◌, ◌-◌, ◌<◌, ◌≤◌, List, [], ◌∷◌, ◌++◌, length, take, drop, get_or, refl, sym, ap, ◌∙◌, append_assoc, arith, Some, inl, inr}
+use Rattle.std.specs.Prelude.{slice_get}
+use Rattle.std.proofs.lemmas.Bool.Decides.{eqb_tells}
 use Rattle.std.proofs.lemmas.List.{drop-drop, drop_more, take_rest}
 use Rattle.sudoers_line.specs.declared.pattern.Spelling.{Spelling}
-use Rattle.sudoers_line.specs.Pattern.{taken, escape_pattern, pattern_from}
+use Rattle.sudoers_line.specs.Pattern.{plain, taken, escape_pattern, pattern_from}
 
 -- behind what is passed over, the rest is read as if it stood alone
 pattern_behind : (k : ℕ) (s : Spelling) (text : List ℕ) → pattern_from s k text ≡ pattern_from s 0 (drop k text)
@@ -26,3 +28,14 @@ pattern_more s text out more at size inside is appended same_size =
     let front : more ≡ out ++ escape_pattern s rest = appended ∙ ap (λ (bytes : List ℕ). out ++ escape_pattern s bytes) whole in
     let same : size ≡ taken rest = same_size ∙ ap taken whole in
     rw (front, same) (append_assoc out (escape_pattern s rest) _ ∙ sym (ap (λ (ys : List ℕ). out ++ ys) (pattern_escape s text at inside is)))
+
+-- Bytes before the first backslash are their own pattern, where each byte is.
+pub pattern_plain : (s : Spelling) → ((b : ℕ) → plain s b ≡ b ∷ []) → (text : List ℕ) (at : ℕ) → at ≤ length text → ((k : ℕ) → k < at → slice_get text k ≢ Some 92) → take at text ++ pattern_from s 0 (drop at text) ≡ pattern_from s 0 text
+pattern_plain s own text zero within none = refl
+pattern_plain s own [] (suc at) within none = absurd (omega arith)
+pattern_plain s own (b ∷ text) (suc at) within none =
+    let later = pattern_plain s own text at (omega arith) (λ k below. none (suc k) (omega arith)) in
+    elim (eqb_tells b 92) [
+      | inl w ↦ absurd (none 0 (omega arith) (ap (λ (c : ℕ). Some c) w.1))
+      | inr w ↦ rw (w.0, own b) (ap (λ (t : List ℕ). b ∷ t) later)
+    ]

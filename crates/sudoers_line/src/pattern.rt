@@ -1,7 +1,7 @@
 //! Patterns without the escapes of the policy (sudoers(5), Wildcards; Other special characters and reserved words).
 
-ghost use Rattle.std.specs.Prelude.{◌≡◌, ◌≤◌, ◌++◌, length, IfOk, OnOk};
-ghost use Rattle.sudoers_line.specs.Pattern.{is_special, literal, is_escaped_byte, plain, loses_backslash, pair, taken, escape_pattern, pattern_of};
+ghost use Rattle.std.specs.Prelude.{◌≡◌, ◌≢◌, ◌<◌, ◌≤◌, ◌++◌, ℕ, length, take, drop, slice_get, Some, IfOk, OnOk};
+ghost use Rattle.sudoers_line.specs.Pattern.{is_special, literal, is_escaped_byte, plain, loses_backslash, pair, taken, escape_pattern, pattern_from, pattern_of};
 
 use crate::items::Items;
 use std::alloc::{AllocError, Global};
@@ -112,6 +112,30 @@ fn push_escape(pattern: &mut Vec<u8>, spelling: Spelling, rest: &[u8]) -> Result
     }
 }
 
+/// Returns the place of the first backslash, or the text's end.
+fn first_backslash(text: &[u8]) -> usize
+    ensures inside { result ≤ length text.now }
+    ensures before { (k : ℕ) → k < result → slice_get text.now k ≢ Some 92 }
+{
+    for (i, byte) in text.iter().enumerate() {
+        if *byte == b'\\' {
+            return i;
+        }
+    }
+    text.len()
+}
+
+/// Returns how many bytes begin the text that are their own pattern, up to the first backslash.
+fn plain_len(spelling: Spelling, text: &[u8]) -> usize
+    ensures within { result ≤ length text.now }
+    ensures plain { take result text.now ++ pattern_from spelling 0 (drop result text.now) ≡ pattern_from spelling 0 text.now }
+{
+    match spelling {
+        Spelling::Command | Spelling::Host => first_backslash(text),
+        Spelling::QuotedHost => 0,
+    }
+}
+
 /// The pattern that a text is.
 ///
 /// # Errors
@@ -121,8 +145,9 @@ fn push_escape(pattern: &mut Vec<u8>, spelling: Spelling, rest: &[u8]) -> Result
 pub fn pattern(alloc: Global, spelling: Spelling, text: &[u8]) -> Result<Items<u8>, AllocError>
     ensures { IfOk result (λ pattern. pattern ≡ pattern_of spelling text.now) }
 {
+    let mut at = plain_len(spelling, text);
     let mut pattern = Vec::with_capacity(alloc, text.len())?;
-    let mut at = 0;
+    pattern.extend_from_slice(&text[..at])?;
     while at < text.len() {
         let byte = text[at];
         at += 1;
