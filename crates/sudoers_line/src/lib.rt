@@ -24,6 +24,9 @@ mod state;
 mod step;
 
 pub use alias::AliasMember;
+pub use atom::{atom_of, bare_command, option_value, path_value, takes_digests};
+pub use awaited::Awaited;
+pub use cause::cause as cause_of;
 pub use fault::{LineFault, Why};
 pub use items::Items;
 pub use laws::{
@@ -34,4 +37,6 @@ pub use node::{
     Operator, OptionName, Param, RunasSpec, Scope, Setting, Tag,
 };
 pub use outline::{Outline, parse_outline};
+pub use part::{Part, begins_with, ends_with, part_of};
+pub use pattern::{Spelling, pattern as pattern_of};
 pub use reading::parse;

@@ -7,7 +7,7 @@ use Rattle.sudoers_line.specs.Fault.{BeginsLegal, Would, some_word, some_stamp, 
 use Rattle.sudoers_reader.specs.Reader.{Outcome, Read, Halt}
 use Rattle.sudoers_reader.specs.Descent.{line, goes_on, may_stand, awaited, cause_at}
 use Rattle.sudoers_reader.proofs.Keeps.{Alike, Tells, always}
-use Rattle.sudoers_reader.proofs.Whole.{IsLine, line_lawful}
+use Rattle.sudoers_reader.proofs.LineLaws.{IsLine, line_lawful}
 
 not_both : (n : Node) (rest ts : List Piece) → Read n rest ≡ Halt ts → ⊥
 not_both n rest ts e = cc

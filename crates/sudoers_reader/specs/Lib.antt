@@ -1,2 +1,4 @@
 pub mod Reader
 pub mod Descent
+pub mod Cursor
+pub mod Tables

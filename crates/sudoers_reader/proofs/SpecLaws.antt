@@ -24,8 +24,8 @@ use Rattle.sudoers_reader.specs.Descent.{argument, says, members, inside, runas_
 use Rattle.sudoers_reader.proofs.Keeps.{Rule, Stops, Lawful, never, stops_never, IsPure, pure_lawful, IsOne, Sample, one_lawful, IsToken, IsThen, Begins}
 use Rattle.sudoers_reader.proofs.Repeats.{Shrinks, shrinks_one, shrinks_then, no_longer, mark_lawful, behind_lawful, behind_begins, separated_lawful, all_lawful, many_begins}
 use Rattle.sudoers_reader.proofs.Parts.{then_is, then_free, says_as, map_lawful, list_or_none, IsMaybe, maybe_lawful, either_off, off_both, is_none}
-use Rattle.sudoers_reader.proofs.Members.{members_begin, members_lawful}
-use Rattle.sudoers_reader.proofs.Commands.{on_commands, command_begins, command_lawful}
+use Rattle.sudoers_reader.proofs.MemberLaws.{members_begin, members_lawful}
+use Rattle.sudoers_reader.proofs.CommandLaws.{on_commands, command_begins, command_lawful}
 
 -- ---- "(" List? (":" List)? ")"
 

@@ -16,9 +16,9 @@ use Rattle.sudoers_reader.specs.Descent.{members, list, definition, def, alias, 
 use Rattle.sudoers_reader.proofs.Keeps.{Rule, Lawful, never, IsPure, IsOne, Sample, one_lawful, IsToken, token_lawful, IsThen}
 use Rattle.sudoers_reader.proofs.Repeats.{mark_lawful, separated_lawful}
 use Rattle.sudoers_reader.proofs.Parts.{then_free, says_as, wider, map_lawful, either_off}
-use Rattle.sudoers_reader.proofs.Members.{members_lawful, some_all}
-use Rattle.sudoers_reader.proofs.Commands.{on_commands, commands_lawful}
-use Rattle.sudoers_reader.proofs.Specs.{colon_ends}
+use Rattle.sudoers_reader.proofs.MemberLaws.{members_lawful, some_all}
+use Rattle.sudoers_reader.proofs.CommandLaws.{on_commands, commands_lawful}
+use Rattle.sudoers_reader.proofs.SpecLaws.{colon_ends}
 
 -- ---- List, of that kind
 

@@ -14,11 +14,11 @@ use Rattle.sudoers_reader.specs.Reader.{comes, ◌>>=◌, token, choose, ended}
 use Rattle.sudoers_reader.specs.Descent.{argument, says, comment, alias, include, defaults, spec, last, anything, line}
 use Rattle.sudoers_reader.proofs.Keeps.{Rule, Stops, Lawful, IsToken, token_lawful, IsThen, IsEither, Begins, choose_lawful, always, stops_always, IsEnded, ended_lawful}
 use Rattle.sudoers_reader.proofs.Parts.{then_is, then_free, says_as, off_both, is_none, EachWhere, Suits, choice, first_some}
-use Rattle.sudoers_reader.proofs.Members.{members_begin}
-use Rattle.sudoers_reader.proofs.Commands.{on_commands}
-use Rattle.sudoers_reader.proofs.Specs.{on_groups_of, IsSpec, spec_lawful}
-use Rattle.sudoers_reader.proofs.Aliases.{on_defs, IsAliasThen, alias_lawful, IsIncludeThen, include_lawful}
-use Rattle.sudoers_reader.proofs.Defaults.{on_params, IsScoped, IsParams, IsDefaultsThen, defaults_lawful}
+use Rattle.sudoers_reader.proofs.MemberLaws.{members_begin}
+use Rattle.sudoers_reader.proofs.CommandLaws.{on_commands}
+use Rattle.sudoers_reader.proofs.SpecLaws.{on_groups_of, IsSpec, spec_lawful}
+use Rattle.sudoers_reader.proofs.AliasLaws.{on_defs, IsAliasThen, alias_lawful, IsIncludeThen, include_lawful}
+use Rattle.sudoers_reader.proofs.DefaultsLaws.{on_params, IsScoped, IsParams, IsDefaultsThen, defaults_lawful}
 
 -- ---- the end, or a comment
 

@@ -24,8 +24,8 @@ use Rattle.sudoers_reader.specs.Descent.{argument, first_argument, says, member_
 use Rattle.sudoers_reader.proofs.Keeps.{Rule, Stops, Lawful, never, stops_never, IsPure, IsOne, Sample, one_lawful, IsToken, token_lawful, IsThen, IsEither, IsFrom, Full, from_lawful, Begins, choose_lawful}
 use Rattle.sudoers_reader.proofs.Repeats.{folded, IsMany, many_lawful, shrinks_token, separated_lawful}
 use Rattle.sudoers_reader.proofs.Parts.{then_is, then_free, says_as, made, map_lawful, either_off, off_both, is_none}
-use Rattle.sudoers_reader.proofs.Members.{token_many, many_token, IsSigns, to_signs, from_signs, signs_lawful, some_all}
-use Rattle.sudoers_reader.proofs.Digests.{AreDigests, on_digests, digests_lawful}
+use Rattle.sudoers_reader.proofs.MemberLaws.{token_many, many_token, IsSigns, to_signs, from_signs, signs_lawful, some_all}
+use Rattle.sudoers_reader.proofs.DigestLaws.{AreDigests, on_digests, digests_lawful}
 
 -- ---- Arg*
 

@@ -20,9 +20,9 @@ use Rattle.sudoers_reader.specs.Descent.{argument, parameter, value, says, scope
 use Rattle.sudoers_reader.proofs.Keeps.{Rule, Stops, Completes, Lawful, Full, never, stops_never, IsPure, IsOne, Sample, one_lawful, IsToken, token_lawful, IsThen, IsEither, Begins, choose_lawful}
 use Rattle.sudoers_reader.proofs.Repeats.{separated_lawful}
 use Rattle.sudoers_reader.proofs.Parts.{then_is, then_free, says_as, wider, made, map_lawful, either_off, off_both, EachWhere, choice, first_some, suits_full}
-use Rattle.sudoers_reader.proofs.Members.{IsSigns, to_signs, from_signs, signs_lawful}
-use Rattle.sudoers_reader.proofs.Commands.{on_commands, scope_commands_lawful}
-use Rattle.sudoers_reader.proofs.Aliases.{wide_members}
+use Rattle.sudoers_reader.proofs.MemberLaws.{IsSigns, to_signs, from_signs, signs_lawful}
+use Rattle.sudoers_reader.proofs.CommandLaws.{on_commands, scope_commands_lawful}
+use Rattle.sudoers_reader.proofs.AliasLaws.{wide_members}
 
 -- ---- Sign List
 
