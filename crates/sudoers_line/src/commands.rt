@@ -331,7 +331,7 @@ fn is_no_arguments(text: &[u8], pattern: &[u8]) -> bool
 }
 
 /// The arguments with one more.
-fn with_argument(alloc: Global, args: Args, text: &[u8]) -> Result<Args, AllocError>
+pub fn with_argument(alloc: Global, args: Args, text: &[u8]) -> Result<Args, AllocError>
     ensures { IfOk result (λ more. more ≡ with_argument args text.now) }
 {
     let pattern = pattern(alloc, Spelling::Command, text)?;

@@ -27,6 +27,7 @@ pub use alias::AliasMember;
 pub use atom::{atom_of, bare_command, option_value, path_value, takes_digests};
 pub use awaited::Awaited;
 pub use cause::cause as cause_of;
+pub use commands::with_argument;
 pub use fault::{LineFault, Why};
 pub use items::Items;
 pub use laws::{

@@ -59,7 +59,7 @@ from_def : (k : Kind) (ts : List Piece) (d : Def) (rest : List Piece) → IsDef 
 from_def k ts d rest h =
     (h.name, h.equals ∷ h.behind, (h.split, h.is_name), (h.equals, h.behind, (refl, h.is_equals), (d.members, rest, h.members, (refl, λ i. record { name = h.same_name i; start = h.start i; stop = h.stop i; members = d.members }))))
 
-def_lawful : (k : Kind) → Lawful (def k) (IsDef k) on_commands
+pub def_lawful : (k : Kind) → Lawful (def k) (IsDef k) on_commands
 unfolding def
 def_lawful k = says_as (to_def k) (from_def k) (then_free (token_lawful is_alias_name some_all name_is) (λ n. then_free (mark_lawful 61) (λ _. map_lawful (definition n) (list_lawful k))))
 

@@ -6,7 +6,7 @@ use Rattle.sudoers_line.specs.declared.node.DigestKind.{DigestKind}
 use Rattle.sudoers_line.specs.declared.node.DigestKind.TheVariants as digest_of_kind
 use Rattle.sudoers_line.specs.Piece.{Piece, is_some, is_mark, digest_kind}
 use Rattle.sudoers_line.specs.Grammar.{Separated, Perhaps, IsDigest}
-use Rattle.sudoers_reader.specs.Reader.{comes}
+use Rattle.sudoers_reader.specs.Reader.{separated, comes}
 use Rattle.sudoers_reader.specs.Descent.{digest_text, says, digest_of, digest, digests}
 use Rattle.sudoers_reader.proofs.Keeps.{Rule, Lawful, never, stops_never, IsPure, IsOne, Sample, one_lawful, IsToken, token_lawful, IsThen, Begins}
 use Rattle.sudoers_reader.proofs.Repeats.{mark_lawful, separated_lawful}
@@ -60,6 +60,9 @@ AreDigests = Perhaps (Separated 44 IsDigest)
 
 abbrev pub on_digests : Piece → Bool
 on_digests t = says digest_kind t || is_mark 44 t
+
+pub digest_list_lawful : Lawful (separated 44 digest) (Separated 44 IsDigest) (is_mark 44)
+digest_list_lawful = separated_lawful 44 digest IsDigest never (is_mark 44) (λ zs st. st) (λ zs st. stops_never zs) (λ zs e. stops_never zs) digest_lawful
 
 pub digests_lawful : Lawful digests AreDigests on_digests
 unfolding digests

@@ -1,10 +1,11 @@
 -- Rows in tables that grow.
-use Rattle.std.proofs.Common.{Vec, Global, ◌≡◌, ℕ, ◌-◌, List, [], ◌++◌, length, take, drop, sym, ap, ◌∙◌, append_assoc, append-nil, length-append, arith}
+use Rattle.std.proofs.lemmas.Option.{same_Some}
+use Rattle.std.proofs.Common.{Option, Some, None, option_map, Vec, Global, ◌≡◌, ℕ, ◌-◌, List, [], ◌++◌, length, take, drop, sym, ap, ◌∙◌, append_assoc, append-nil, length-append, arith}
 use Rattle.std.specs.List.{slice_range}
 use Rattle.std.proofs.Math.Seq.{drop-append_seam, take-append_seam}
 use Rattle.sudoers_reader.specs.declared.rows.MemberRow.{MemberRow}
 use Rattle.sudoers_reader.specs.declared.rows.Tables.{Tables}
-use Rattle.sudoers_reader.specs.Tables.{Grows, Grown, Keeps}
+use Rattle.sudoers_reader.specs.Tables.{Grows, Grown, Keeps, KeepsSome, Lasts}
 
 -- ---- lists that grow
 
@@ -82,3 +83,18 @@ grown_members t rows g = let self = grown_self t in record {
   defs = self.defs;
   params = self.params;
 }
+
+-- ---- what is kept of what may be
+
+pub none_kept : {R X : Type 0} (view : Tables → R → X) (t : Tables) (o : Option R) (p : Option X) → KeepsSome view t o p → o ≡ None → p ≡ None
+none_kept view t o p keeps none = sym (keeps t (grown_self t)) ∙ ap (option_map (view t)) none
+
+pub some_kept : {R X : Type 0} (view : Tables → R → X) (t : Tables) (o : Option R) (p : Option X) (r : R) → KeepsSome view t o p → o ≡ Some r → p ≡ Some (view t r)
+some_kept view t o p r keeps some = sym (keeps t (grown_self t)) ∙ ap (option_map (view t)) some
+
+pub lasts_kept : {R X : Type 0} (view : Tables → R → X) (t : Tables) (o : Option R) (p : Option X) (r : R) → KeepsSome view t o p → o ≡ Some r → Lasts view t r
+lasts_kept view t o p r keeps some u g = same_Some (view u r) (view t r) (ap (option_map (view u)) (sym some) ∙ keeps u g ∙ sym (keeps t (grown_self t)) ∙ ap (option_map (view t)) some)
+
+-- What lasts, lasts on.
+pub lasts_on : {R X : Type 0} (view : Tables → R → X) (t u : Tables) (r : R) → Grown t u → Lasts view t r → Lasts view u r
+lasts_on view t u r g lasts v h = lasts v (grown_on t u v g h) ∙ sym (lasts u g)

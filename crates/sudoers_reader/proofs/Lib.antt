@@ -13,3 +13,6 @@ pub mod Growth
 pub mod Loops
 pub mod TokenRows
 pub mod SoFar
+pub mod ManySoFar
+pub mod WordRows
+pub mod ArgumentRows

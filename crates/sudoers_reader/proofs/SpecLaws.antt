@@ -179,12 +179,12 @@ tag_begins ts g rest h = ap (comes (says tag_of)) h.split ∙ ap is_some h.is_ta
 shrinks_by : {X Y : Type 0} (f : Piece → Option X) (g : X → Reader Y) (IsG : X → Rule Y) → ((x : X) → Lawful (g x) (IsG x) never) → Shrinks (one f >>= g)
 shrinks_by f g IsG h = shrinks_then (one f) g (shrinks_one f) (λ x. no_longer (g x) (IsG x) never (h x))
 
-option_shrinks : Shrinks option
+pub option_shrinks : Shrinks option
 unfolding option
 option_shrinks = shrinks_by option_name (λ o. token (is_mark 61) >>= (λ _. one (option_value o) >>= (λ v. pure (o, v)))) (λ o. IsThen (IsToken (is_mark 61)) (λ _. IsThen (IsOne (option_value o)) (λ v. IsPure (o, v))))
     (λ o. then_free (mark_lawful 61) (λ _. map_lawful (λ v. (o, v)) (one_lawful (option_value o) (sample_value o))))
 
-tag_shrinks : Shrinks tag
+pub tag_shrinks : Shrinks tag
 unfolding tag
 tag_shrinks = shrinks_by tag_of (λ g. token (is_mark 58) >>= (λ _. pure g)) (λ g. IsThen (IsToken (is_mark 58)) (λ _. IsPure g)) (λ g. then_free (mark_lawful 58) (λ _. pure_lawful g))
 
@@ -289,7 +289,7 @@ to_group ts g rest (hs, behind_hosts, hh, (q, behind, (e, equals), (cs, end, hc,
 from_group : (ts : List Piece) (g : HostGroup) (rest : List Piece) → IsHostGroup ts g rest → IsGroupThen ts g rest
 from_group ts g rest h = (g.hosts, h.behind_hosts, h.hosts, (h.equals, h.behind, (h.split, h.is_equals), (g.commands, rest, h.commands, (refl, refl))))
 
-group_lawful : Lawful host_group IsHostGroup on_commands
+pub group_lawful : Lawful host_group IsHostGroup on_commands
 unfolding host_group
 group_lawful = says_as to_group from_group
     (then_is (λ hs mid g rest h st. ap (comes (is_mark 44)) h.2.0 ∙ other_mark 61 44 h.0 h.2.1 refl) (members_lawful Host) (λ hs. then_free (mark_lawful 61) (λ _. map_lawful (group_of hs) cmd_specs_lawful)))

@@ -18,3 +18,6 @@ Reads o view (Err NoMemory) left = Unit {0}
 -- Signs never halt.
 abbrev pub IsSigned : Outcome Bool → Bool → List Piece → Type 0
 IsSigned o b left = o ≡ Read b left
+
+abbrev pub itself : {X : Type 0} → X → X
+itself x = x

@@ -1,8 +1,8 @@
 -- What the rows of tables say, and tables that only grow.
-use Rattle.std.specs.Prelude.{◌≡◌, ℕ, List, ◌++◌, map, slice_range, Option, option_map, Result, Ok, Err}
+use Rattle.std.specs.Prelude.{None, [], ◌∷◌, true, false, if◌then◌else◌, ◌≡◌, ℕ, List, ◌++◌, map, slice_range, Option, option_map, Result, Ok, Err}
 use Rattle.sudoers_line.specs.declared.node.OptionName.{OptionName}
 use Rattle.sudoers_line.specs.declared.node.Tag.{Tag}
-use Rattle.std.specs.Prelude.{Bool}
+use Rattle.std.specs.Prelude.{Bool, true, false, ◌∷◌, if◌then◌else◌}
 use Rattle.sudoers_line.specs.declared.node.Args.{Args}
 use Rattle.sudoers_line.specs.declared.node.Args.TheVariants as args
 use Rattle.sudoers_line.specs.declared.node.Atom.{Atom}
@@ -27,6 +27,10 @@ use Rattle.sudoers_reader.specs.declared.rows.AtomRow.{AtomRow}
 use Rattle.sudoers_reader.specs.declared.rows.AtomRow.TheVariants as atom_row
 use Rattle.sudoers_reader.specs.declared.rows.DigestRow.{DigestRow}
 use Rattle.sudoers_reader.specs.declared.rows.MemberRow.{MemberRow}
+use Rattle.sudoers_line.specs.declared.state.Program.{Program}
+use Rattle.sudoers_line.specs.Grammar.{list_stop}
+use Rattle.sudoers_line.specs.Machine.{program_of}
+use Rattle.sudoers_reader.specs.declared.rows.WordRow.{WordRow}
 use Rattle.sudoers_reader.specs.declared.rows.RunasRow.{RunasRow}
 use Rattle.sudoers_reader.specs.declared.rows.OptionRow.{OptionRow}
 use Rattle.sudoers_reader.specs.declared.rows.TagRow.{TagRow}
@@ -82,11 +86,17 @@ digests_in t = listed t.digests.items (digest_in t)
 abbrev pub member_in : Tables → MemberRow → Member
 member_in t m = record { start = m.start; stop = m.stop; negated = m.negated; digests = digests_in t m.digests; atom = atom_in t m.atom }
 
+abbrev pub word_in : Tables → WordRow → Option Program × Member
+word_in t w = (if w.has_room then program_of (atom_in t w.member.atom) else None, member_in t w.member)
+
 abbrev pub members_in : Tables → Range → List Member
 members_in t = listed t.members.items (member_in t)
 
 abbrev pub runas_in : Tables → RunasRow → RunasSpec
 runas_in t r = record { users = members_in t r.users; groups = members_in t r.groups }
+
+abbrev pub perhaps_runas_in : Tables → Option RunasRow → Option RunasSpec
+perhaps_runas_in t o = option_map (runas_in t) o
 
 abbrev pub option_in : Tables → OptionRow → OptionName × List ℕ
 option_in t o = (o.name, text_in t o.value)
@@ -113,7 +123,7 @@ abbrev pub groups_in : Tables → Range → List HostGroup
 groups_in t = listed t.groups.items (group_in t)
 
 abbrev pub def_in : Tables → DefRow → Def
-def_in t d = record { name = text_in t d.name; start = d.start; stop = d.stop; members = members_in t d.members }
+def_in t d = record { name = text_in t d.name; start = d.start; stop = list_stop (members_in t d.members); members = members_in t d.members }
 
 abbrev pub defs_in : Tables → Range → List Def
 defs_in t = listed t.defs.items (def_in t)
@@ -173,6 +183,13 @@ Lists rows t r xs = (u : Tables) → Grown t u → slice_range (rows u) r.from r
 
 abbrev pub IsRange : Range → ℕ → ℕ → Type 0
 IsRange r from to = (r.from ≡ from) × (r.to ≡ to)
+
+-- It says whether there are digests.
+abbrev pub Tells : Bool → List Digest → Type 0
+Tells true [] = ⊥
+Tells true (d ∷ ds) = Unit {0}
+Tells false [] = Unit {0}
+Tells false (d ∷ ds) = ⊥
 
 -- ---- what a reader answers
 

@@ -1,10 +1,18 @@
 //! The reader of one line as a descent: one function for each rule of the grammar.
 #![tactic(auto)]
 
+mod aliases;
+mod commands;
 mod cursor;
+mod digests;
 mod laws;
+mod lists;
 mod members;
+mod options;
 mod rows;
+mod runas;
+mod specs_of_users;
 mod tables;
+mod words;
 
 pub use laws::descent_is;

@@ -63,6 +63,13 @@ pub struct MemberRow {
     pub atom: AtomRow,
 }
 
+/// A command by its word; whether the word leaves room for arguments.
+#[derive(Clone, Copy)]
+pub struct WordRow {
+    pub member: MemberRow,
+    pub has_room: bool,
+}
+
 /// As whom a command may run.
 #[derive(Clone, Copy)]
 pub struct RunasRow {
@@ -100,12 +107,11 @@ pub struct GroupRow {
     pub commands: Range,
 }
 
-/// A definition of an alias.
+/// A definition of an alias. It ends where its last member ends.
 #[derive(Clone, Copy)]
 pub struct DefRow {
     pub name: Text,
     pub start: u32,
-    pub stop: u32,
     pub members: Range,
 }
 

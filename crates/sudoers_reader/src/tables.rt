@@ -59,7 +59,7 @@ pub fn keep_text(tables: &mut Tables, text: &[u8]) -> Result<Text, AllocError>
 }
 
 /// Keeps the arguments of a command.
-fn keep_args(tables: &mut Tables, args: &Args) -> Result<ArgsRow, AllocError>
+pub fn keep_args(tables: &mut Tables, args: &Args) -> Result<ArgsRow, AllocError>
     ensures keeps { IfOk result (λ r. Keeps args_in tables.new r args.now) }
     ensures grown { Grown tables.old tables.new }
 {
@@ -71,7 +71,7 @@ fn keep_args(tables: &mut Tables, args: &Args) -> Result<ArgsRow, AllocError>
 }
 
 /// Keeps what a member is.
-fn keep_atom(tables: &mut Tables, atom: &Atom) -> Result<AtomRow, AllocError>
+pub fn keep_atom(tables: &mut Tables, atom: &Atom) -> Result<AtomRow, AllocError>
     ensures keeps { IfOk result (λ r. Keeps atom_in tables.new r atom.now) }
     ensures grown { Grown tables.old tables.new }
 {

@@ -1,0 +1,156 @@
+//! Commands.
+
+ghost use Rattle.std.specs.Prelude.{◌≡◌, Some, IfOk};
+ghost use Rattle.sudoers_line.specs.declared.node.Args.TheVariants.{Any};
+ghost use Rattle.sudoers_line.specs.declared.state.Program.{Program as ProgramOf};
+ghost use Rattle.sudoers_line.specs.Machine.{with_argument, program_of, program_atom};
+ghost use Rattle.sudoers_reader.specs.declared.rows.Tables.{Tables as TablesOf};
+ghost use Rattle.sudoers_reader.specs.Reader.{many, token};
+ghost use Rattle.sudoers_line.specs.Piece.{is_some};
+ghost use Rattle.sudoers_reader.specs.Descent.{add_argument, argument, arguments, bare, behind_word, command, scope_command};
+ghost use Rattle.sudoers_reader.specs.Cursor.{itself, Reads};
+ghost use Rattle.sudoers_reader.specs.Tables.{ReadsAs, Grown, Lasts, Tells, args_in, atom_in, digests_in, member_in, word_in};
+
+use crate::cursor::{Cursor, Halted};
+use crate::digests::digests;
+use crate::members::signs;
+use crate::rows::{ArgsRow, AtomRow, MemberRow, NONE, Range, Tables, WordRow};
+use crate::tables::{keep_args, place};
+use crate::words::word;
+use std::alloc::Global;
+use sudoers_line::{Args, Part, with_argument};
+
+/// Reads the arguments behind the first, and returns all of them, and where the last ends.
+fn more_arguments(
+    alloc: Global,
+    cursor: &mut Cursor<'_>,
+    first: &Part<'_>,
+) -> Result<(Args, usize), Halted>
+    ensures { Reads (many add_argument argument (token argument) (with_argument Any first.now.text.now, first.now.stop) cursor.old) itself result cursor.new }
+{
+    let mut args = with_argument(alloc, Args::Any, first.text)?;
+    let mut stop = first.stop;
+    while cursor.at_argument() {
+        let part = cursor.argument()?;
+        args = with_argument(alloc, args, part.text)?;
+        stop = part.stop;
+    }
+    Ok((args, stop))
+}
+
+/// Returns the command with these arguments, if it can have any.
+fn with_args(atom: AtomRow, args: ArgsRow) -> AtomRow
+    ensures { (t : TablesOf) (p : ProgramOf) → program_of (atom_in t atom) ≡ Some p → atom_in t result ≡ program_atom p (args_in t args) }
+{
+    match atom {
+        AtomRow::Path { path, .. } => AtomRow::Path { path, args },
+        AtomRow::Sudoedit { .. } => AtomRow::Sudoedit { args },
+        other => other,
+    }
+}
+
+/// Reads the arguments of this command, which can have some.
+#[tactic(auto, unfolding(crate::specs::Descent::arguments))]
+fn arguments(
+    alloc: Global,
+    cursor: &mut Cursor<'_>,
+    tables: &mut Tables,
+    member: MemberRow,
+) -> Result<MemberRow, Halted>
+    requires { Lasts member_in tables.now member }
+    ensures reads { (p : ProgramOf) → program_of (atom_in tables.old member.atom) ≡ Some p
+        → ReadsAs (arguments p (member_in tables.old member) cursor.old) member_in tables.new result cursor.new }
+    ensures grown { Grown tables.old tables.new }
+{
+    let first = cursor.first_argument()?;
+    let (args, stop) = more_arguments(alloc, cursor, &first)?;
+    let args = keep_args(tables, &args)?;
+    let stop = place(stop)?;
+    Ok(MemberRow {
+        stop,
+        atom: with_args(member.atom, args),
+        ..member
+    })
+}
+
+/// Returns whether the command can have arguments.
+fn has_program(word: WordRow) -> bool
+    ensures { (t : TablesOf) → result ≡ is_some (word_in t word).0 }
+{
+    word.has_room
+        && matches!(
+            word.member.atom,
+            AtomRow::Path { .. } | AtomRow::Sudoedit { .. }
+        )
+}
+
+/// Reads the arguments behind the word of a command, if there are any.
+fn behind_word(
+    alloc: Global,
+    cursor: &mut Cursor<'_>,
+    tables: &mut Tables,
+    word: WordRow,
+) -> Result<MemberRow, Halted>
+    requires { Lasts word_in tables.now word }
+    ensures reads { ReadsAs (behind_word (word_in tables.old word) cursor.old) member_in tables.new result cursor.new }
+    ensures grown { Grown tables.old tables.new }
+{
+    if !has_program(word) {
+        return Ok(word.member);
+    }
+    if !cursor.at_argument() {
+        return Ok(word.member);
+    }
+    arguments(alloc, cursor, tables, word.member)
+}
+
+/// Reads a command behind these digests, without its place.
+#[tactic(auto, unfolding(crate::specs::Descent::bare))]
+fn bare(
+    alloc: Global,
+    cursor: &mut Cursor<'_>,
+    tables: &mut Tables,
+    digests: Range,
+    has_digests: bool,
+) -> Result<MemberRow, Halted>
+    requires tells { Tells has_digests (digests_in tables.now digests) }
+    requires lasts { Lasts digests_in tables.now digests }
+    ensures reads { ReadsAs (bare (digests_in tables.old digests) cursor.old) member_in tables.new result cursor.new }
+    ensures grown { Grown tables.old tables.new }
+{
+    let negated = signs(cursor);
+    let word = word(alloc, cursor, tables, negated, digests, has_digests)?;
+    behind_word(alloc, cursor, tables, word)
+}
+
+/// Reads a command.
+#[tactic(auto, unfolding(crate::specs::Descent::command))]
+pub fn command(
+    alloc: Global,
+    cursor: &mut Cursor<'_>,
+    tables: &mut Tables,
+) -> Result<MemberRow, Halted>
+    ensures reads { ReadsAs (command cursor.old) member_in tables.new result cursor.new }
+    ensures grown { Grown tables.old tables.new }
+{
+    let start = place(cursor.start())?;
+    let has_digests = cursor.at_digest();
+    let digests = digests(alloc, cursor, tables)?;
+    let row = bare(alloc, cursor, tables, digests, has_digests)?;
+    Ok(MemberRow { start, ..row })
+}
+
+/// Reads a command of a scope, which has no digests.
+#[tactic(auto, unfolding(crate::specs::Descent::scope_command))]
+pub fn scope_command(
+    alloc: Global,
+    cursor: &mut Cursor<'_>,
+    tables: &mut Tables,
+) -> Result<MemberRow, Halted>
+    ensures reads { ReadsAs (scope_command cursor.old) member_in tables.new result cursor.new }
+    ensures grown { Grown tables.old tables.new }
+{
+    let start = place(cursor.start())?;
+    let row = bare(alloc, cursor, tables, NONE, false)?;
+    Ok(MemberRow { start, ..row })
+}
