@@ -86,7 +86,7 @@ IsSet n = IsThen (IsOne operator_of) (λ o. IsThen (IsToken value) (λ v. IsPure
 abbrev IsNamed : Rule Param
 IsNamed = IsThen (IsToken parameter) (λ n. IsEither (IsSet n) (IsPure (flag false n)))
 
-abbrev on_param : Piece → Bool
+abbrev pub on_param : Piece → Bool
 on_param t = says operator_of t
 
 name_no_mark : (b : ℕ) (t : Piece) → parameter t ≡ true → is_mark b t ≡ false
@@ -206,7 +206,7 @@ from_with : (ts : List Piece) (p : Param) (rest : List Piece) (o : Option Settin
 from_with ts p rest None e h = from_flag ts p rest e h h.signs refl
 from_with ts p rest (Some s) e h = from_setting ts p s rest e h
 
-param_lawful : Lawful param IsParam on_param
+pub param_lawful : Lawful param IsParam on_param
 param_lawful = says_as to_param (λ ts p rest h. from_with ts p rest p.setting refl h) param_made
 
 -- ---- "Defaults" (Sign List)? Param ("," Param)*

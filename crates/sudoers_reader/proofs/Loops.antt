@@ -8,8 +8,8 @@ use Rattle.sudoers_line.specs.Seen.{seen}
 use Rattle.sudoers_reader.specs.declared.cursor.Halted.{Halted}
 use Rattle.sudoers_reader.specs.declared.cursor.Halted.TheVariants.{Fault, NoMemory}
 use Rattle.sudoers_reader.specs.Cursor.{itself, Reads}
-use Rattle.sudoers_line.specs.Grammar.{IsMember, IsDigest, IsCommand, IsScopeCommand, IsCmdSpec, IsHostGroup, IsDef}
-use Rattle.sudoers_reader.specs.Descent.{command, scope_command, cmd_spec, host_group, def, turn, signs, member, members, digest, argument, add_argument}
+use Rattle.sudoers_line.specs.Grammar.{IsMember, IsDigest, IsCommand, IsScopeCommand, IsCmdSpec, IsHostGroup, IsDef, IsParam}
+use Rattle.sudoers_reader.specs.Descent.{command, scope_command, cmd_spec, host_group, def, turn, signs, member, members, digest, argument, add_argument, param}
 use Rattle.sudoers_reader.proofs.Keeps.{never, token_reads}
 use Rattle.sudoers_reader.proofs.Repeats.{Shrinks, shrinks_token, shrinks_behind, next_read, next_halt, next_none}
 use Rattle.sudoers_reader.proofs.MemberLaws.{member_lawful}
@@ -17,6 +17,7 @@ use Rattle.sudoers_reader.proofs.DigestLaws.{digest_lawful}
 use Rattle.sudoers_reader.proofs.CommandLaws.{on_commands, command_lawful, scope_command_lawful}
 use Rattle.sudoers_reader.proofs.SpecLaws.{cmd_spec_lawful, group_lawful}
 use Rattle.sudoers_reader.proofs.AliasLaws.{def_lawful}
+use Rattle.sudoers_reader.proofs.DefaultsLaws.{on_param, param_lawful}
 
 -- ---- signs
 
@@ -79,3 +80,8 @@ host_group_shrinks = shrinks_behind 58 host_group IsHostGroup on_commands group_
 
 pub def_shrinks : (k : Kind) → Shrinks (behind 58 (def k))
 def_shrinks k = shrinks_behind 58 (def k) (IsDef k) on_commands (def_lawful k)
+
+-- ---- parameters
+
+pub param_shrinks : Shrinks (behind 44 param)
+param_shrinks = shrinks_behind 44 param IsParam on_param param_lawful

@@ -9,10 +9,10 @@ use Rattle.sudoers_line.specs.Atom.{atom_of}
 use Rattle.sudoers_reader.specs.declared.rows.AtomRow.{AtomRow}
 use Rattle.sudoers_reader.specs.declared.rows.MemberRow.{MemberRow}
 use Rattle.sudoers_reader.specs.declared.rows.Tables.{Tables}
-use Rattle.sudoers_reader.specs.Reader.{Read, Halt, one}
+use Rattle.sudoers_reader.specs.Reader.{Outcome, Read, Halt, one}
 use Rattle.sudoers_reader.specs.Descent.{member_of, one_atom}
 use Rattle.sudoers_reader.specs.Cursor.{first}
-use Rattle.sudoers_reader.specs.Tables.{Grown, KeepsSome, atom_in, member_in}
+use Rattle.sudoers_reader.specs.Tables.{Grown, Keeps, KeepsSome, Lasts, atom_in, member_in}
 use Rattle.sudoers_reader.proofs.Keeps.{one_reads, one_halts}
 use Rattle.sudoers_reader.proofs.Growth.{grown_self}
 
@@ -28,6 +28,10 @@ refused {X} says ts t e none = ap (one says) (first_is ts t e) ∙ one_halts say
 -- One that says something is taken.
 pub taken : {X : Type 0} (says : Piece → Option X) (ts left : List Piece) (t : Piece) (x : X) → Some t ≡ first ts → says t ≡ Some x → left ≡ drop 1 ts → one says ts ≡ Read x left
 taken says ts left t x e some f = ap (one says) (first_is ts t e) ∙ one_reads says t (drop 1 ts) x some ∙ ap (Read x) (sym f)
+
+-- What is read is kept for good.
+pub kept : {R X : Type 0} (view : Tables → R → X) (t : Tables) (r : R) (x : X) (o : Outcome X) (left : List Piece) → Keeps view t r x → o ≡ Read x left → (o ≡ Read (view t r) left) × Lasts view t r
+kept view t r x o left keeps read = (read ∙ ap (λ y. Read y left) (sym (keeps t (grown_self t))), λ u g. keeps u g ∙ sym (keeps t (grown_self t)))
 
 -- ---- atoms
 

@@ -4,7 +4,7 @@ ghost use Rattle.std.specs.Prelude.{◌≡◌, drop, map, option_map};
 ghost use Rattle.sudoers_line.specs.Seen.{seen};
 ghost use Rattle.sudoers_line.specs.Piece.{is_mark};
 ghost use Rattle.sudoers_line.specs.Grammar.{start_of};
-ghost use Rattle.sudoers_line.specs.Piece.{is_alias_name, kind_word, include_word, option_name, tag_of, digest_kind, operator_of};
+ghost use Rattle.sudoers_line.specs.Piece.{is_alias_name, kind_word, include_word, option_name, tag_of, digest_kind, operator_of, scope_sign};
 ghost use Rattle.sudoers_line.specs.Grammar.{is_defaults};
 ghost use Rattle.sudoers_reader.specs.Reader.{comes, one, token};
 ghost use Rattle.sudoers_reader.specs.Descent.{argument, digest_text, first_argument, inside, parameter, says, value};
@@ -355,6 +355,32 @@ impl<'a> Cursor<'a> {
                 Ok(part)
             }
             _ => Err(Halted::Fault),
+        }
+    }
+
+    /// Returns whether the next token is the sign of a scope, directly behind the word that ends at this byte.
+    pub fn at_scope(&self, stop: usize) -> bool
+        ensures { result ≡ comes (says (scope_sign stop)) self.now }
+    {
+        match self.peek() {
+            None => false,
+            Some(part) => part.scope_sign(stop).is_some(),
+        }
+    }
+
+    /// Passes the sign of a scope, directly behind the word that ends at this byte.
+    pub fn scope_sign(&mut self, stop: usize) -> Result<Kind, Halted>
+        ensures { Reads (one (scope_sign stop) self.old) itself result self.new }
+    {
+        match self.peek() {
+            None => Err(Halted::Fault),
+            Some(part) => match part.scope_sign(stop) {
+                None => Err(Halted::Fault),
+                Some(found) => {
+                    self.bump();
+                    Ok(found)
+                }
+            },
         }
     }
 }

@@ -4,11 +4,14 @@
 mod aliases;
 mod commands;
 mod cursor;
+mod defaults;
 mod digests;
+mod includes;
 mod laws;
 mod lists;
 mod members;
 mod options;
+mod params;
 mod rows;
 mod runas;
 mod specs_of_users;
