@@ -225,14 +225,31 @@ last n = choose comment (token comment >>= (λ _. ended n)) (ended n)
 abbrev pub anything : Piece → Bool
 anything t = true
 
+-- ---- each kind of line
+
+abbrev pub comment_line : Reader Node
+comment_line = token comment >>= (λ _. ended node.Comment)
+
+abbrev pub alias_line : Reader Node
+alias_line = alias >>= last
+
+abbrev pub include_line : Reader Node
+include_line = include >>= last
+
+abbrev pub defaults_line : Reader Node
+defaults_line = defaults >>= last
+
+abbrev pub spec_line : Reader Node
+spec_line = spec >>= last
+
 unfoldable pub line : Reader Node
 line =
     choose anything
-    (choose comment (token comment >>= (λ _. ended node.Comment))
-    (choose (says kind_word) (alias >>= last)
-    (choose (says include_word) (include >>= last)
-    (choose is_defaults (defaults >>= last)
-    (spec >>= last)))))
+    (choose comment comment_line
+    (choose (says kind_word) alias_line
+    (choose (says include_word) include_line
+    (choose is_defaults defaults_line
+    spec_line))))
     (ended node.Blank)
 
 -- ---- what a line says, or its first fault

@@ -7,7 +7,7 @@ ghost use Rattle.sudoers_line.specs.Grammar.{start_of};
 ghost use Rattle.sudoers_line.specs.Piece.{is_alias_name, kind_word, include_word, option_name, tag_of, digest_kind, operator_of, scope_sign};
 ghost use Rattle.sudoers_line.specs.Grammar.{is_defaults};
 ghost use Rattle.sudoers_reader.specs.Reader.{comes, one, token};
-ghost use Rattle.sudoers_reader.specs.Descent.{argument, digest_text, first_argument, inside, parameter, says, value};
+ghost use Rattle.sudoers_reader.specs.Descent.{argument, comment, digest_text, first_argument, inside, parameter, says, value};
 ghost use Rattle.sudoers_reader.specs.Cursor.{first, itself, Reads};
 
 use std::alloc::AllocError;
@@ -381,6 +381,16 @@ impl<'a> Cursor<'a> {
                     Ok(found)
                 }
             },
+        }
+    }
+
+    /// Returns whether the next token is a comment.
+    pub fn at_comment(&self) -> bool
+        ensures { result ≡ comes comment self.now }
+    {
+        match self.peek() {
+            None => false,
+            Some(part) => part.is_comment(),
         }
     }
 }
