@@ -16,3 +16,7 @@ pub mod SoFar
 pub mod ManySoFar
 pub mod WordRows
 pub mod ArgumentRows
+pub mod CutBack
+pub mod LastRow
+pub mod WalkLaws
+pub mod Contract

@@ -1,6 +1,6 @@
 //! A cursor over the tokens of a line.
 
-ghost use Rattle.std.specs.Prelude.{◌≡◌, drop, map, option_map};
+ghost use Rattle.std.specs.Prelude.{◌≡◌, drop, length, map, option_map};
 ghost use Rattle.sudoers_line.specs.Seen.{seen};
 ghost use Rattle.sudoers_line.specs.Piece.{is_mark};
 ghost use Rattle.sudoers_line.specs.Grammar.{start_of};
@@ -66,6 +66,13 @@ impl<'a> Cursor<'a> {
             [] => None,
             [part, ..] => Some(*part),
         }
+    }
+
+    /// Returns how many tokens are left.
+    pub fn len(&self) -> usize
+        ensures { result ≡ length self.now }
+    {
+        self.left.len()
     }
 
     /// Passes the next token.

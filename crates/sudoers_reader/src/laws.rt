@@ -1,12 +1,16 @@
 //! Laws of the descent. Each is the contract of a function that does nothing.
 
-ghost use Rattle.std.specs.Prelude.{◌≡◌, List, [], ◌++◌};
+ghost use Rattle.std.specs.Prelude.{◌≡◌, ◌⊎◌, ℕ, List, [], ◌++◌};
+ghost use Rattle.sudoers_line.specs.Line.{ReadsLine, HasFault};
+ghost use Rattle.sudoers_reader.specs.Outcome.{outcome_of, IsOutcome};
 ghost use Rattle.sudoers_line.specs.declared.node.Node.{Node as NodeOf};
 ghost use Rattle.sudoers_line.specs.Piece.{Piece as PieceOf};
 ghost use Rattle.sudoers_line.specs.Grammar.{Reads};
 ghost use Rattle.sudoers_line.specs.Fault.{IsFirstFault};
 ghost use Rattle.sudoers_reader.specs.Reader.{Read, Halt};
 ghost use Rattle.sudoers_reader.specs.Descent.{line, cause_at};
+
+use sudoers_text::{one_token_list, tokens_are};
 
 /// The descent reads exactly what the grammar has. It halts at the first fault, and `cause_at` is the cause of that fault.
 pub fn descent_is()
@@ -18,3 +22,24 @@ pub fn descent_is()
     ensures fault { (ts rest : List PieceOf) → line ts ≡ Halt rest
         → (before : List PieceOf) × (ts ≡ before ++ rest) × IsFirstFault ts rest (cause_at before rest) }
 {}
+
+/// A line says one thing at most.
+pub fn one_reading()
+    ensures { (line : List ℕ) (node other : NodeOf) → ReadsLine line node → ReadsLine line other → node ≡ other }
+{
+    one_token_list();
+}
+
+/// A line says something, or it has a first fault.
+pub fn some_outcome()
+    ensures { (line : List ℕ) → ((node : NodeOf) × ReadsLine line node) ⊎ HasFault line }
+{
+    tokens_are();
+}
+
+/// What a line says, or its first fault, is what is computed.
+pub fn outcome_is()
+    ensures { (line : List ℕ) → IsOutcome line (outcome_of line) }
+{
+    tokens_are();
+}

@@ -3,21 +3,37 @@
 
 mod aliases;
 mod commands;
+mod counts;
 mod cursor;
 mod defaults;
 mod digests;
 mod includes;
 mod laws;
 mod lines;
+mod list;
 mod lists;
 mod looking;
 mod members;
 mod options;
 mod params;
+mod reading;
 mod rows;
 mod runas;
 mod specs_of_users;
 mod tables;
+mod view;
+mod walk;
 mod words;
 
-pub use laws::descent_is;
+pub use laws::{descent_is, one_reading, outcome_is, some_outcome};
+pub use list::{Rows, rows_in};
+pub use reading::{Reading, parse, read_line};
+pub use rows::{
+    CommandRow, DefRow, DigestRow, GroupRow, MemberRow, NodeRow, OptionRow, ParamRow, Tables,
+    TagRow, Text,
+};
+pub use tables::keep_text;
+pub use view::{
+    Args, Atom, CmdSpec, Def, Digest, HostGroup, Member, Node, Param, RunasSpec, Scope, Setting,
+};
+pub use walk::alias_members;
