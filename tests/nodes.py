@@ -71,10 +71,12 @@ def held_in(form, value):
 
 
 def items(listed):
-    """The items of a list."""
-    if listed[""] != "Items":
-        raise ValueError(listed[""])
-    return listed["items"]
+    """The items of a list, or of the type `Items`."""
+    if isinstance(listed, dict) and listed[""] == "Items":
+        return listed["items"]
+    if not isinstance(listed, list):
+        raise ValueError(listed)
+    return listed
 
 
 def text(listed):
@@ -184,21 +186,10 @@ def drawn_node(held, places):
     return Drawing(places).node(held)
 
 
-def drawn_outline(line):
-    """The outline of a line.
-
-    Of a definition: its kind, its name, where it begins and how many members it has. Then, as of a specification, each
-    alias that it mentions: the kind of its list, its name and where it ends. Of any other line: all that it says.
-    """
+def drawn_aliases(line):
+    """The aliases that a line mentions, or its error. Of each: the kind of its list, its name and where it ends."""
     syntax = drawn_syntax(line)
     if syntax is not None:
         return syntax
-    held = held_in("Ok", said.read(line))
-    if isinstance(held, list):
-        return "whole: " + drawn_node(held_in("Whole", held), places=False)
-    words = [{"Spec": "spec", "Alias": held.get("kind")}[held[""]]]
-    if held[""] == "Alias":
-        words += [drawn_text(held["name"]), str(held["start"]), str(held["members"])]
-    for alias in items(held["aliases"]):
-        words += [alias["kind"], drawn_text(alias["name"]), str(alias["stop"])]
-    return " ".join(words)
+    aliases = held_in("Ok", said.read(line))
+    return " ".join(f"{it['kind']} {drawn_text(it['name'])} {it['stop']}" for it in aliases)

@@ -3,14 +3,10 @@
 import json
 
 import said
+from nodes import items
 from tables import drawn_text
 
 KINDS = ("user", "runas", "host", "cmnd")
-
-
-def items(value):
-    """The items of a list of the libraries."""
-    return value["items"]
 
 
 def bytes_of(line):

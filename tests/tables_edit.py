@@ -6,7 +6,7 @@ The words of a group's head say what its rows are. Two rows, a case and its answ
     lines               the policy, with `|` between its lines; and their kinds
     one-line            what a text says as one line
     read                `read`, or the error
-    rows                the physical lines on which the lines of an outline begin, or the error
+    rows                the physical lines on which the lines of a policy begin, or the error
     defined KIND NAME   the line and the place of a definition, from 0, and its members
     mentioned KIND NAME the mentions of a name: the first has `1` below each of its bytes, the second `2`, and so on
     unused              the kinds and places of the unused definitions
@@ -49,7 +49,6 @@ from policies import (
     drawn_line_fault,
     drawn_notes,
     drawn_outcome,
-    drawn_place,
     drawn_policy,
     drawn_says,
     drawn_spans,
@@ -234,20 +233,13 @@ def is_error(wanted):
     return wanted.endswith(ends) or wanted.startswith(begins) or wanted[:1].isdigit()
 
 
-def drawn_outline(line):
-    """The error of an outline, or that it is read."""
-    return drawn_line_fault(line) or ("read" if re.fullmatch(r"(\d+ )*", line) else line)
-
-
 def says(name, _words, text, _row, answer):
-    """What the lines of a policy say, or its error, which its outline has too. The policy gives its text back."""
+    """What the lines of a policy say, or its error. The policy gives its text back."""
     wanted = wanted_row(answer)
     refused = is_error(wanted)
     calls = [("says", call(b"a"), wanted, drawn_policy)]
     calls.append(("text", call(b"t"), wanted if refused else text, drawn_bytes))
     yield from cases_of_calls(name, b"p", text, calls)
-    calls = [("outline", call(b"o"), wanted if refused else "read", drawn_outline)]
-    yield from cases_of_calls(name, b"t", text, calls)
 
 
 def lines(name, _words, _text, row, answer):
@@ -280,21 +272,18 @@ def read(name, _words, text, _row, answer):
     wanted = wanted_row(answer)
     calls = [("read", call(b"r"), wanted, lambda line: drawn_line_fault(line) or line)]
     yield from cases_of_calls(name, b"p", text, calls)
-    yield from cases_of_calls(name, b"t", text, [("outline", call(b"o"), wanted, drawn_outline)])
 
 
 def rows(name, _words, text, _row, answer):
-    """The first physical lines of the lines of an outline."""
+    """The first physical lines of the lines of a policy."""
     calls = [("rows", call(b"o"), wanted_row(answer), lambda line: drawn_line_fault(line) or line.strip())]
     yield from cases_of_calls(name, b"t", text, calls)
 
 
 def defined(name, words, text, _row, answer):
-    """Where a name is defined, and its members; and its place in an outline."""
+    """Where a name is defined, and its members."""
     body, wanted = named(words[0], text_of(words[1])), wanted_row(answer)
     yield from cases_of_calls(name, b"p", text, [("definition", call(b"d", body), wanted, drawn_definition)])
-    calls = [("place in the outline", call(b"d", body), wanted.split(" ")[0], drawn_place)]
-    yield from cases_of_calls(name, b"t", text, calls)
 
 
 class Marks:
@@ -380,7 +369,7 @@ def cases_of_pairs(group):
 
 
 def cases_of_report(name, text, strict, file, report):
-    """The report of a policy, and of its outline."""
+    """The report of a policy, and that of its text."""
     wanted = b"".join(text_of(row) + b"\n" for row in report)
     body = part(file) + (b"s" if strict else b"")
     is_fine = report[-1].endswith(VERDICTS[0])
@@ -395,7 +384,7 @@ def cases_of_report(name, text, strict, file, report):
         ("is fine", call(b"f"), (True, is_fine, len(wanted)), fine),
     ]
     yield from cases_of_calls(name, b"p", text, calls)
-    yield from cases_of_calls(name, b"t", text, [("in outline", call(b"k", body), wanted, drawn_bytes)])
+    yield from cases_of_calls(name, b"t", text, [("of the text", call(b"k", body), wanted, drawn_bytes)])
 
 
 def cases_of_reports(group):

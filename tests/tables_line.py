@@ -16,7 +16,7 @@ The words of a group's head say what is asked of each of its cases:
     lf               whether a text ends in LF
     limits           the greatest lengths of a line and of a text
     parse, places    what a line says, and the same with the place of each member and definition; or its error
-    outline          the outline of a line
+    aliases          the aliases that a line mentions
     frames NAME      no case: two rows are a line and its answer, both with a hole `~`
 
 Other rows come two by two, a case and its answer. In `parse in NAME` a case is a piece of a line, and its answer is a
@@ -32,7 +32,7 @@ import re
 from functools import partial
 
 import said
-from nodes import drawn_node, drawn_outline, drawn_syntax, held_in
+from nodes import drawn_aliases, drawn_node, drawn_syntax, held_in
 from tables import Case, NoRow, frame_of_text, run_tables, text_of, unrolled
 
 TOKEN = re.compile(r"Token \{ kind: (\w+), start: (\d+), stop: (\d+) \}")
@@ -150,7 +150,7 @@ ASKS = {
     "limits": (b"s", drawn_limits, unrolled),
     "parse": (b"P", drawn_line, unrolled),
     "places": (b"P", drawn_places, unrolled),
-    "outline": (b"O", drawn_outline, unrolled),
+    "aliases": (b"O", drawn_aliases, unrolled),
 }
 
 

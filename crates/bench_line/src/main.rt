@@ -9,7 +9,7 @@ ghost use Rattle.sudoers_text.specs.Fault.{IsCut};
 use std::alloc::Global;
 use std::io;
 use std::io::Read;
-use sudoers_line::parse;
+use sudoers_reader::{Tables, read_line};
 use sudoers_text::{Lines, TextFault, cut, line_mode, tokens};
 
 fn main(rt: HostRuntime) -> io::Result<()> {
@@ -89,9 +89,10 @@ fn read_count(alloc: Global, lines: &Lines<'_>) -> usize
     ensures { result ≤ length lines.now }
 {
     let mut count: usize = 0;
+    let mut tables = Tables::new(alloc);
     for i in 0..lines.len() {
         if let Some(line) = lines.get(i) {
-            if parse(alloc, line).is_ok() {
+            if read_line(alloc, &mut tables, line).is_ok() {
                 count += 1;
             }
         }

@@ -141,16 +141,16 @@ fn changed_text(
     let lines = policy.lines();
     let (at, line) = number_in(parts);
     match asked {
-        b'W' if at <= lines.len() => {
-            format!(in alloc; "{:?}", text_with(alloc, lines, at, line)?)
+        b'W' if at <= lines.rows.len() => {
+            format!(in alloc; "{:?}", text_with(alloc, &lines, at, line)?)
         }
-        b'O' if at < lines.len() => format!(in alloc; "{:?}", text_without(alloc, lines, at)?),
-        b'I' if at < lines.len() => {
-            format!(in alloc; "{:?}", text_replaced(alloc, lines, at, line)?)
+        b'O' if at < lines.rows.len() => format!(in alloc; "{:?}", text_without(alloc, &lines, at)?),
+        b'I' if at < lines.rows.len() => {
+            format!(in alloc; "{:?}", text_replaced(alloc, &lines, at, line)?)
         }
         b'A' => {
             let mut text = Vec::from_slice(alloc, parts)?;
-            append_texts(lines, &mut text)?;
+            append_texts(lines.tables, lines.rows, &mut text)?;
             format!(in alloc; "{text:?}")
         }
         _ => String::from_str(alloc, "unknown"),

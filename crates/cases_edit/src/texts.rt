@@ -1,11 +1,10 @@
 //! Calls of a text that need not be a policy.
 
-use crate::policies::named_in;
 use case_frames::{next_case, next_part};
 use std::alloc::{AllocError, Global};
 use sudoers_check::{check_text, report_text};
 use sudoers_edit::{Edit, Edits, MAX_EDITS, ScriptFault, Text, read_script, write_script};
-use sudoers_tree::{ALIAS_LIMIT, Kind, OutlinedPolicy, read_line};
+use sudoers_tree::{ALIAS_LIMIT, Kind, Policy, lf_count, read_line};
 
 /// The answers to the calls.
 pub fn answer(
@@ -31,10 +30,8 @@ fn called(alloc: Global, text: &[u8], asked: u8, parts: &[u8]) -> Result<String,
     match asked {
         // What the text says as one line.
         b'l' => format!(in alloc; "{:?}", read_line(alloc, text)?),
-        // The physical lines on which the lines in outline begin.
-        b'o' => outlined(alloc, text),
-        // A kind of alias and a name: its definition in outline.
-        b'd' => outlined_definition(alloc, text, parts),
+        // The physical lines on which the lines begin.
+        b'o' => rows_of(alloc, text),
         // The name of a file, and `s` for a strict report.
         b'k' => reported(alloc, text, parts),
         // How many edits the text spells as a script.
@@ -47,23 +44,19 @@ fn called(alloc: Global, text: &[u8], asked: u8, parts: &[u8]) -> Result<String,
     }
 }
 
-fn outlined(alloc: Global, text: &[u8]) -> Result<String, AllocError> {
-    match OutlinedPolicy::read(alloc, text) {
+/// Returns the physical lines on which the lines of the policy begin, that the text is.
+fn rows_of(alloc: Global, text: &[u8]) -> Result<String, AllocError> {
+    match Policy::read(alloc, text) {
         Ok(policy) => {
             let mut rows = String::new(alloc);
-            for line in policy.lines() {
-                write!(rows, "{} ", line.row)?;
+            let mut row: usize = 1;
+            for at in 0..policy.len() {
+                write!(rows, "{row} ")?;
+                let line = policy.line(at).unwrap_or(b"");
+                row = row.saturating_add(lf_count(line));
             }
             Ok(rows)
         }
-        Err(fault) => format!(in alloc; "{fault:?}"),
-    }
-}
-
-fn outlined_definition(alloc: Global, text: &[u8], parts: &[u8]) -> Result<String, AllocError> {
-    let (kind, name) = named_in(parts);
-    match OutlinedPolicy::read(alloc, text) {
-        Ok(policy) => format!(in alloc; "{:?}", policy.definition(kind, name)),
         Err(fault) => format!(in alloc; "{fault:?}"),
     }
 }

@@ -7,7 +7,7 @@ use case_frames::{Case, next_case, read_input};
 use std::alloc::{AllocError, Global};
 use std::io;
 use std::io::Write;
-use sudoers_line::{parse, parse_outline};
+use sudoers_reader::{alias_members, parse};
 use sudoers_text::{
     LINE_LIMIT, Lines, Mode, TEXT_LIMIT, begins_line_end, blanks_len, cut, ends_in_lf,
     is_logical_line, is_name, is_reserved, is_whole_argument, line_end_len, line_mode, tokens,
@@ -57,8 +57,20 @@ fn answer_of(alloc: Global, case: Case<'_>) -> Result<String, AllocError> {
         b'f' => format!(in alloc; "{:?}", ends_in_lf(text)),
         b's' => format!(in alloc; "{:?}", (LINE_LIMIT, TEXT_LIMIT)),
         b'P' => format!(in alloc; "{:?}", parse(alloc, text)),
-        b'O' => format!(in alloc; "{:?}", parse_outline(alloc, text)),
+        b'O' => aliases_of(alloc, text),
         _ => String::from_str(alloc, "unknown"),
+    }
+}
+
+/// Returns the aliases that are members of lists in a line, or why it is refused.
+fn aliases_of(alloc: Global, line: &[u8]) -> Result<String, AllocError> {
+    match parse(alloc, line) {
+        Ok(reading) => {
+            let node = reading.node();
+            let aliases = alias_members(alloc, &node)?;
+            format!(in alloc; "Ok({aliases:?})")
+        }
+        Err(fault) => format!(in alloc; "Err({fault:?})"),
     }
 }
 

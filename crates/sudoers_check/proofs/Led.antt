@@ -2,7 +2,7 @@
 use Rattle.std.proofs.Common.{◌≡◌, ◌⊎◌, inl, inr, ℕ, zero, suc, ◌≤◌, ◌<◌, Bool, true, false, not, ◌||◌, List, [], ◌∷◌, length, refl, sym, ap, subst, ◌∙◌, arith, cond}
 use Rattle.std.specs.List.{filter, list_any}
 use Rattle.sudoers_line.specs.declared.node.Kind.{Kind}
-use Rattle.sudoers_tree.specs.declared.line.Line.{Line}
+use Rattle.sudoers_tree.specs.Line.{Line}
 use Rattle.sudoers_tree.specs.Definition.{Definition, definitions, defines}
 use Rattle.sudoers_check.specs.Chain.{Has, Chain, here, onward}
 use Rattle.sudoers_check.specs.Chains.{Joins, names_in, roots, IsReachable, IsCyclic}

@@ -16,4 +16,3 @@ pub mod Linked
 pub mod Spots
 pub mod Keys
 pub mod Noted
-pub mod InOutline

@@ -5,7 +5,7 @@ use Rattle.sudoers_line.specs.declared.node.Kind.{Kind}
 use Rattle.sudoers_line.specs.declared.node.Member.{Member}
 use Rattle.sudoers_line.specs.declared.node.Node.{Node}
 use Rattle.sudoers_line.specs.declared.node.Node.TheVariants as node
-use Rattle.sudoers_tree.specs.declared.line.Line.{Line}
+use Rattle.sudoers_tree.specs.Line.{Line}
 use Rattle.sudoers_tree.specs.Definition.{Definition, is_kind, definitions, defines, defined}
 use Rattle.sudoers_tree.specs.Policy.{AreOnce, IsPolicy}
 use Rattle.sudoers_check.specs.Chain.{Has, Chain, here, onward}

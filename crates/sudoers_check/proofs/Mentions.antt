@@ -1,6 +1,7 @@
 -- The mentions of all names hold those of each.
 use Rattle.std.proofs.Common.{◌≡◌, ℕ, ◌+◌, ◌-◌, Bool, true, false, ◌&&◌, List, [], ◌∷◌, ◌++◌, length, map, refl, sym, ap, ap₂, ◌∙◌, bytes_eq, flat_map, cond, if◌then◌else◌, append_assoc, append-nil, Option, Some, None}
 use Rattle.std.specs.List.{filter}
+use Rattle.std.proofs.lemmas.List.{map-append}
 use Rattle.std.proofs.lemmas.Slice.Eq.{bytes_eq-Decides}
 use Rattle.sudoers_check.specs.Chains.{name_in}
 use Rattle.sudoers_line.specs.declared.node.Kind.{Kind}
@@ -14,12 +15,12 @@ use Rattle.sudoers_line.specs.declared.node.CmdSpec.{CmdSpec}
 use Rattle.sudoers_line.specs.declared.node.HostGroup.{HostGroup}
 use Rattle.sudoers_line.specs.declared.node.Node.{Node}
 use Rattle.sudoers_line.specs.declared.node.Node.TheVariants as node
-use Rattle.sudoers_tree.specs.declared.line.Line.{Line}
+use Rattle.sudoers_tree.specs.Line.{Line}
 use Rattle.sudoers_tree.specs.declared.place.Span.{Span}
 use Rattle.sudoers_tree.specs.Definition.{is_kind}
 use Rattle.sudoers_tree.specs.Mention.{span_of, of_runas, in_group, members_in, mentions_since, mentions}
-use Rattle.sudoers_line.specs.Listed.{Listed, listed_as, listed_runas, listed_command, listed_group}
-use Rattle.sudoers_check.specs.Mentioned.{Mention, mention_of, mentions_among, mentioned_in, mentioned_since, mentioned, is_of}
+use Rattle.sudoers_line.specs.Listed.{Listed, alias_of, aliases_among, aliases_in, listed, listed_as, listed_runas, listed_command, listed_group}
+use Rattle.sudoers_check.specs.Mentioned.{Mention, mention_at, mention_of, mentions_among, mentioned_in, mentioned_since, mentioned, is_of}
 
 pub flat_append : {X Y : Type 0} (f : X → List Y) (xs ys : List X) → flat_map f (xs ++ ys) ≡ flat_map f xs ++ flat_map f ys
 flat_append f [] ys = refl
@@ -30,8 +31,26 @@ nothing_flat [] = refl
 nothing_flat (x ∷ xs) = nothing_flat xs
 
 -- the mentions among members of lists one after another
-pub mentions_append : (line : ℕ) (xs ys : List Listed) → mentions_among line (xs ++ ys) ≡ mentions_among line xs ++ mentions_among line ys
+mentions_append : (line : ℕ) (xs ys : List Listed) → mentions_among line (xs ++ ys) ≡ mentions_among line xs ++ mentions_among line ys
 mentions_append line xs ys = flat_append (λ (l : Listed). mention_of line l.0 l.1 l.1.atom) xs ys
+
+-- THE ALIASES OF A LINE
+
+mention_is : (line : ℕ) (k : Kind) (m : Member) (a : Atom) → map (mention_at line) (alias_of k m a) ≡ mention_of line k m a
+mention_is line k m (atom.Alias name) = refl
+mention_is line k m a = refl
+
+mentions_of_listed : (line : ℕ) (ls : List Listed) → map (mention_at line) (aliases_among ls) ≡ mentions_among line ls
+mentions_of_listed line [] = refl
+mentions_of_listed line (l ∷ ls) =
+    map-append (mention_at line) (alias_of l.0 l.1 l.1.atom) (aliases_among ls)
+    ∙ ap₂ (λ x y. x ++ y) (mention_is line l.0 l.1 l.1.atom) (mentions_of_listed line ls)
+
+-- what a line mentions are its aliases, each where it stands
+pub mentions_of_aliases : (line : ℕ) (says : Node) → map (mention_at line) (aliases_in says) ≡ mentioned_in line says
+mentions_of_aliases line says = mentions_of_listed line (listed says)
+
+-- THE MEMBERS OF ONE KIND
 
 -- What is picked of the mentions of a line is what t gives of the members of one kind.
 abbrev pub Picks : {Y : Type 0} → Kind → ℕ → (Mention → List Y) → (Member → List Y) → Type 0

@@ -3,7 +3,7 @@
 use Rattle.std.specs.Prelude.{ℕ, zero, suc, Bool, not, List, length}
 use Rattle.std.specs.List.{flat_map, filter, list_any}
 use Rattle.sudoers_line.specs.declared.node.Kind.{Kind}
-use Rattle.sudoers_tree.specs.declared.line.Line.{Line}
+use Rattle.sudoers_tree.specs.Line.{Line}
 use Rattle.sudoers_tree.specs.Definition.{Definition, definitions, defines, defined}
 use Rattle.sudoers_tree.specs.Fault.{is_some}
 use Rattle.sudoers_check.specs.Chains.{names_in, roots}

@@ -1,7 +1,5 @@
 pub mod Chain
 pub mod Mentioned
-pub mod Told
-pub mod Subject
 pub mod Chains
 pub mod Led
 pub mod Report

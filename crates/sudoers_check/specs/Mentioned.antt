@@ -7,8 +7,8 @@ use Rattle.sudoers_line.specs.declared.node.Atom.{Atom}
 use Rattle.sudoers_line.specs.declared.node.Atom.TheVariants as atom
 use Rattle.sudoers_line.specs.declared.node.Member.{Member}
 use Rattle.sudoers_line.specs.declared.node.Node.{Node}
-use Rattle.sudoers_line.specs.Listed.{Listed, listed}
-use Rattle.sudoers_tree.specs.declared.line.Line.{Line}
+use Rattle.sudoers_line.specs.Listed.{AliasMember, Listed, listed}
+use Rattle.sudoers_tree.specs.Line.{Line}
 use Rattle.sudoers_tree.specs.declared.place.Span.{Span}
 use Rattle.sudoers_tree.specs.Definition.{is_kind}
 
@@ -30,6 +30,11 @@ mentions_among line ls = flat_map (λ (l : Listed). mention_of line l.0 l.1 l.1.
 -- what the line with this number, from 0, mentions that says this
 abbrev pub mentioned_in : ℕ → Node → List Mention
 mentioned_in line n = mentions_among line (listed n)
+
+-- the mention that an alias is in the line with this number
+abbrev pub mention_at : ℕ → AliasMember → Mention
+mention_at line a =
+    record { kind = a.kind; name = a.name; span = record { line = line; start = a.stop - length a.name; stop = a.stop } }
 
 -- what lines mention that are numbered from this number on
 abbrev pub mentioned_since : ℕ → List Line → List Mention

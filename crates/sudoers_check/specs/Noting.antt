@@ -1,12 +1,12 @@
 -- A device of the proof, which no public contract cites: notes line by line.
-use Rattle.std.specs.Prelude.{◌≡◌, ℕ, ◌+◌, Bool, true, false, not, List, [], ◌∷◌, ◌++◌, take, drop, map, None}
+use Rattle.std.specs.Prelude.{◌≡◌, ℕ, ◌+◌, Bool, true, false, List, [], ◌∷◌, ◌++◌, take, drop, map, Option, Some, None}
 use Rattle.std.specs.List.{list_any}
 use Rattle.sudoers_text.specs.Fault.{lf_count}
 use Rattle.sudoers_line.specs.declared.node.Kind.{Kind}
 use Rattle.sudoers_line.specs.declared.node.Def.{Def}
 use Rattle.sudoers_line.specs.declared.node.Node.{Node}
 use Rattle.sudoers_line.specs.declared.node.Node.TheVariants as node
-use Rattle.sudoers_tree.specs.declared.line.Line.{Line}
+use Rattle.sudoers_tree.specs.Line.{Line}
 use Rattle.sudoers_tree.specs.declared.place.Place.{Place}
 use Rattle.sudoers_tree.specs.Physical.{column_behind}
 use Rattle.sudoers_tree.specs.Definition.{Definition, defined}
@@ -19,12 +19,6 @@ use Rattle.sudoers_check.specs.Seen.{has_seen}
 -- a note in a line that begins on this physical line
 abbrev pub note_in : ℕ → List ℕ → Kind → List ℕ → ℕ → Note
 note_in row text k name start = record { kind = k; name = name; line = row + lf_count (take start text); col = column_behind (take start text) }
-
--- the first of the marks is this one
-abbrev pub first_is : Bool → List Bool → Bool
-first_is wanted [] = false
-first_is true (m ∷ ms) = m
-first_is false (m ∷ ms) = not m
 
 -- notes of those of a line's definitions that have this mark
 abbrev pub noted_defs : Bool → ℕ → List ℕ → Kind → List Bool → List Def → List Note
@@ -70,6 +64,15 @@ abbrev pub places_from : ℕ → Kind → ℕ → List Bool → List (Kind × Pl
 places_from line k n [] = []
 places_from line k n (true ∷ ms) = places_from line k (n + 1) ms
 places_from line k n (false ∷ ms) = (k, record { line = line; def = n }) ∷ places_from line k (n + 1) ms
+
+-- of which kind a line defines aliases, if it does
+abbrev pub kind_in : Node → Option Kind
+kind_in (node.Alias k defs) = Some k
+kind_in node.Blank = None
+kind_in node.Comment = None
+kind_in (node.Include dir path) = None
+kind_in (node.Defaults scope params) = None
+kind_in (node.Spec users groups) = None
 
 abbrev pub unmarked_places : ℕ → List Bool → Node → List (Kind × Place)
 unmarked_places line marks (node.Alias k defs) = places_from line k 0 marks

@@ -1,7 +1,8 @@
 //! The checks.
 
 ghost use Rattle.std.specs.Prelude.{◌≡◌, ◌++◌, ◌⊎◌, List, true, false, length, map, Ok, Err, IfOk, IfErr, OnOk};
-ghost use Rattle.sudoers_tree.specs.declared.line.Line.{Line as LineOf};
+ghost use Rattle.sudoers_reader.specs.View.{node_shown};
+ghost use Rattle.sudoers_tree.specs.Line.{Line as LineOf};
 ghost use Rattle.sudoers_tree.specs.Definition.{definitions, Definition};
 ghost use Rattle.sudoers_tree.specs.Reading.{read_of};
 ghost use Rattle.sudoers_check.specs.Led.{unused_of, cyclic_of};
@@ -11,51 +12,19 @@ ghost use Rattle.sudoers_check.specs.Report.{report_of};
 
 use crate::cycles::on_cycles;
 use crate::graph::Graph;
+use crate::lines::{count_definitions, find_kind};
 use crate::notes::{marked_notes, undefined_notes};
 use crate::numbers::Numbers;
 use crate::report::Report;
-use crate::subject::Subject;
-use crate::told::Told;
 use std::alloc::{AllocError, Global};
-use sudoers_tree::{Kind, OutlinedPolicy, Place, Policy, ReadFault};
+use sudoers_tree::{Kind, Node, Place, Policy, ReadFault};
 
-/// What is to be noted of the aliases of a policy (visudo(8)).
+/// Returns what is to be noted of the aliases of a policy (visudo(8)).
 ///
 /// # Errors
 ///
 /// Want of memory alone.
 pub fn check(alloc: Global, policy: &Policy) -> Result<Report, AllocError>
-    ensures { IfOk result (λ report. report ≡ report_of policy.now) }
-{
-    let subject = Subject::whole(alloc, policy)?;
-    report_on(alloc, &subject)
-}
-
-/// What is to be noted of the aliases of the policy that a text is (visudo(8)), or why it is none.
-///
-/// # Errors
-///
-/// Those of [`Policy::read`](sudoers_tree::Policy::read).
-pub fn check_text(alloc: Global, text: &[u8]) -> Result<Report, ReadFault>
-    // The text is a policy, and this is to be noted of it.
-    ensures report { IfOk result (λ report. (policy : List LineOf) × (read_of text.now ≡ Ok policy) × (report ≡ report_of policy)) }
-    // A fault is the text's first, or memory ran out.
-    ensures fault { IfErr result (λ fault. (fault ≡ ReadFault.NoMemory) ⊎ (read_of text.now ≡ Err fault)) }
-{
-    let policy = OutlinedPolicy::read(alloc, text)?;
-    Ok(check_outlined(alloc, &policy)?)
-}
-
-/// What is to be noted of the aliases of a policy in outline.
-fn check_outlined(alloc: Global, policy: &OutlinedPolicy<'_>) -> Result<Report, AllocError>
-    ensures { IfOk result (λ report. report ≡ report_of policy.now) }
-{
-    let subject = Subject::outlined(alloc, policy)?;
-    report_on(alloc, &subject)
-}
-
-/// What is to be noted of the aliases of a policy.
-fn report_on(alloc: Global, policy: &Subject<'_>) -> Result<Report, AllocError>
     ensures { IfOk result (λ report. report ≡ report_of policy.now) }
 {
     let numbers = Numbers::new(alloc, policy)?;
@@ -69,20 +38,27 @@ fn report_on(alloc: Global, policy: &Subject<'_>) -> Result<Report, AllocError>
     })
 }
 
-/// The definitions to which no user specification and no Defaults line leads, with their kinds, in file order.
+/// Returns what is to be noted of the aliases of the policy that a text is (visudo(8)), or why it is none.
+///
+/// # Errors
+///
+/// Those of [`Policy::read`](sudoers_tree::Policy::read).
+pub fn check_text(alloc: Global, text: &[u8]) -> Result<Report, ReadFault>
+    // The text is a policy, and this is to be noted of it.
+    ensures report { IfOk result (λ report. (policy : List LineOf) × (read_of text.now ≡ Ok policy) × (report ≡ report_of policy)) }
+    // A fault is the text's first, or memory ran out.
+    ensures fault { IfErr result (λ fault. (fault ≡ ReadFault.NoMemory) ⊎ (read_of text.now ≡ Err fault)) }
+{
+    let policy = Policy::read(alloc, text)?;
+    Ok(check(alloc, &policy)?)
+}
+
+/// Returns the definitions to which no user specification and no Defaults line leads, with their kinds, in file order.
 ///
 /// # Errors
 ///
 /// Want of memory alone.
 pub fn unused(alloc: Global, policy: &Policy) -> Result<Vec<(Kind, Place)>, AllocError>
-    ensures { IfOk result (λ places. places.items ≡ map (λ (d : Definition). (d.kind, d.place)) (unused_of policy.now)) }
-{
-    let subject = Subject::whole(alloc, policy)?;
-    unused_on(alloc, &subject)
-}
-
-/// The same of a policy as the checks see it.
-fn unused_on(alloc: Global, policy: &Subject<'_>) -> Result<Vec<(Kind, Place)>, AllocError>
     ensures { IfOk result (λ places. places.items ≡ map (λ (d : Definition). (d.kind, d.place)) (unused_of policy.now)) }
 {
     let numbers = Numbers::new(alloc, policy)?;
@@ -91,10 +67,10 @@ fn unused_on(alloc: Global, policy: &Subject<'_>) -> Result<Vec<(Kind, Place)>, 
     unmarked(alloc, policy, reached.as_slice())
 }
 
-/// The places of the definitions that have no mark, with their kinds.
+/// Returns the places of the definitions that have no mark, with their kinds.
 fn unmarked(
     alloc: Global,
-    policy: &Subject<'_>,
+    policy: &Policy,
     marks: &[bool],
 ) -> Result<Vec<(Kind, Place)>, AllocError>
     requires { length marks.now ≡ length (definitions policy.now) }
@@ -103,15 +79,17 @@ fn unmarked(
 {
     let mut places = Vec::new(alloc);
     let mut rest = marks;
-    for (number, line) in policy.lines().iter().enumerate() {
-        let (here, behind) = rest.split_at(line.count());
-        append_unmarked(number, line, here, &mut places)?;
+    let lines = policy.lines();
+    for (number, row) in lines.rows.iter().enumerate() {
+        let node = lines.tables.node(&row.node);
+        let (here, behind) = rest.split_at(count_definitions(&node));
+        append_unmarked(number, &node, here, &mut places)?;
         rest = behind;
     }
     Ok(places)
 }
 
-/// A mark for each definition: whether a user specification or a Defaults line leads to it.
+/// Returns a mark for each definition: whether a user specification or a Defaults line leads to it.
 fn reached(alloc: Global, numbers: &Numbers<'_>, graph: &Graph) -> Result<Vec<bool>, AllocError>
     requires { graph.now ≡ graph_of (definitions numbers.now.policy.now) }
     ensures size { IfOk result (λ marks. length marks.items ≡ length (definitions numbers.now.policy.now)) }
@@ -124,7 +102,7 @@ fn reached(alloc: Global, numbers: &Numbers<'_>, graph: &Graph) -> Result<Vec<bo
     Ok(marks)
 }
 
-/// A mark for each definition: whether it is joined to itself.
+/// Returns a mark for each definition: whether it is joined to itself.
 fn cyclic(alloc: Global, numbers: &Numbers<'_>, graph: &Graph) -> Result<Vec<bool>, AllocError>
     requires { graph.now ≡ graph_of (definitions numbers.now.policy.now) }
     ensures size { IfOk result (λ marks. length marks.items ≡ length (definitions numbers.now.policy.now)) }
@@ -139,13 +117,13 @@ fn cyclic(alloc: Global, numbers: &Numbers<'_>, graph: &Graph) -> Result<Vec<boo
 /// Adds the places of those of a line's definitions that have no mark.
 fn append_unmarked(
     number: usize,
-    line: &Told<'_>,
+    node: &Node<'_>,
     marks: &[bool],
     places: &mut Vec<(Kind, Place)>,
 ) -> Result<(), AllocError>
-    ensures { OnOk result (places.new.items ≡ places.old.items ++ unmarked_places number marks.now line.now.node) }
+    ensures { OnOk result (places.new.items ≡ places.old.items ++ unmarked_places number marks.now (node_shown node.now)) }
 {
-    match line.kind() {
+    match find_kind(node) {
         Some(kind) => append_places(number, kind, marks, places),
         None => Ok(()),
     }

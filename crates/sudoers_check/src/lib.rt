@@ -6,13 +6,12 @@ mod cursor;
 mod cycles;
 mod graph;
 mod laws;
+mod lines;
 mod mentioned;
 mod notes;
 mod numbers;
 mod report;
 mod seen;
-mod subject;
-mod told;
 
 pub use checking::{check, check_text, unused};
 pub use laws::{chains_are, mentions_are};

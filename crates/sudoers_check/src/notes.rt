@@ -4,30 +4,30 @@ ghost use Rattle.std.specs.Prelude.{◌≡◌, ◌++◌, ◌∷◌, [], ◌+◌,
 ghost use Rattle.sudoers_text.specs.Line.{join};
 ghost use Rattle.sudoers_text.specs.Fault.{text_limit};
 ghost use Rattle.sudoers_line.specs.declared.node.Kind.{Kind as KindOf};
+ghost use Rattle.sudoers_reader.specs.View.{defs_shown, node_shown};
 ghost use Rattle.sudoers_tree.specs.Definition.{definitions};
 ghost use Rattle.sudoers_tree.specs.Policy.{texts};
 ghost use Rattle.sudoers_check.specs.Report.{note_of_mention, note_of_definition, undefined_of, undefined_behind, is_first_undefined};
-ghost use Rattle.sudoers_check.specs.Mentioned.{mentioned_in as mentions_of, Mention as MentionOf};
+ghost use Rattle.sudoers_check.specs.Mentioned.{Mention as MentionOf};
 ghost use Rattle.sudoers_check.specs.Numbers.{picked, count_in as count_of};
-ghost use Rattle.sudoers_check.specs.Noting.{first_is, note_in, noted_defs, noted_node, noted_from, noted_mentions, undefined_from, Agrees};
+ghost use Rattle.sudoers_check.specs.Noting.{note_in, noted_defs, noted_node, noted_from, noted_mentions, undefined_from, Agrees};
 
 use crate::cursor::Cursor;
-use crate::mentioned::Mention;
+use crate::lines::count_definitions;
+use crate::mentioned::{Mention, mentioned_in};
 use crate::report::Note;
 use crate::seen::Seen;
-use crate::subject::Subject;
-use crate::told::{Says, Told};
 use std::alloc::{AllocError, Global};
-use sudoers_tree::{Def, Items, Kind, Node};
+use sudoers_tree::{DefRow, Items, Kind, Line, Node, Policy, Rows, lf_count};
 
-/// The notes of the definitions with this mark; there is a mark for each definition.
+/// Returns the notes of the definitions with this mark; there is a mark for each definition.
 ///
 /// # Errors
 ///
 /// Want of memory alone.
 pub fn marked_notes(
     alloc: Global,
-    policy: &Subject<'_>,
+    policy: &Policy,
     marks: &[bool],
     wanted: bool,
 ) -> Result<Items<Note>, AllocError>
@@ -39,17 +39,19 @@ pub fn marked_notes(
     let mut notes = Vec::new(alloc);
     let mut row = 1;
     let mut rest = marks;
-    for line in policy.lines() {
-        let (here, behind) = rest.split_at(line.count());
-        note_line(alloc, line, row, here, wanted, &mut notes)?;
+    let lines = policy.lines();
+    for line_row in lines.rows {
+        let line = Line::of(lines.tables, line_row);
+        let (here, behind) = rest.split_at(count_definitions(&line.node));
+        note_line(alloc, &line, row, here, wanted, &mut notes)?;
         rest = behind;
-        row += line.ends();
+        row += lf_count(line.text);
     }
     Ok(Items::from_vec(notes))
 }
 
 /// A law: a policy's text is within the limit.
-fn within_limit(policy: &Subject<'_>)
+fn within_limit(policy: &Policy)
     ensures { length (join (texts policy.now)) ≤ text_limit }
 {
     policy.is_policy();
@@ -58,48 +60,21 @@ fn within_limit(policy: &Subject<'_>)
 /// Adds the notes of those of a line's definitions that have this mark.
 fn note_line(
     alloc: Global,
-    line: &Told<'_>,
+    line: &Line<'_>,
     row: usize,
     marks: &[bool],
     wanted: bool,
     notes: &mut Vec<Note>,
 ) -> Result<(), AllocError>
-    requires { row + length line.now.text < 2 ^ 62 }
-    ensures { OnOk result (notes.new.items ≡ notes.old.items ++ noted_node wanted row line.now.text marks.now line.now.node) }
+    requires { row + length line.now.text.now < 2 ^ 62 }
+    ensures { OnOk result (notes.new.items ≡ notes.old.items ++ noted_node wanted row line.now.text.now marks.now (node_shown line.now.node)) }
 {
-    let mut cursor = Cursor::new(line.text(), row);
-    match line.says() {
-        Says::Whole(Node::Alias { kind, defs }) => {
-            note_defs(
-                alloc,
-                &mut cursor,
-                *kind,
-                defs.as_slice(),
-                marks,
-                wanted,
-                notes,
-            )
+    let mut cursor = Cursor::new(line.text, row);
+    match &line.node {
+        Node::Alias { kind, defs } => {
+            note_defs(alloc, &mut cursor, *kind, defs, marks, wanted, notes)
         }
-        Says::Alias {
-            kind,
-            name,
-            start,
-            ..
-        } if first_is(marks, wanted) => {
-            notes.push(note_at(alloc, &mut cursor, kind, name, start)?)?;
-            Ok(())
-        }
-        Says::Alias { .. } | Says::Spec(_) | Says::Whole(_) => Ok(()),
-    }
-}
-
-/// Whether the first of the marks is this one.
-fn first_is(marks: &[bool], wanted: bool) -> bool
-    ensures { result ≡ first_is wanted marks.now }
-{
-    match marks {
-        [first, ..] => *first == wanted,
-        [] => false,
+        _ => Ok(()),
     }
 }
 
@@ -107,42 +82,46 @@ fn note_defs(
     alloc: Global,
     cursor: &mut Cursor<'_>,
     kind: Kind,
-    defs: &[Def],
+    defs: &Rows<'_, DefRow>,
     marks: &[bool],
     wanted: bool,
     notes: &mut Vec<Note>,
 ) -> Result<(), AllocError>
     ensures { OnOk result (notes.new.items ≡ notes.old.items
-        ++ noted_defs wanted cursor.old.row cursor.old.text.now kind marks.now defs.now) }
+        ++ noted_defs wanted cursor.old.row cursor.old.text.now kind marks.now (defs_shown defs.now)) }
 {
     let mut rest = marks;
-    for def in defs {
+    let tables = defs.tables;
+    for row in defs.rows {
         let Some((mark, behind)) = rest.split_first() else {
             break;
         };
+        let def = tables.def(row);
         if *mark == wanted {
-            notes.push(note_at(alloc, cursor, kind, def.name.as_slice(), def.start)?)?;
+            notes.push(note_at(alloc, cursor, kind, def.name, def.start)?)?;
         }
         rest = behind;
     }
     Ok(())
 }
 
-/// The notes of the names that are mentioned and not defined, each where it is first mentioned.
+/// Returns the notes of the names that are mentioned and not defined, each where it is first mentioned.
 ///
 /// # Errors
 ///
 /// Want of memory alone.
-pub fn undefined_notes(alloc: Global, policy: &Subject<'_>) -> Result<Items<Note>, AllocError>
+pub fn undefined_notes(alloc: Global, policy: &Policy) -> Result<Items<Note>, AllocError>
     ensures { IfOk result (λ notes. notes ≡ map (note_of_mention policy.now) (undefined_of policy.now)) }
 {
     within_limit(policy);
     let mut notes = Vec::new(alloc);
     let mut seen = Seen::new(alloc);
     let mut row = 1;
-    for (number, line) in policy.lines().iter().enumerate() {
-        let mentions = line.mentioned(alloc, number)?;
-        let mut cursor = Cursor::new(line.text(), row);
+    let lines = policy.lines();
+    for (number, line_row) in lines.rows.iter().enumerate() {
+        let line = Line::of(lines.tables, line_row);
+        let mentions = mentioned_in(alloc, number, &line.node)?;
+        let mut cursor = Cursor::new(line.text, row);
         note_undefined(
             alloc,
             policy,
@@ -151,7 +130,7 @@ pub fn undefined_notes(alloc: Global, policy: &Subject<'_>) -> Result<Items<Note
             &mut seen,
             &mut notes,
         )?;
-        row += line.ends();
+        row += lf_count(line.text);
     }
     Ok(Items::from_vec(notes))
 }
@@ -159,7 +138,7 @@ pub fn undefined_notes(alloc: Global, policy: &Subject<'_>) -> Result<Items<Note
 /// Adds the notes of the undefined names of a line that were not seen yet.
 fn note_undefined(
     alloc: Global,
-    policy: &Subject<'_>,
+    policy: &Policy,
     mentions: &[Mention<'_>],
     cursor: &mut Cursor<'_>,
     seen: &mut Seen,
@@ -180,10 +159,10 @@ fn note_undefined(
     Ok(())
 }
 
-/// The name is not defined, and was not seen before.
+/// Returns whether the name is not defined, and was not seen before.
 fn is_first(
     alloc: Global,
-    policy: &Subject<'_>,
+    policy: &Policy,
     mention: &Mention<'_>,
     seen: &mut Seen,
 ) -> Result<bool, AllocError>
@@ -198,7 +177,7 @@ fn is_first(
     seen.add(alloc, mention.kind, mention.name)
 }
 
-/// The note of a name that begins at this byte of the cursor's line.
+/// Returns the note of a name that begins at this byte of the cursor's line.
 fn note_at(
     alloc: Global,
     cursor: &mut Cursor<'_>,

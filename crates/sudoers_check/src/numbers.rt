@@ -2,46 +2,47 @@
 
 ghost use Rattle.std.specs.Prelude.{◌≡◌, ◌++◌, ℕ, List, length, map, IfOk, OnOk};
 ghost use Rattle.sudoers_line.specs.declared.node.Def.{Def as DefOf};
-ghost use Rattle.sudoers_line.specs.Listed.{AliasMember as AliasOf};
+ghost use Rattle.sudoers_reader.specs.View.{defs_shown, members_shown, node_shown};
 ghost use Rattle.sudoers_tree.specs.Definition.{definitions, definitions_in};
 ghost use Rattle.sudoers_check.specs.Chains.{names_in};
 ghost use Rattle.sudoers_check.specs.Numbers.{firsts_since, number_of, numbers_of, nodes_of, graph_of, roots_since, numbers_among};
 ghost use Rattle.sudoers_check.specs.Mentioned.{mentioned_in as mentions_of};
 
 use crate::graph::Graph;
-use crate::subject::Subject;
-use crate::told::{Says, Told};
+use crate::lines::{count_definitions, is_rooting};
+use crate::mentioned::mentioned_in;
 use std::alloc::{AllocError, Global};
-use sudoers_tree::{AliasMember, Atom, Def, Kind, Member, Node};
+use sudoers_tree::{Atom, DefRow, Kind, MemberRow, Node, Policy, Rows};
 
 /// A policy, and for each of its lines how many definitions stand before it.
 #[derive(Drop)]
 pub struct Numbers<'a> {
-    pub policy: &'a Subject<'a>,
+    pub policy: &'a Policy,
     firsts: Vec<usize>,
     ghost firsts_are: { firsts.items ≡ firsts_since 0 policy.now },
 }
 
 impl<'a> Numbers<'a> {
-    /// The numbers of the definitions of a policy.
+    /// Returns the numbers of the definitions of a policy.
     ///
     /// # Errors
     ///
     /// Want of memory alone, as of all of these.
-    pub fn new(alloc: Global, policy: &'a Subject<'a>) -> Result<Numbers<'a>, AllocError>
+    pub fn new(alloc: Global, policy: &'a Policy) -> Result<Numbers<'a>, AllocError>
         ensures { IfOk result (λ numbers. numbers.policy.now ≡ policy.now) }
     {
         policy.is_policy();
         let mut firsts = Vec::with_capacity(alloc, policy.len())?;
         let mut count = 0;
-        for line in policy.lines() {
+        let lines = policy.lines();
+        for row in lines.rows {
             firsts.push(count)?;
-            count += line.count();
+            count += count_definitions(&lines.tables.node(&row.node));
         }
         Ok(Numbers { policy, firsts })
     }
 
-    /// The number of the definition of a name.
+    /// Returns the number of the definition of a name.
     pub fn of(&self, kind: Kind, name: &[u8]) -> Option<usize>
         ensures { result ≡ number_of kind name.now (definitions self.now.policy.now) }
     {
@@ -50,37 +51,32 @@ impl<'a> Numbers<'a> {
         Some(self.firsts[place.line] + place.def)
     }
 
-    /// The definitions, each with those that it mentions.
+    /// Returns the definitions, each with those that it mentions.
     #[tactic(auto, using(crate::proofs::Nodes::nodes_append))]
     pub fn graph(&self, alloc: Global) -> Result<Graph, AllocError>
         ensures { IfOk result (λ graph. graph ≡ graph_of (definitions self.now.policy.now)) }
     {
         let mut nodes = Vec::new(alloc);
-        for line in self.policy.lines() {
-            self.append_line(alloc, line, &mut nodes)?;
+        let lines = self.policy.lines();
+        for row in lines.rows {
+            self.append_line(alloc, &lines.tables.node(&row.node), &mut nodes)?;
         }
         Ok(Graph::from_nodes(nodes))
     }
 
-    /// The definitions of a line.
+    /// Adds the definitions of a line.
     #[tactic(auto, using(crate::proofs::Nodes::nodes_from))]
     fn append_line(
         &self,
         alloc: Global,
-        line: &Told<'_>,
+        node: &Node<'_>,
         nodes: &mut Vec<Vec<usize>>,
     ) -> Result<(), AllocError>
         ensures { OnOk result ((n : ℕ) → map (λ edges. edges.items) nodes.new.items ≡ map (λ edges. edges.items) nodes.old.items
-            ++ nodes_of (definitions self.now.policy.now) (definitions_in n line.now.node)) }
+            ++ nodes_of (definitions self.now.policy.now) (definitions_in n (node_shown node.now))) }
     {
-        match line.says() {
-            Says::Whole(Node::Alias { kind, defs }) => {
-                self.append_nodes(alloc, *kind, defs.as_slice(), nodes)
-            }
-            Says::Alias { kind, aliases, .. } => {
-                nodes.push(self.of_aliases(alloc, kind, aliases)?)?;
-                Ok(())
-            }
+        match node {
+            Node::Alias { kind, defs } => self.append_nodes(alloc, *kind, defs, nodes),
             _ => Ok(()),
         }
     }
@@ -89,32 +85,35 @@ impl<'a> Numbers<'a> {
         &self,
         alloc: Global,
         kind: Kind,
-        defs: &[Def],
+        defs: &Rows<'_, DefRow>,
         nodes: &mut Vec<Vec<usize>>,
     ) -> Result<(), AllocError>
         ensures { OnOk result (map (λ edges. edges.items) nodes.new.items ≡ map (λ edges. edges.items) nodes.old.items
-            ++ map (λ (d : DefOf). numbers_of kind (names_in d.members) (definitions self.now.policy.now)) defs.now) }
+            ++ map (λ (d : DefOf). numbers_of kind (names_in d.members) (definitions self.now.policy.now)) (defs_shown defs.now)) }
     {
-        for def in defs {
-            nodes.push(self.of_members(alloc, kind, def.members.as_slice())?)?;
+        let tables = defs.tables;
+        for row in defs.rows {
+            let members = tables.members(row.members);
+            nodes.push(self.of_members(alloc, kind, &members)?)?;
         }
         Ok(())
     }
 
-    /// The numbers of the definitions that members name.
+    /// Returns the numbers of the definitions that members name.
     fn of_members(
         &self,
         alloc: Global,
         kind: Kind,
-        members: &[Member],
+        members: &Rows<'_, MemberRow>,
     ) -> Result<Vec<usize>, AllocError>
         ensures { IfOk result (λ numbers. numbers.items
-            ≡ numbers_of kind (names_in members.now) (definitions self.now.policy.now)) }
+            ≡ numbers_of kind (names_in (members_shown members.now)) (definitions self.now.policy.now)) }
     {
         let mut numbers = Vec::new(alloc);
-        for member in members {
-            if let Atom::Alias(name) = &member.atom {
-                if let Some(number) = self.of(kind, name.as_slice()) {
+        let tables = members.tables;
+        for row in members.rows {
+            if let Atom::Alias(name) = tables.atom(row.atom) {
+                if let Some(number) = self.of(kind, name) {
                     numbers.push(number)?;
                 }
             }
@@ -122,34 +121,17 @@ impl<'a> Numbers<'a> {
         Ok(numbers)
     }
 
-    /// The numbers of the definitions that these name as aliases of this kind.
-    fn of_aliases(
-        &self,
-        alloc: Global,
-        kind: Kind,
-        aliases: &[AliasMember<'_>],
-    ) -> Result<Vec<usize>, AllocError>
-        ensures { IfOk result (λ numbers. numbers.items
-            ≡ numbers_of kind (map (λ (a : AliasOf). a.name) aliases.now) (definitions self.now.policy.now)) }
-    {
-        let mut numbers = Vec::new(alloc);
-        for alias in aliases {
-            if let Some(number) = self.of(kind, alias.name) {
-                numbers.push(number)?;
-            }
-        }
-        Ok(numbers)
-    }
-
-    /// The numbers of the definitions that user specifications and Defaults lines mention.
+    /// Returns the numbers of the definitions that user specifications and Defaults lines mention.
     pub fn roots(&self, alloc: Global) -> Result<Vec<usize>, AllocError>
         ensures { IfOk result (λ roots. roots.items
             ≡ roots_since (definitions self.now.policy.now) 0 self.now.policy.now) }
     {
         let mut roots = Vec::new(alloc);
-        for (number, line) in self.policy.lines().iter().enumerate() {
-            if line.is_rooting() {
-                self.append_mentioned(alloc, number, line, &mut roots)?;
+        let lines = self.policy.lines();
+        for (number, row) in lines.rows.iter().enumerate() {
+            let node = lines.tables.node(&row.node);
+            if is_rooting(&node) {
+                self.append_mentioned(alloc, number, &node, &mut roots)?;
             }
         }
         Ok(roots)
@@ -159,13 +141,13 @@ impl<'a> Numbers<'a> {
         &self,
         alloc: Global,
         number: usize,
-        line: &Told<'_>,
+        node: &Node<'_>,
         numbers: &mut Vec<usize>,
     ) -> Result<(), AllocError>
         ensures { OnOk result (numbers.new.items ≡ numbers.old.items
-            ++ numbers_among (definitions self.now.policy.now) (mentions_of number line.now.node)) }
+            ++ numbers_among (definitions self.now.policy.now) (mentions_of number (node_shown node.now))) }
     {
-        for mention in &line.mentioned(alloc, number)? {
+        for mention in &mentioned_in(alloc, number, node)? {
             if let Some(number) = self.of(mention.kind, mention.name) {
                 numbers.push(number)?;
             }

@@ -1,5 +1,6 @@
 -- Lists that are alike, in parts.
-use Rattle.std.proofs.Common.{◌≡◌, ℕ, zero, suc, ◌+◌, ◌<◌, ◌≤◌, Bool, true, false, ◌&&◌, add-one, List, [], ◌∷◌, length, take, drop, remove, refl, sym, ap, ◌∙◌, arith}
+use Rattle.std.proofs.Common.{◌≡◌, ℕ, zero, suc, ◌+◌, ◌<◌, ◌≤◌, Bool, true, false, ◌&&◌, add-one, List, [], ◌∷◌, length, take, drop, map, remove, refl, sym, ap, ap₂, ◌∙◌, arith}
+use Rattle.std.proofs.lemmas.List.{length-map, take-map, drop-map}
 use Rattle.sudoers_edit.specs.Alike.{are_alike}
 
 pub and_assoc : (a b c : Bool) → (a && (b && c)) ≡ ((a && b) && c)
@@ -39,3 +40,19 @@ pub without_two : {X : Type 0} (alike : X → X → Bool) (xs ys : List X) (at :
     → a ≡ are_alike alike (take at xs) (take at ys) → b ≡ are_alike alike (drop (at + 1) xs) (drop at ys) → (a && b) ≡ are_alike alike (remove xs at) ys
 without_two alike xs ys at a b within inside front back =
     rw (front, back) (ap (λ n. are_alike alike (take at xs) (take at ys) && are_alike alike (drop n xs) (drop at ys)) (add-one at) ∙ without_parts alike xs ys at within inside)
+
+-- ROWS
+
+-- rows that say the same in the same tables
+pub same_rows : {R T X : Type 0} (alike : X → X → Bool) (said : T → R → X) (t u v w : T) (items others xs ys : List R) → t ≡ v → u ≡ w → items ≡ xs → others ≡ ys
+    → are_alike alike (map (said t) items) (map (said u) others) ≡ are_alike alike (map (said v) xs) (map (said w) ys)
+same_rows alike said t u v w items others xs ys a b c d = rw (a, b, c, d) refl
+
+-- without a row, in two parts
+pub without_row : {R X : Type 0} (alike : X → X → Bool) (f g : R → X) (xs ys : List R) (at : ℕ) (a b : Bool) → at < length xs → at ≤ length ys
+    → a ≡ are_alike alike (map f (take at xs)) (map g (take at ys)) → b ≡ are_alike alike (map f (drop (at + 1) xs)) (map g (drop at ys))
+    → (a && b) ≡ are_alike alike (remove (map f xs) at) (map g ys)
+without_row alike f g xs ys at a b within inside front back =
+    without_two alike (map f xs) (map g ys) at a b (omega (arith, within, length-map xs f)) (omega (arith, inside, length-map ys g))
+    (front ∙ ap₂ (are_alike alike) (sym (take-map f at xs)) (sym (take-map g at ys)))
+    (back ∙ ap₂ (are_alike alike) (sym (drop-map f (at + 1) xs)) (sym (drop-map g at ys)))

@@ -1,5 +1,6 @@
 -- Definitions of which one is changed.
-use Rattle.std.proofs.Common.{◌≡◌, ℕ, zero, suc, ◌+◌, ◌<◌, ◌≤◌, Bool, ◌&&◌, add-one, List, [], ◌∷◌, length, take, drop, slice_index_or, refl, sym, ap, ◌∙◌, arith}
+use Rattle.std.proofs.Common.{◌≡◌, ℕ, zero, suc, ◌+◌, ◌<◌, ◌≤◌, Bool, ◌&&◌, add-one, List, [], ◌∷◌, length, take, drop, map, get_or, slice_index_or, refl, sym, ap, ap₂, ◌∙◌, arith}
+use Rattle.std.proofs.lemmas.List.{length-map, take-map, drop-map, get_or-map}
 use Rattle.std.specs.Prelude.{slice_get, Some}
 use Rattle.sudoers_line.specs.declared.node.Def.{Def}
 use Rattle.sudoers_edit.specs.Alike.{are_alike}
@@ -50,3 +51,26 @@ pub changed_three : (alike : Def → Def → Bool) (change : Def → Def) (xs ys
 changed_three alike change xs ys at x y a b c within inside here there front mid back =
     rw (front, mid, back) (ap (λ n. (are_alike alike (take at xs) (take at ys) && alike (change x) y) && are_alike alike (drop n xs) (drop n ys)) (add-one at)
     ∙ changed_parts alike change xs ys at x y (found xs at x within here) (found ys at y inside there))
+
+-- ROWS
+
+pub changed_past_more_rows : {R : Type 0} (alike : Def → Def → Bool) (change : Def → Def) (f g : R → Def) (xs ys : List R) (at : ℕ) → length xs ≤ at
+    → are_alike alike (map f xs) (map g ys) ≡ are_alike alike (changed_at at change (map f xs)) (map g ys)
+changed_past_more_rows alike change f g xs ys at past = changed_past_more alike change (map f xs) (map g ys) at (omega (arith, past, length-map xs f))
+
+pub changed_past_less_rows : {R : Type 0} (alike : Def → Def → Bool) (change : Def → Def) (f g : R → Def) (xs ys : List R) (at : ℕ) → length ys ≤ at
+    → are_alike alike (map f xs) (map g ys) ≡ are_alike alike (changed_at at change (map f xs)) (map g ys)
+changed_past_less_rows alike change f g xs ys at past = changed_past_less alike change (map f xs) (map g ys) at (omega (arith, past, length-map ys g))
+
+pub changed_row : {R : Type 0} (alike : Def → Def → Bool) (change : Def → Def) (f g : R → Def) (xs ys : List R) (at : ℕ) (d e : R) (a b c : Bool) → at < length xs → at < length ys
+    → a ≡ are_alike alike (map f (take at xs)) (map g (take at ys))
+    → b ≡ alike (change (f (get_or xs at d))) (g (get_or ys at e)) → c ≡ are_alike alike (map f (drop (at + 1) xs)) (map g (drop (at + 1) ys))
+    → ((a && b) && c) ≡ are_alike alike (changed_at at change (map f xs)) (map g ys)
+changed_row alike change f g xs ys at d e a b c within inside front mid back =
+    let x : Def = f (get_or xs at d) in
+    let y : Def = g (get_or ys at e) in
+    changed_three alike change (map f xs) (map g ys) at x y a b c (omega (arith, within, length-map xs f)) (omega (arith, inside, length-map ys g))
+    (sym (get_or-map f xs at d x within)) (sym (get_or-map g ys at e y inside))
+    (front ∙ ap₂ (are_alike alike) (sym (take-map f at xs)) (sym (take-map g at ys)))
+    mid
+    (back ∙ ap₂ (are_alike alike) (sym (drop-map f (at + 1) xs)) (sym (drop-map g (at + 1) ys)))

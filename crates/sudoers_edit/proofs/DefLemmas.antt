@@ -2,7 +2,7 @@
 use Rattle.std.proofs.Common.{◌≡◌, ℕ, ◌+◌, List, [], ◌∷◌, length, Some, refl, sym, ap, ◌∙◌}
 use Rattle.std.specs.Prelude.{slice_get}
 use Rattle.sudoers_line.specs.declared.node.Def.{Def}
-use Rattle.sudoers_tree.specs.declared.line.Line.{Line}
+use Rattle.sudoers_tree.specs.Line.{Line}
 use Rattle.sudoers_tree.specs.Policy.{texts}
 use Rattle.sudoers_edit.specs.declared.edit.Edit.TheVariants.{AddDef, DropDef}
 use Rattle.sudoers_edit.specs.declared.one_more.Among.TheVariants as among

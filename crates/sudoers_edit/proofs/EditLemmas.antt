@@ -12,7 +12,7 @@ use Rattle.sudoers_edit.specs.declared.edit.Edit.TheVariants.{Insert, Delete, Mo
 use Rattle.sudoers_edit.specs.Landing.{lines_or_refusal, policy_or_refusal, where_policy}
 use Rattle.sudoers_edit.specs.LineEdits.{moved}
 use Rattle.sudoers_edit.specs.Editing.{step, run, IsUndoable, first_lines}
-use Rattle.sudoers_tree.specs.declared.line.Line.{Line}
+use Rattle.sudoers_tree.specs.Line.{Line}
 use Rattle.sudoers_edit.specs.OneLine.{is_one_line, IsAlone, IsSound}
 use Rattle.sudoers_tree.specs.Policy.{texts}
 use Rattle.sudoers_edit.specs.Leading.{Leads}

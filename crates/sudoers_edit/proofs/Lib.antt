@@ -23,6 +23,8 @@ mod RenameLemmas
 mod ReplaceLemmas
 mod ReplacedLemmas
 mod ScriptLemmas
+mod SeamLemmas
+mod StartLemmas
 mod SpellingLemmas
 mod SpliceLemmas
 mod WayBackLemmas

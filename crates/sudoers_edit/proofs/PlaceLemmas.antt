@@ -6,7 +6,7 @@ use Rattle.sudoers_line.specs.declared.node.Def.{Def}
 use Rattle.sudoers_line.specs.declared.node.Kind.{Kind}
 use Rattle.sudoers_line.specs.declared.node.Kind.TheVariants.{User, Runas, Host, Cmnd}
 use Rattle.sudoers_line.specs.declared.node.Node.TheVariants as node
-use Rattle.sudoers_tree.specs.declared.line.Line.{Line}
+use Rattle.sudoers_tree.specs.Line.{Line}
 use Rattle.sudoers_tree.specs.declared.place.Place.{Place}
 use Rattle.sudoers_tree.specs.Definition.{Definition, is_kind, definitions_from, definitions_in, definitions_since, definitions, defines, defined, place_of}
 use Rattle.sudoers_edit.specs.Alike.{are_alike, is_same_def}

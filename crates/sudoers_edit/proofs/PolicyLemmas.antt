@@ -7,7 +7,7 @@ use Rattle.sudoers_text.specs.Line.{join}
 use Rattle.sudoers_text.specs.Ended.{has_unended_inside}
 use Rattle.sudoers_text.specs.Fault.{text_limit}
 use Rattle.sudoers_text.specs.Cut.{cut_of, StandAlone}
-use Rattle.sudoers_tree.specs.declared.line.Line.{Line}
+use Rattle.sudoers_tree.specs.Line.{Line}
 use Rattle.sudoers_tree.specs.Policy.{texts}
 use Rattle.sudoers_tree.specs.Reading.{read_of}
 use Rattle.sudoers_edit.specs.OneLine.{IsAlone, IsSound}

@@ -9,7 +9,7 @@ use Rattle.sudoers_text.specs.Ended.{has_unended_inside, ends_in_lf}
 use Rattle.sudoers_text.specs.Cut.{StandAlone}
 use Rattle.sudoers_text.specs.Fault.{line_limit}
 use Rattle.sudoers_line.specs.declared.node.Node.{Node}
-use Rattle.sudoers_tree.specs.declared.line.Line.{Line}
+use Rattle.sudoers_tree.specs.Line.{Line}
 use Rattle.sudoers_tree.specs.Policy.{texts}
 use Rattle.sudoers_tree.specs.Reading.{read_of}
 use Rattle.sudoers_tree.specs.Single.{said}

@@ -10,7 +10,7 @@ use Rattle.sudoers_line.specs.declared.node.Node.{Node}
 use Rattle.sudoers_line.specs.declared.node.Node.TheVariants as node
 use Rattle.sudoers_line.specs.Line.{ReadsLine}
 use Rattle.sudoers_line.specs.Ascend.{HoldsMembers, DefsAscend}
-use Rattle.sudoers_tree.specs.declared.line.Line.{Line}
+use Rattle.sudoers_tree.specs.Line.{Line}
 use Rattle.sudoers_tree.specs.declared.place.Place.{Place}
 use Rattle.sudoers_tree.specs.Policy.{IsPolicy, SaysSo}
 use Rattle.sudoers_edit.specs.Leading.{IsKnown, IsDefAt}

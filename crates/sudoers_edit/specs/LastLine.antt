@@ -4,7 +4,7 @@ use Rattle.sudoers_text.specs.Line.{join}
 use Rattle.sudoers_text.specs.Ended.{ends_in_lf, has_unended_inside}
 use Rattle.sudoers_text.specs.Fault.{line_limit}
 use Rattle.sudoers_text.specs.Cut.{StandAlone}
-use Rattle.sudoers_tree.specs.declared.line.Line.{Line}
+use Rattle.sudoers_tree.specs.Line.{Line}
 use Rattle.sudoers_edit.specs.OneLine.{IsAlone}
 use Rattle.sudoers_edit.specs.Landing.{policy_or_refusal}
 

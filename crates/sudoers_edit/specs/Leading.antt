@@ -5,7 +5,7 @@ use Rattle.sudoers_text.specs.Ended.{has_unended_inside}
 use Rattle.sudoers_text.specs.Cut.{StandAlone}
 use Rattle.sudoers_text.specs.Whole.{is_logical_line}
 use Rattle.sudoers_tree.specs.Reading.{read_of}
-use Rattle.sudoers_tree.specs.declared.line.Line.{Line}
+use Rattle.sudoers_tree.specs.Line.{Line}
 use Rattle.sudoers_tree.specs.Policy.{texts}
 use Rattle.sudoers_edit.specs.declared.edit.Edit.{Edit}
 use Rattle.sudoers_edit.specs.declared.edit.EditFault.{EditFault}

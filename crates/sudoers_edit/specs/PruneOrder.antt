@@ -1,7 +1,7 @@
 -- A device of the proof, which no public contract cites: what Prune takes out in file order, by the places of what is unused.
 use Rattle.std.specs.Prelude.{ℕ, ◌+◌, ◌==◌, if◌then◌else◌, List, [], ◌∷◌, ◌++◌, length, map, take, drop}
 use Rattle.sudoers_line.specs.declared.node.Kind.{Kind}
-use Rattle.sudoers_tree.specs.declared.line.Line.{Line}
+use Rattle.sudoers_tree.specs.Line.{Line}
 use Rattle.sudoers_tree.specs.declared.place.Place.{Place}
 use Rattle.sudoers_tree.specs.Definition.{definitions_in}
 use Rattle.sudoers_edit.specs.declared.pruning.Removal.{Removal}

@@ -1,7 +1,7 @@
 -- What Prune takes out.
 use Rattle.std.specs.Prelude.{ℕ, ◌+◌, ◌==◌, if◌then◌else◌, List, [], ◌∷◌, ◌++◌, length, map, reverse}
 use Rattle.std.specs.List.{filter}
-use Rattle.sudoers_tree.specs.declared.line.Line.{Line}
+use Rattle.sudoers_tree.specs.Line.{Line}
 use Rattle.sudoers_tree.specs.Definition.{Definition, definitions_in}
 use Rattle.sudoers_check.specs.Led.{is_unused}
 use Rattle.sudoers_edit.specs.declared.edit.Edit.{Edit}

@@ -1,5 +1,5 @@
 -- An alias given another name, where it is defined and where it is mentioned.
-use Rattle.std.specs.Prelude.{ℕ, ◌+◌, ◌-◌, Bool, false, not, ◌||◌, nat_lt, if◌then◌else◌, List, [], ◌∷◌, ◌++◌, length, take, drop, map, Result, Ok, Err}
+use Rattle.std.specs.Prelude.{ℕ, ◌+◌, ◌-◌, Bool, false, not, ◌&&◌, ◌||◌, nat_lt, if◌then◌else◌, List, [], ◌∷◌, ◌++◌, length, take, drop, map, Result, Ok, Err}
 use Rattle.std.specs.List.{flat_map, list_any}
 use Rattle.std.specs.Str.{bytes_eq}
 use Rattle.sudoers_text.specs.Line.{join}
@@ -10,8 +10,9 @@ use Rattle.sudoers_line.specs.declared.node.Kind.{Kind}
 use Rattle.sudoers_line.specs.declared.node.Member.{Member}
 use Rattle.sudoers_line.specs.declared.node.Node.{Node}
 use Rattle.sudoers_line.specs.declared.node.Node.TheVariants as node
+use Rattle.sudoers_line.specs.Listed.{AliasMember}
 use Rattle.sudoers_tree.specs.declared.fault.ReadFault.TheVariants.{Syntax}
-use Rattle.sudoers_tree.specs.declared.line.Line.{Line}
+use Rattle.sudoers_tree.specs.Line.{Line}
 use Rattle.sudoers_tree.specs.declared.place.Span.{Span}
 use Rattle.sudoers_tree.specs.Definition.{is_kind, place_of}
 use Rattle.sudoers_tree.specs.Fault.{is_some}
@@ -44,6 +45,10 @@ starts_in k name (node.Defaults scope params) = starts_among name (members_in k 
 starts_in k name node.Blank = []
 starts_in k name node.Comment = []
 starts_in k name (node.Include dir path) = []
+
+-- where an alias among the members of all lists stands, if it is this name in a list of this kind
+abbrev pub start_if : Kind → List ℕ → AliasMember → List ℕ
+start_if k name a = if is_kind k a.kind && bytes_eq name a.name then (a.stop - length name) ∷ [] else []
 
 -- ANOTHER NAME
 

@@ -5,7 +5,7 @@ use Rattle.sudoers_line.specs.declared.node.Def.{Def}
 use Rattle.sudoers_line.specs.declared.node.Kind.{Kind}
 use Rattle.sudoers_line.specs.declared.node.Node.{Node}
 use Rattle.sudoers_line.specs.declared.node.Node.TheVariants as node
-use Rattle.sudoers_tree.specs.declared.line.Line.{Line}
+use Rattle.sudoers_tree.specs.Line.{Line}
 use Rattle.sudoers_tree.specs.declared.place.Place.{Place}
 use Rattle.sudoers_tree.specs.Definition.{place_of}
 use Rattle.sudoers_tree.specs.Policy.{texts}

@@ -123,7 +123,7 @@ impl Editor {
             return Ok(false);
         };
         let policy = after_all(&self.policy, entry.inverse.as_slice())?;
-        self.policy = policy;
+        put(&mut self.policy, policy);
         let _ = self.journal.pop();
         Ok(true)
     }
@@ -168,6 +168,13 @@ impl Editor {
     {
         inverses_of(self.policy.allocator(), self.journal.as_slice())
     }
+}
+
+/// Puts a policy in the place of another.
+fn put(place: &mut Policy, policy: Policy)
+    ensures { place.new ≡ policy }
+{
+    *place = policy;
 }
 
 /// The policy to which edits lead, one after another.

@@ -34,7 +34,7 @@ pub fn line_inserted(policy: &Policy, at: u32, text: &[u8]) -> Result<Landed, Ed
     if leaves_unended(policy, place, text) {
         return Err(EditFault::OpenLine);
     }
-    let whole = text_with(alloc, policy.lines(), place, text)?;
+    let whole = text_with(alloc, &policy.lines(), place, text)?;
     let inverse = Edits::one(alloc, Edit::Delete { at })?;
     is_sound(policy);
     land(alloc, whole.as_slice(), inverse)
@@ -50,7 +50,7 @@ pub fn line_deleted(policy: &Policy, at: u32) -> Result<Landed, EditFault>
         return Err(EditFault::NoLine);
     };
     let text = Text::from_slice(alloc, line)?;
-    let whole = text_without(alloc, policy.lines(), place)?;
+    let whole = text_without(alloc, &policy.lines(), place)?;
     let inverse = Edits::one(alloc, Edit::Insert { at, text })?;
     is_sound(policy);
     land(alloc, whole.as_slice(), inverse)
@@ -69,7 +69,7 @@ pub fn line_moved(policy: &Policy, from: u32, to: u32) -> Result<Landed, EditFau
     if move_leaves_unended(policy, place, target) {
         return Err(EditFault::OpenLine);
     }
-    let whole = text_moved(alloc, policy.lines(), place, target)?;
+    let whole = text_moved(alloc, &policy.lines(), place, target)?;
     let back = Edit::Move { from: to, to: from };
     let inverse = Edits::one(alloc, back)?;
     is_sound(policy);
@@ -117,7 +117,7 @@ pub fn end_opened(policy: &Policy) -> Result<Landed, EditFault>
     land(alloc, whole.as_slice(), inverse)
 }
 
-/// Whether a line without LF would stand before another once the text stands at a place.
+/// Returns whether a line without LF would stand before another once the text stands at a place.
 fn leaves_unended(policy: &Policy, at: usize, text: &[u8]) -> bool
     requires { at ≤ length policy.now }
     ensures { result ≡ has_unended_inside (insert (texts policy.now) at text.now) }
@@ -135,7 +135,7 @@ fn leaves_unended(policy: &Policy, at: usize, text: &[u8]) -> bool
     }
 }
 
-/// Whether a line without LF would stand before another once the line `from` stands at `to`.
+/// Returns whether a line without LF would stand before another once the line `from` stands at `to`.
 fn move_leaves_unended(policy: &Policy, from: usize, to: usize) -> bool
     requires from { from < length policy.now }
     requires to { to < length policy.now }
@@ -153,11 +153,11 @@ fn move_leaves_unended(policy: &Policy, from: usize, to: usize) -> bool
     }
 }
 
-/// The last line, where there is one.
+/// Returns the last line, where there is one.
 fn last_line(policy: &Policy) -> Option<&[u8]>
     ensures { option_copied result ≡ slice_get (texts policy.now) (length (texts policy.now) - 1) }
 {
-    Some(policy.lines().last()?.text.as_slice())
+    policy.line(policy.len().saturating_sub(1))
 }
 
 /// A law: the lines of a policy stay its lines where LF is put behind the last or taken from it, if that is a policy.
@@ -171,7 +171,7 @@ fn stays_cut()
     lf_from_last_line();
 }
 
-/// Whether a text is exactly one logical line.
+/// Returns whether a text is exactly one logical line.
 fn is_one_line(alloc: Global, text: &[u8]) -> Result<bool, AllocError>
     ensures is { IfOk result (λ is. is ≡ is_one_line text.now) }
     ensures alone { IfOk result (λ is. is ≡ true → IsAlone text.now) }

@@ -3,6 +3,7 @@ ghost use Rattle.std.specs.Prelude.{◌≡◌, ◌≤◌, ◌<◌, ◌^◌, ◌+
 ghost use Rattle.std.specs.List.{All};
 ghost use Rattle.sudoers_line.specs.declared.node.Kind.{Kind as AKind};
 ghost use Rattle.sudoers_text.specs.Fault.{text_limit};
+ghost use Rattle.sudoers_reader.specs.View.{node_shown};
 ghost use Rattle.sudoers_tree.specs.declared.place.Place.{Place as APlace};
 ghost use Rattle.sudoers_tree.specs.Definition.{Definition, definitions, definitions_in};
 ghost use Rattle.sudoers_tree.specs.Policy.{texts, alias_limit};
@@ -57,7 +58,7 @@ pub fn prune_is_its_list()
     ensures inverse { (lines : List (List ℕ)) → inv Edit.Prune lines ≡ inv_run (prune_list lines) lines }
 {}
 
-/// The policy without what is taken out.
+/// Returns the policy without what is taken out.
 fn removed(policy: &Policy, removal: Removal) -> Result<Landed, EditFault>
     ensures { Lands (edit_of removal) (texts policy.now) result }
 {
@@ -74,7 +75,7 @@ fn append_edits(to: &mut Vec<Edit>, edits: Edits) -> Result<(), AllocError>
     to.append(&mut items)
 }
 
-/// What Prune takes out of a policy, in its order.
+/// Returns what Prune takes out of a policy, in its order.
 pub fn removals(alloc: Global, policy: &Policy) -> Result<Vec<Removal>, AllocError>
     ensures { IfOk result (λ removals. removals.items ≡ the_removals policy.now) }
 {
@@ -82,16 +83,22 @@ pub fn removals(alloc: Global, policy: &Policy) -> Result<Vec<Removal>, AllocErr
     let places = unused(alloc, policy)?;
     let mut removals = Vec::new(alloc);
     let mut rest = places.as_slice();
-    for (number, line) in policy.lines().iter().enumerate() {
+    let lines = policy.lines();
+    for (number, row) in lines.rows.iter().enumerate() {
         let (here, behind) = rest.split_at(count_in_front(rest, number));
-        append_removals(number, definitions_of(&line.node), here, &mut removals)?;
+        append_removals(
+            number,
+            definitions_of(&lines.tables.node(&row.node)),
+            here,
+            &mut removals,
+        )?;
         rest = behind;
     }
     removals.reverse();
     Ok(removals)
 }
 
-/// How many of the first places are in the line.
+/// Returns how many of the first places are in the line.
 fn count_in_front(places: &[(Kind, Place)], line: usize) -> usize
     ensures is { result ≡ front_count line places.now }
     ensures within { result ≤ length places.now }
@@ -106,12 +113,12 @@ fn count_in_front(places: &[(Kind, Place)], line: usize) -> usize
     count
 }
 
-/// How many definitions a line has.
-fn definitions_of(node: &Node) -> usize
-    ensures { (n : ℕ) → result ≡ length (definitions_in n node.now) }
+/// Returns how many definitions a line has.
+fn definitions_of(node: &Node<'_>) -> usize
+    ensures { (n : ℕ) → result ≡ length (definitions_in n (node_shown node.now)) }
 {
     match node {
-        Node::Alias { defs, .. } => defs.len(),
+        Node::Alias { defs, .. } => defs.rows.len(),
         _ => 0,
     }
 }

@@ -3,6 +3,7 @@ ghost use Rattle.std.specs.Prelude.{◌≡◌, ◌∷◌, [], take, drop, Ok, If
 ghost use Rattle.std.specs.List.{list_any};
 ghost use Rattle.std.specs.Str.{bytes_eq};
 ghost use Rattle.sudoers_text.specs.Line.{join};
+ghost use Rattle.sudoers_tree.specs.Line.{line_shown, lines_shown};
 ghost use Rattle.sudoers_tree.specs.Policy.{texts};
 ghost use Rattle.sudoers_edit.specs.Alike.{are_alike as alike_lists};
 ghost use Rattle.sudoers_edit.specs.Editing.{Refuses};
@@ -17,7 +18,7 @@ use crate::reread::reread;
 use crate::text::Text;
 use std::alloc::{AllocError, Global};
 use sudoers_text::{LINE_LIMIT, is_name, is_reserved};
-use sudoers_tree::{Kind, Line, Policy, ReadFault, Why};
+use sudoers_tree::{Kind, Line, LineRow, Policy, ReadFault, Rows, Why};
 
 /// An alias given another name.
 pub fn alias_renamed(
@@ -52,7 +53,7 @@ fn rename_back(alloc: Global, kind: Kind, name: &[u8], fresh: &[u8]) -> Result<E
     Edits::one(alloc, back)
 }
 
-/// What is told where the way back would not lead back.
+/// Returns what is told where the way back would not lead back.
 fn no_way_back() -> EditFault
     ensures { result ≡ the_fault }
 {
@@ -63,7 +64,7 @@ fn no_way_back() -> EditFault
     })
 }
 
-/// Whether the old name, given back, leads to the lines before.
+/// Returns whether the old name, given back, leads to the lines before.
 fn is_restored(
     policy: &Policy,
     new: &Policy,
@@ -74,13 +75,13 @@ fn is_restored(
     ensures { IfOk result (λ is. is ≡ is_lines (texts policy.now) (rename_once kind fresh.now name.now new.now)) }
 {
     match renamed_once(new, kind, fresh, name) {
-        Ok(old) => Ok(are_same_lines(old.lines(), policy.lines())),
+        Ok(old) => Ok(are_same_lines(&old.lines(), &policy.lines())),
         Err(EditFault::NoMemory) => Err(AllocError),
         Err(_) => Ok(false),
     }
 }
 
-/// The policy with another name for an alias, whether or not a way leads back.
+/// Returns the policy with another name for an alias, whether or not a way leads back.
 fn renamed_once(policy: &Policy, kind: Kind, name: &[u8], fresh: &[u8]) -> Result<Policy, EditFault>
     ensures { MatchResult result (λ new. rename_once kind name.now fresh.now policy.now ≡ Ok (texts new))
         (λ fault. Refuses fault (rename_once kind name.now fresh.now policy.now)) }
@@ -101,7 +102,7 @@ fn renamed_once(policy: &Policy, kind: Kind, name: &[u8], fresh: &[u8]) -> Resul
     policy_of_lines(policy.allocator(), lines.as_slice())
 }
 
-/// Whether the name is defined or mentioned in the kind.
+/// Returns whether the name is defined or mentioned in the kind.
 fn is_taken(policy: &Policy, kind: Kind, fresh: &[u8]) -> Result<bool, AllocError>
     ensures { IfOk result (λ is. is ≡ taken kind fresh.now policy.now) }
 {
@@ -111,20 +112,20 @@ fn is_taken(policy: &Policy, kind: Kind, fresh: &[u8]) -> Result<bool, AllocErro
     Ok(!policy.mentions(kind, fresh)?.is_empty())
 }
 
-/// The policy that lines are, if the lines that are read are these.
+/// Returns the policy that lines are, if the lines that are read are these.
 fn policy_of_lines(alloc: Global, lines: &[Text]) -> Result<Policy, EditFault>
     ensures { MatchResult result (λ new. if_lines lines.now (policy_or_refusal (join lines.now)) ≡ Ok (texts new))
         (λ fault. Refuses fault (if_lines lines.now (policy_or_refusal (join lines.now)))) }
 {
     let text = joined(alloc, lines)?;
     let new = reread(alloc, text.as_slice())?;
-    if !are_lines(new.lines(), lines) {
+    if !are_lines(&new.lines(), lines) {
         return Err(no_way_back());
     }
     Ok(new)
 }
 
-/// The lines of a policy with another name for an alias.
+/// Returns the lines of a policy with another name for an alias.
 fn renamed_lines(
     policy: &Policy,
     kind: Kind,
@@ -134,34 +135,30 @@ fn renamed_lines(
     ensures { IfOk result (λ lines. lines.items ≡ renamed kind name.now fresh.now policy.now) }
 {
     let alloc = policy.allocator();
-    let mut lines = Vec::new(alloc);
-    for line in policy.lines() {
-        lines.push(line_renamed(alloc, line, kind, name, fresh)?)?;
+    let lines = policy.lines();
+    let mut texts = Vec::with_capacity(alloc, lines.rows.len())?;
+    for row in lines.rows {
+        let line = Line::of(lines.tables, row);
+        texts.push(line_renamed(alloc, &line, kind, name, fresh)?)?;
     }
-    Ok(lines)
+    Ok(texts)
 }
 
 fn line_renamed(
     alloc: Global,
-    line: &Line,
+    line: &Line<'_>,
     kind: Kind,
     name: &[u8],
     fresh: &[u8],
 ) -> Result<Text, AllocError>
-    ensures { IfOk result (λ text. text ≡ renamed_line kind name.now fresh.now line.now) }
+    ensures { IfOk result (λ text. text ≡ renamed_line kind name.now fresh.now (line_shown line.now)) }
 {
     let starts = name_starts(alloc, kind, name, &line.node)?;
-    let text = with_others(
-        alloc,
-        line.text.as_slice(),
-        starts.as_slice(),
-        name.len(),
-        fresh,
-    )?;
+    let text = with_others(alloc, line.text, starts.as_slice(), name.len(), fresh)?;
     Ok(Text::from_vec(text))
 }
 
-/// The line with other bytes where at these places so many stand.
+/// Returns the line with other bytes where at these places so many stand.
 fn with_others(
     alloc: Global,
     line: &[u8],
@@ -182,7 +179,7 @@ fn with_others(
     Ok(text)
 }
 
-/// So many of the first bytes, or all.
+/// Returns so many of the first bytes, or all.
 fn front(bytes: &[u8], size: usize) -> &[u8]
     ensures { result.now ≡ take size bytes.now }
 {
@@ -190,7 +187,7 @@ fn front(bytes: &[u8], size: usize) -> &[u8]
     front
 }
 
-/// What stands behind so many bytes.
+/// Returns what stands behind so many bytes.
 fn behind(bytes: &[u8], size: usize) -> &[u8]
     ensures { result.now ≡ drop size bytes.now }
 {
@@ -198,7 +195,7 @@ fn behind(bytes: &[u8], size: usize) -> &[u8]
     behind
 }
 
-/// Whether a line is past the limit.
+/// Returns whether a line is past the limit.
 fn is_one_too_long(lines: &[Text]) -> bool
     ensures { result ≡ list_any is_too_long lines.now }
 {
@@ -210,7 +207,7 @@ fn is_one_too_long(lines: &[Text]) -> bool
     false
 }
 
-/// The text of lines.
+/// Returns the text of lines.
 fn joined(alloc: Global, lines: &[Text]) -> Result<Vec<u8>, AllocError>
     ensures { IfOk result (λ text. text.items ≡ join lines.now) }
 {
@@ -221,17 +218,17 @@ fn joined(alloc: Global, lines: &[Text]) -> Result<Vec<u8>, AllocError>
     Ok(text)
 }
 
-/// Whether the lines have these texts.
-fn are_lines(lines: &[Line], others: &[Text]) -> bool
-    ensures { result ≡ alike_lists bytes_eq (texts lines.now) others.now }
+/// Returns whether the lines have these texts.
+fn are_lines(lines: &Rows<'_, LineRow>, others: &[Text]) -> bool
+    ensures { result ≡ alike_lists bytes_eq (texts (lines_shown lines.now)) others.now }
 {
-    let mut rest = lines;
+    let mut rest = lines.rows;
     let mut left = others;
-    while let Some((line, behind)) = rest.split_first() {
+    while let Some((row, behind)) = rest.split_first() {
         let Some((other, after)) = left.split_first() else {
             return false;
         };
-        if line.text.as_slice() != other.as_slice() {
+        if lines.tables.text(row.text) != other.as_slice() {
             return false;
         }
         rest = behind;
@@ -240,17 +237,17 @@ fn are_lines(lines: &[Line], others: &[Text]) -> bool
     left.is_empty()
 }
 
-/// Whether the lines of one list have the texts of the other's.
-fn are_same_lines(lines: &[Line], others: &[Line]) -> bool
-    ensures { result ≡ alike_lists bytes_eq (texts lines.now) (texts others.now) }
+/// Returns whether the lines of one list have the texts of the other's.
+fn are_same_lines(lines: &Rows<'_, LineRow>, others: &Rows<'_, LineRow>) -> bool
+    ensures { result ≡ alike_lists bytes_eq (texts (lines_shown lines.now)) (texts (lines_shown others.now)) }
 {
-    let mut rest = lines;
-    let mut left = others;
-    while let Some((line, behind)) = rest.split_first() {
+    let mut rest = lines.rows;
+    let mut left = others.rows;
+    while let Some((row, behind)) = rest.split_first() {
         let Some((other, after)) = left.split_first() else {
             return false;
         };
-        if line.text.as_slice() != other.text.as_slice() {
+        if lines.tables.text(row.text) != others.tables.text(other.text) {
             return false;
         }
         rest = behind;

@@ -1,67 +1,85 @@
 //! Which bytes of its line a member or a definition owns, and the line without them or with others.
 ghost use Rattle.std.specs.Prelude.{◌≡◌, ◌≤◌, ◌+◌, ℕ, List, map, length, Some, Result, Err, IfOk, MatchResult};
+ghost use Rattle.sudoers_line.specs.declared.node.Def.{Def as DefOf};
+ghost use Rattle.sudoers_line.specs.declared.node.Member.{Member as MemberOf};
+ghost use Rattle.sudoers_reader.specs.declared.rows.Tables.{Tables as TablesOf};
+ghost use Rattle.sudoers_reader.specs.Tables.{def_in, member_in};
 ghost use Rattle.sudoers_edit.specs.declared.edit.EditFault.{EditFault as Refusal};
 ghost use Rattle.sudoers_edit.specs.SpliceEdits.{place_to_add as to_add, place_to_drop as to_drop, Lines};
 ghost use Rattle.sudoers_edit.specs.Splice.{Extent, seam as the_seam, owned_stop as the_stop, line_with as with_splice, line_without as without_slice, slice};
 
 use crate::edit::EditFault;
 use std::alloc::{AllocError, Global};
-use sudoers_tree::{Def, Member};
+use sudoers_tree::{DefRow, MemberRow, Rows, Tables};
 
-/// What stands in a line.
+/// What stands in a line: a row, by what it says in its tables.
 pub trait Placed {
-    ghost extent: { Self → Extent };
+    ghost Said: { Type 0 };
 
-    /// Its first byte, and the byte behind its last.
-    fn extent(&self) -> (usize, usize)
-        ensures { result ≡ extent self.now };
+    ghost said: { TablesOf → Self → Said };
+
+    ghost extent: { Said → Extent };
+
+    /// Returns its first byte, and the byte behind its last.
+    fn extent(&self, tables: &Tables) -> (usize, usize)
+        ensures { result ≡ extent (said tables.now self.now) };
 }
 
-impl Placed for Member {
+impl Placed for MemberRow {
+    ghost Said = { MemberOf };
+
+    ghost said = { member_in };
+
     ghost extent = { λ member. (member.start, member.stop) };
 
-    fn extent(&self) -> (usize, usize) {
-        (self.start, self.stop)
+    fn extent(&self, tables: &Tables) -> (usize, usize) {
+        let member = tables.member(self);
+        (member.start, member.stop)
     }
 }
 
-impl Placed for Def {
+impl Placed for DefRow {
+    ghost Said = { DefOf };
+
+    ghost said = { def_in };
+
     ghost extent = { λ def. (def.start, def.stop) };
 
-    fn extent(&self) -> (usize, usize) {
-        (self.start, self.stop)
+    fn extent(&self, tables: &Tables) -> (usize, usize) {
+        let def = tables.def(self);
+        (def.start, def.stop)
     }
 }
 
-/// Where the bytes begin that the one at a place owns: at the end of the one before it; of the first, at its start.
-pub fn seam<T: Placed>(items: &[T], at: usize) -> Option<usize>
-    ensures { result ≡ the_seam at (map T.extent items.now) }
+/// Returns where the bytes begin that the one at a place owns: at the end of the one before it; of the first, at its start.
+pub fn seam<T: Placed>(items: &Rows<'_, T>, at: usize) -> Option<usize>
+    ensures { result ≡ the_seam at (map T.extent (map (T.said items.now.tables.now) items.now.rows.now)) }
 {
     if at == 0 {
-        Some(items.first()?.extent().0)
+        Some(items.rows.first()?.extent(items.tables).0)
     } else {
-        Some(items.get(at - 1)?.extent().1)
+        Some(items.rows.get(at - 1)?.extent(items.tables).1)
     }
 }
 
-/// Where they stop: at its own end; of the first, at the start of the next.
-pub fn owned_stop<T: Placed>(items: &[T], at: usize) -> Option<usize>
-    ensures { result ≡ the_stop at (map T.extent items.now) }
+/// Returns where they stop: at its own end; of the first, at the start of the next.
+pub fn owned_stop<T: Placed>(items: &Rows<'_, T>, at: usize) -> Option<usize>
+    ensures { result ≡ the_stop at (map T.extent (map (T.said items.now.tables.now) items.now.rows.now)) }
 {
     if at == 0 {
-        Some(items.get(1)?.extent().0)
+        Some(items.rows.get(1)?.extent(items.tables).0)
     } else {
-        Some(items.get(at)?.extent().1)
+        Some(items.rows.get(at)?.extent(items.tables).1)
     }
 }
 
-/// Where one more may be put in among these: at which byte.
-pub fn place_to_add<T: Placed>(items: &[T], at: usize) -> Result<usize, EditFault>
+/// Returns where one more may be put in among these: at which byte.
+pub fn place_to_add<T: Placed>(items: &Rows<'_, T>, at: usize) -> Result<usize, EditFault>
     ensures { (next : ℕ → Result Lines Refusal) → MatchResult result
-        (λ from. (to_add at (map T.extent items.now) next ≡ next from) × (the_seam at (map T.extent items.now) ≡ Some from))
-        (λ fault. to_add at (map T.extent items.now) next ≡ Err fault) }
+        (λ from. (to_add at (map T.extent (map (T.said items.now.tables.now) items.now.rows.now)) next ≡ next from) × (the_seam at (map T.extent (map (T.said items.now.tables.now) items.now.rows.now)) ≡ Some from))
+        (λ fault. to_add at (map T.extent (map (T.said items.now.tables.now) items.now.rows.now)) next ≡ Err fault) }
 {
-    if at > items.len() {
+    if at > items.rows.len() {
         return Err(EditFault::NoPlace);
     }
     match seam(items, at) {
@@ -70,17 +88,17 @@ pub fn place_to_add<T: Placed>(items: &[T], at: usize) -> Result<usize, EditFaul
     }
 }
 
-/// Which bytes go with one that may be taken out of these.
-pub fn place_to_drop<T: Placed>(items: &[T], at: usize) -> Result<(usize, usize), EditFault>
+/// Returns which bytes go with one that may be taken out of these.
+pub fn place_to_drop<T: Placed>(items: &Rows<'_, T>, at: usize) -> Result<(usize, usize), EditFault>
     ensures { (next : ℕ → ℕ → Result Lines Refusal) → MatchResult result
-        (λ bytes. (to_drop at (map T.extent items.now) next ≡ next bytes.0 bytes.1)
-        × (the_seam at (map T.extent items.now) ≡ Some bytes.0) × (the_stop at (map T.extent items.now) ≡ Some bytes.1))
-        (λ fault. to_drop at (map T.extent items.now) next ≡ Err fault) }
+        (λ bytes. (to_drop at (map T.extent (map (T.said items.now.tables.now) items.now.rows.now)) next ≡ next bytes.0 bytes.1)
+        × (the_seam at (map T.extent (map (T.said items.now.tables.now) items.now.rows.now)) ≡ Some bytes.0) × (the_stop at (map T.extent (map (T.said items.now.tables.now) items.now.rows.now)) ≡ Some bytes.1))
+        (λ fault. to_drop at (map T.extent (map (T.said items.now.tables.now) items.now.rows.now)) next ≡ Err fault) }
 {
-    if at >= items.len() {
+    if at >= items.rows.len() {
         return Err(EditFault::NoPlace);
     }
-    if items.len() == 1 {
+    if items.rows.len() == 1 {
         return Err(EditFault::OnlyOne);
     }
     let Some(from) = seam(items, at) else {
@@ -92,7 +110,7 @@ pub fn place_to_drop<T: Placed>(items: &[T], at: usize) -> Result<(usize, usize)
     }
 }
 
-/// A line with a splice at a place.
+/// Returns a line with a splice at a place.
 pub fn line_with(
     alloc: Global,
     line: &[u8],
@@ -109,7 +127,7 @@ pub fn line_with(
     Ok(text)
 }
 
-/// A line without the bytes from one place to another.
+/// Returns a line without the bytes from one place to another.
 pub fn line_without(
     alloc: Global,
     line: &[u8],

@@ -1,5 +1,5 @@
 //! Members and definitions put in and taken out.
-ghost use Rattle.std.specs.Prelude.{◌≡◌, ◌≤◌, ◌<◌, ◌∷◌, [], length, slice_get, Some, Result, Err, List, ℕ, IfOk, MatchResult};
+ghost use Rattle.std.specs.Prelude.{◌≡◌, ◌≤◌, ◌<◌, ◌∷◌, [], length, option_map, slice_get, Some, Result, Err, List, ℕ, IfOk, MatchResult};
 ghost use Rattle.sudoers_text.specs.Ended.{has_unended_inside};
 ghost use Rattle.sudoers_tree.specs.Policy.{texts};
 ghost use Rattle.sudoers_edit.specs.declared.edit.Edit.{Edit as AnEdit};
@@ -8,7 +8,8 @@ ghost use Rattle.sudoers_edit.specs.Landing.{changed_or_refusal};
 ghost use Rattle.sudoers_tree.specs.Changed.{replaced};
 ghost use Rattle.sudoers_edit.specs.Leading.{Lands, Replaces, PutIn, CutOut, IsKnown, IsDefAt};
 ghost use Rattle.sudoers_edit.specs.SpliceEdits.{Lines, put_in as with_more, cut_out as with_less, with_defs, with_def, defs_of};
-ghost use Rattle.sudoers_tree.specs.declared.line.Line.{Line as LineOf};
+ghost use Rattle.sudoers_reader.specs.View.{def_shown, defs_shown};
+ghost use Rattle.sudoers_tree.specs.Line.{Line as LineOf, line_shown};
 ghost use Rattle.sudoers_line.specs.declared.node.Def.{Def as DefOf};
 ghost use Rattle.sudoers_tree.specs.declared.place.Place.{Place as PlaceOf};
 ghost use Rattle.sudoers_tree.specs.Definition.{place_of};
@@ -22,8 +23,8 @@ use crate::text::Text;
 use std::alloc::{AllocError, Global};
 use sudoers_text::{LINE_LIMIT, ends_in_lf, line_alone_is_whole, line_alone_size};
 use sudoers_tree::{
-    Def, Kind, Line, Node, Place, Policy, definitions_ascend, lines_are_said, read_line,
-    text_replaced,
+    Def, DefRow, Kind, Line, Node, Place, Policy, Rows, definitions_ascend, lines_are_said,
+    read_line, text_replaced,
 };
 
 /// A definition put into a line.
@@ -36,11 +37,11 @@ pub fn def_added(policy: &Policy, line: u32, at: u32, splice: &[u8]) -> Result<L
         Ok(found) => found,
         Err(fault) => return Err(fault),
     };
-    let from = match place_to_add(defs, at as usize) {
+    let from = match place_to_add(&defs, at as usize) {
         Ok(from) => from,
         Err(fault) => return Err(fault),
     };
-    let text = match put_in(alloc, Among::Definitions, at as usize, from, splice, old) {
+    let text = match put_in(alloc, Among::Definitions, at as usize, from, splice, &old) {
         Ok(text) => text,
         Err(fault) => return Err(fault),
     };
@@ -58,15 +59,15 @@ pub fn def_dropped(policy: &Policy, line: u32, at: u32) -> Result<Landed, EditFa
         Ok(found) => found,
         Err(fault) => return Err(fault),
     };
-    let (from, to) = match place_to_drop(defs, at as usize) {
+    let (from, to) = match place_to_drop(&defs, at as usize) {
         Ok(bytes) => bytes,
         Err(fault) => return Err(fault),
     };
-    let text = match cut_out(alloc, Among::Definitions, at as usize, from, to, old) {
+    let text = match cut_out(alloc, Among::Definitions, at as usize, from, to, &old) {
         Ok(text) => text,
         Err(fault) => return Err(fault),
     };
-    let splice = Text::from_slice(alloc, &old.text.as_slice()[from..to])?;
+    let splice = Text::from_slice(alloc, &old.text[from..to])?;
     let inverse = Edits::one(alloc, Edit::AddDef { line, at, splice })?;
     line_replaced(policy, line as usize, text.as_slice(), inverse)
 }
@@ -87,12 +88,12 @@ pub fn member_added(
         Ok(found) => found,
         Err(fault) => return Err(fault),
     };
-    let from = match place_to_add(def.members.as_slice(), at as usize) {
+    let from = match place_to_add(&def.members, at as usize) {
         Ok(from) => from,
         Err(fault) => return Err(fault),
     };
     let among = Among::Members { def: place.def };
-    let text = match put_in(alloc, among, at as usize, from, splice, old) {
+    let text = match put_in(alloc, among, at as usize, from, splice, &old) {
         Ok(text) => text,
         Err(fault) => return Err(fault),
     };
@@ -116,20 +117,20 @@ pub fn member_dropped(
         Ok(found) => found,
         Err(fault) => return Err(fault),
     };
-    let (from, to) = match place_to_drop(def.members.as_slice(), at as usize) {
+    let (from, to) = match place_to_drop(&def.members, at as usize) {
         Ok(bytes) => bytes,
         Err(fault) => return Err(fault),
     };
     let among = Among::Members { def: place.def };
-    let text = match cut_out(alloc, among, at as usize, from, to, old) {
+    let text = match cut_out(alloc, among, at as usize, from, to, &old) {
         Ok(text) => text,
         Err(fault) => return Err(fault),
     };
-    let inverse = member_again(alloc, kind, name, at, &old.text.as_slice()[from..to])?;
+    let inverse = member_again(alloc, kind, name, at, &old.text[from..to])?;
     line_replaced(policy, place.line, text.as_slice(), inverse)
 }
 
-/// The edit that puts a member in again.
+/// Returns the edit that puts a member in again.
 fn member_again(
     alloc: Global,
     kind: Kind,
@@ -152,97 +153,108 @@ fn member_again(
     )
 }
 
-/// Where an alias is defined: the place, the line and the definition.
+/// Returns the line at a place.
+fn line_at(policy: &Policy, number: usize) -> Option<Line<'_>>
+    ensures { option_map line_shown result ≡ slice_get policy.now number }
+{
+    let lines = policy.lines();
+    match lines.rows.get(number) {
+        Some(row) => Some(Line::of(lines.tables, row)),
+        None => None,
+    }
+}
+
+/// Returns where an alias is defined: the place, the line and the definition.
 fn def_at<'a>(
     policy: &'a Policy,
     kind: Kind,
     name: &[u8],
-) -> Result<(Place, &'a Line, &'a Def), EditFault>
+) -> Result<(Place, Line<'a>, Def<'a>), EditFault>
     ensures outcome { (next : PlaceOf → LineOf → DefOf → Result Lines Refusal) → MatchResult result
-        (λ found. with_def (place_of kind name.now policy.now) policy.now next ≡ next found.0 found.1.now found.2.now)
+        (λ found. with_def (place_of kind name.now policy.now) policy.now next ≡ next found.0 (line_shown found.1) (def_shown found.2))
         (λ fault. with_def (place_of kind name.now policy.now) policy.now next ≡ Err fault) }
-    ensures found { IfOk result (λ found. IsDefAt kind name.now policy.now found.0 found.1.now found.2.now) }
+    ensures found { IfOk result (λ found. IsDefAt kind name.now policy.now found.0 (line_shown found.1) (def_shown found.2)) }
 {
     let Some(place) = policy.definition(kind, name) else {
         return Err(EditFault::NoAlias);
     };
-    let Some(line) = policy.lines().get(place.line) else {
+    let Some(line) = line_at(policy, place.line) else {
         return Err(EditFault::NoAlias);
     };
-    let Node::Alias { defs, .. } = &line.node else {
+    let Node::Alias { defs, .. } = line.node else {
         return Err(EditFault::NoAlias);
     };
-    match defs.as_slice().get(place.def) {
-        Some(def) => Ok((place, line, def)),
+    match defs.rows.get(place.def) {
+        Some(row) => Ok((place, line, defs.tables.def(row))),
         None => Err(EditFault::NoAlias),
     }
 }
 
-/// The line of a number, and its definitions.
-fn defs_at(policy: &Policy, number: usize) -> Result<(&Line, &[Def]), EditFault>
+/// Returns the line of a number, and its definitions.
+fn defs_at(policy: &Policy, number: usize) -> Result<(Line<'_>, Rows<'_, DefRow>), EditFault>
     ensures outcome { (next : LineOf → List DefOf → Result Lines Refusal) → MatchResult result
-        (λ found. with_defs number policy.now next ≡ next found.0.now found.1.now)
+        (λ found. with_defs number policy.now next ≡ next (line_shown found.0) (defs_shown found.1))
         (λ fault. with_defs number policy.now next ≡ Err fault) }
-    ensures found { IfOk result (λ found. (slice_get policy.now number ≡ Some found.0.now)
-        × (defs_of found.0.now.node ≡ Some found.1.now)) }
+    ensures found { IfOk result (λ found. (slice_get policy.now number ≡ Some (line_shown found.0))
+        × (defs_of (line_shown found.0).node ≡ Some (defs_shown found.1))) }
 {
-    let Some(line) = policy.lines().get(number) else {
+    let Some(line) = line_at(policy, number) else {
         return Err(EditFault::NoLine);
     };
-    match &line.node {
-        Node::Alias { defs, .. } => Ok((line, defs.as_slice())),
+    match line.node {
+        Node::Alias { defs, .. } => Ok((line, defs)),
         _ => Err(EditFault::NoAlias),
     }
 }
 
-/// A line with one more, which stands at a place and has these bytes.
+/// Returns a line with one more, which stands at a place and has these bytes.
 fn put_in(
     alloc: Global,
     among: Among,
     at: usize,
     from: usize,
     splice: &[u8],
-    old: &Line,
+    old: &Line<'_>,
 ) -> Result<Vec<u8>, EditFault>
-    requires { from ≤ length old.now.text }
-    ensures put { IfOk result (λ text. PutIn among at from splice.now old.now text.items) }
+    requires { from ≤ length (line_shown old.now).text }
+    ensures put { IfOk result (λ text. PutIn among at from splice.now (line_shown old.now) text.items) }
     ensures outcome { (n : ℕ) (policy : List LineOf) → MatchResult result
-        (λ text. with_more among at from n splice.now old.now policy ≡ changed_or_refusal n text.items (texts policy))
-        (λ fault. Refuses fault (with_more among at from n splice.now old.now policy)) }
+        (λ text. with_more among at from n splice.now (line_shown old.now) policy ≡ changed_or_refusal n text.items (texts policy))
+        (λ fault. Refuses fault (with_more among at from n splice.now (line_shown old.now) policy)) }
 {
-    let text = line_with(alloc, old.text.as_slice(), from, splice)?;
+    let text = line_with(alloc, old.text, from, splice)?;
     let Some(new) = read_line(alloc, text.as_slice())? else {
         return Err(EditFault::BadSplice);
     };
     let to = from + splice.len();
     let one = OneMore { at, from, to };
-    if !one.is_more(among, &new, &old.node) {
+    if !one.is_more(among, &new.node(), &old.node) {
         return Err(EditFault::BadSplice);
     }
     Ok(text)
 }
 
-/// A line without one that stands at a place and has these bytes.
+/// Returns a line without one that stands at a place and has these bytes.
 fn cut_out(
     alloc: Global,
     among: Among,
     at: usize,
     from: usize,
     to: usize,
-    old: &Line,
+    old: &Line<'_>,
 ) -> Result<Vec<u8>, EditFault>
-    requires { (from ≤ to) × (to ≤ length old.now.text) }
-    ensures cut { IfOk result (λ text. CutOut among at from to old.now text.items) }
+    requires { (from ≤ to) × (to ≤ length (line_shown old.now).text) }
+    ensures cut { IfOk result (λ text. CutOut among at from to (line_shown old.now) text.items) }
     ensures outcome { (n : ℕ) (policy : List LineOf) → MatchResult result
-        (λ text. with_less among at from to n old.now policy ≡ changed_or_refusal n text.items (texts policy))
-        (λ fault. Refuses fault (with_less among at from to n old.now policy)) }
+        (λ text. with_less among at from to n (line_shown old.now) policy ≡ changed_or_refusal n text.items (texts policy))
+        (λ fault. Refuses fault (with_less among at from to n (line_shown old.now) policy)) }
 {
-    let text = line_without(alloc, old.text.as_slice(), from, to)?;
+    let text = line_without(alloc, old.text, from, to)?;
     let Some(new) = read_line(alloc, text.as_slice())? else {
         return Err(EditFault::BadSplice);
     };
     let one = OneMore { at, from, to };
-    if !one.is_more(among, &old.node, &new) {
+    if !one.is_more(among, &old.node, &new.node()) {
         return Err(EditFault::BadSplice);
     }
     Ok(text)
@@ -268,11 +280,11 @@ fn line_replaced(
     if leaves_open(policy, at, text) {
         return Err(EditFault::OpenLine);
     }
-    let whole = text_replaced(alloc, policy.lines(), at, text)?;
+    let whole = text_replaced(alloc, &policy.lines(), at, text)?;
     land(alloc, whole.as_slice(), inverse)
 }
 
-/// Whether a line without LF would stand before another once the text stands in the place of a line.
+/// Returns whether a line without LF would stand before another once the text stands in the place of a line.
 fn leaves_open(policy: &Policy, at: usize, text: &[u8]) -> bool
     requires { at < length policy.now }
     ensures { result ≡ has_unended_inside (replaced at text.now (texts policy.now)) }

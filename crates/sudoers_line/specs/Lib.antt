@@ -6,13 +6,6 @@ pub mod Atom
 pub mod Grammar
 pub mod Fault
 pub mod Line
-pub mod Machine
-pub mod Places
-pub mod Steps
-pub mod Outcome
+pub mod Arguments
 pub mod Listed
 pub mod Ascend
-pub mod Outline
-pub mod Aliases
-pub mod Glance
-pub mod Counted

@@ -1,6 +1,6 @@
 //! Laws of lines, for the layers above. Each is the contract of a function that does nothing.
 
-ghost use Rattle.std.specs.Prelude.{◌≡◌, ◌⊎◌, ℕ, List, length};
+ghost use Rattle.std.specs.Prelude.{◌≡◌, ℕ, List, length};
 ghost use Rattle.sudoers_line.specs.declared.fault.Why.{Why as WhyOf};
 ghost use Rattle.sudoers_line.specs.declared.node.Def.{Def as DefOf};
 ghost use Rattle.sudoers_line.specs.declared.node.Kind.{Kind as KindOf};
@@ -8,18 +8,10 @@ ghost use Rattle.sudoers_line.specs.declared.node.Node.{Node as NodeOf};
 ghost use Rattle.sudoers_line.specs.declared.node.Node.TheVariants as node_of;
 ghost use Rattle.sudoers_text.specs.Word.{is_among, is_tag, is_option_name, digest_kinds as digest_words, include_words as words_of_includes};
 ghost use Rattle.sudoers_line.specs.Piece.{is_some, looked_up, option_names, tag_of_word, digest_kinds, include_words};
-ghost use Rattle.sudoers_line.specs.Line.{ReadsLine, IsFault, HasFault};
-ghost use Rattle.sudoers_line.specs.Outcome.{outcome_of, IsOutcome};
+ghost use Rattle.sudoers_line.specs.Line.{ReadsLine, IsFault};
 ghost use Rattle.sudoers_line.specs.Ascend.{DefsAscend};
 
-use sudoers_text::{one_token_list, tokens_are, tokens_ascend};
-
-/// A line says one thing at most.
-pub fn one_reading()
-    ensures { (line : List ℕ) (node other : NodeOf) → ReadsLine line node → ReadsLine line other → node ≡ other }
-{
-    one_token_list();
-}
+use sudoers_text::{one_token_list, tokens_ascend};
 
 /// A line that says something has no fault.
 pub fn no_fault()
@@ -34,20 +26,6 @@ pub fn one_fault()
         → (at ≡ other) × (why ≡ cause) }
 {
     one_token_list();
-}
-
-/// A line says something, or it has a first fault.
-pub fn some_outcome()
-    ensures { (line : List ℕ) → ((node : NodeOf) × ReadsLine line node) ⊎ HasFault line }
-{
-    tokens_are();
-}
-
-/// What a line says, or its first fault, is what is computed.
-pub fn outcome_is()
-    ensures { (line : List ℕ) → IsOutcome line (outcome_of line) }
-{
-    tokens_are();
 }
 
 /// The words that tell how a line is cut into tokens are those that the grammar knows.

@@ -12,7 +12,7 @@ pub enum Kind {
 }
 
 /// What a line says (sudoers(5), SUDOERS FILE FORMAT).
-#[derive(Debug, Drop)]
+#[derive(Drop)]
 pub enum Node {
     /// Nothing.
     Blank,
@@ -41,14 +41,14 @@ pub enum Node {
 }
 
 /// What a Defaults line is for: `@` hosts, `:` users, `!` commands, `>` runas users (sudoers(5), Defaults).
-#[derive(Debug, Drop)]
+#[derive(Drop)]
 pub struct Scope {
     pub kind: Kind,
     pub members: Items<Member>,
 }
 
 /// A parameter of a Defaults line; its value is without quotes and escapes.
-#[derive(Debug, Drop)]
+#[derive(Drop)]
 pub struct Param {
     /// An odd number of `!` stands before the name.
     pub negated: bool,
@@ -57,7 +57,7 @@ pub struct Param {
 }
 
 /// What a parameter is set to.
-#[derive(Debug, Drop)]
+#[derive(Drop)]
 pub struct Setting {
     pub operator: Operator,
     pub value: Items<u8>,
@@ -75,7 +75,7 @@ pub enum Operator {
 }
 
 /// A definition of an alias: from its name's first byte up to its last member's end.
-#[derive(Debug, Drop)]
+#[derive(Drop)]
 pub struct Def {
     pub name: Items<u8>,
     pub start: usize,
@@ -84,14 +84,14 @@ pub struct Def {
 }
 
 /// Hosts, and what may be run there (sudoers(5), User specification).
-#[derive(Debug, Drop)]
+#[derive(Drop)]
 pub struct HostGroup {
     pub hosts: Items<Member>,
     pub commands: Items<CmdSpec>,
 }
 
 /// A command with what stands before it (sudoers(5), User specification).
-#[derive(Debug, Drop)]
+#[derive(Drop)]
 pub struct CmdSpec {
     pub runas: Option<RunasSpec>,
     pub options: Items<(OptionName, Items<u8>)>,
@@ -101,7 +101,7 @@ pub struct CmdSpec {
 }
 
 /// The users and groups as which a command may be run. A list without members is an absent one (sudoers(5), Runas_Spec).
-#[derive(Debug, Drop)]
+#[derive(Drop)]
 pub struct RunasSpec {
     pub users: Items<Member>,
     pub groups: Items<Member>,
@@ -136,7 +136,7 @@ pub enum Tag {
 }
 
 /// A member of a list: from its first digest, `!` or other token up to its last token's end.
-#[derive(Debug, Drop)]
+#[derive(Drop)]
 pub struct Member {
     pub start: usize,
     pub stop: usize,
@@ -148,7 +148,7 @@ pub struct Member {
 }
 
 /// A digest of a command's file; of several one is enough (sudoers(5), Digest_Spec).
-#[derive(Debug, Drop)]
+#[derive(Drop)]
 pub struct Digest {
     pub kind: DigestKind,
     pub text: Items<u8>,
@@ -164,7 +164,7 @@ pub enum DigestKind {
 }
 
 /// What a member is, its `!` aside. Names are without quotes and escapes, patterns keep the escapes that wildcards need.
-#[derive(Debug, Drop)]
+#[derive(Drop)]
 pub enum Atom {
     /// `ALL`
     All,
@@ -211,7 +211,7 @@ pub enum Mask {
 }
 
 /// What is said of a command's arguments.
-#[derive(Debug, Drop)]
+#[derive(Drop)]
 pub enum Args {
     /// Nothing: any arguments do.
     Any,

@@ -2,8 +2,8 @@
 use Rattle.std.proofs.Common.{◌≡◌, ℕ, Some, sym, ap, ◌∙◌}
 use Rattle.sudoers_line.specs.declared.node.Args.{Args}
 use Rattle.sudoers_line.specs.declared.node.Member.{Member}
-use Rattle.sudoers_line.specs.declared.state.Program.{Program}
-use Rattle.sudoers_line.specs.Machine.{program_of, program_atom}
+use Rattle.sudoers_line.specs.declared.arguments.Program.{Program}
+use Rattle.sudoers_line.specs.Arguments.{program_of, program_atom}
 use Rattle.sudoers_reader.specs.declared.rows.ArgsRow.{ArgsRow}
 use Rattle.sudoers_reader.specs.declared.rows.AtomRow.{AtomRow}
 use Rattle.sudoers_reader.specs.declared.rows.MemberRow.{MemberRow}

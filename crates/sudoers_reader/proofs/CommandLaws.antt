@@ -11,14 +11,14 @@ use Rattle.sudoers_line.specs.declared.node.Atom.TheVariants as atom
 use Rattle.sudoers_line.specs.declared.node.Digest.{Digest}
 use Rattle.sudoers_line.specs.declared.node.DigestKind.{DigestKind}
 use Rattle.sudoers_line.specs.declared.node.Member.{Member}
-use Rattle.sudoers_line.specs.declared.state.Program.{Program}
+use Rattle.sudoers_line.specs.declared.arguments.Program.{Program}
 use Rattle.sudoers_line.specs.Piece.{Piece, is_mark, is_arg, digest_kind, begins_with, ends_with}
 use Rattle.sudoers_line.specs.Atom.{bare_command, command_with, args_of, command_atom}
 use Rattle.sudoers_line.specs.Grammar.{Separated, odd, stop_of, IsMark, IsArg, IsCommand, AreCommands, IsScopeCommand}
-use Rattle.sudoers_line.specs.Machine.{with_argument, suits, program_of, program_atom}
-use Rattle.sudoers_line.proofs.Tokens.{other_mark, command_plain, command_no_digest, mark_no_digest, plain_no_mark, mark_arg, taken_else, taken_if}
-use Rattle.sudoers_line.proofs.Gathered.{with_arguments, arguments_made, makes_command, suits_alike, suits_true, suits_digests}
-use Rattle.sudoers_line.proofs.CompleteArguments.{program_named}
+use Rattle.sudoers_line.specs.Arguments.{with_argument, suits, program_of, program_atom}
+use Rattle.sudoers_reader.proofs.Tokens.{other_mark, command_plain, command_no_digest, mark_no_digest, plain_no_mark, mark_arg, taken_else, taken_if}
+use Rattle.sudoers_reader.proofs.Gathered.{with_arguments, arguments_made, makes_command, suits_alike, suits_true, suits_digests}
+use Rattle.sudoers_reader.proofs.Gathered.{program_named}
 use Rattle.sudoers_reader.specs.Reader.{comes, ◌>>=◌, pure, token, many, separated}
 use Rattle.sudoers_reader.specs.Descent.{argument, first_argument, says, member_of, started, digest, digests, room, add_argument, with_args, arguments, behind_word, begun, one_word, bare, command, scope_command}
 use Rattle.sudoers_reader.proofs.Keeps.{Rule, Stops, Lawful, never, stops_never, IsPure, IsOne, Sample, one_lawful, IsToken, token_lawful, IsThen, IsEither, IsFrom, Full, from_lawful, Begins, choose_lawful}

@@ -14,7 +14,7 @@ use Rattle.sudoers_line.specs.declared.node.Node.{Node}
 use Rattle.sudoers_line.specs.declared.node.Node.TheVariants as node
 use Rattle.sudoers_line.specs.Piece.{Piece, is_some, is_punct, is_arg, is_mark, is_the_word, operator_of, scope_sign}
 use Rattle.sudoers_line.specs.Grammar.{Separated, IsMark, odd, IsScopeList, IsScope, IsFlag, IsSetting, IsParamWith, IsParam, is_defaults}
-use Rattle.sudoers_line.proofs.Tokens.{other_mark, mark_arg, no_punct_mark, parameter_kind, operator_no_comma}
+use Rattle.sudoers_reader.proofs.Tokens.{other_mark, mark_arg, no_punct_mark, parameter_kind, operator_no_comma}
 use Rattle.sudoers_reader.specs.Reader.{comes, pure, separated}
 use Rattle.sudoers_reader.specs.Descent.{argument, parameter, value, says, scope_list, scope, flag, set, setting, flagged, named, param, params, scoped, defaults}
 use Rattle.sudoers_reader.proofs.Keeps.{Rule, Stops, Completes, Lawful, Full, never, stops_never, IsPure, IsOne, Sample, one_lawful, IsToken, token_lawful, IsThen, IsEither, Begins, choose_lawful}

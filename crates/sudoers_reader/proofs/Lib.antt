@@ -12,6 +12,8 @@ pub mod First
 pub mod Growth
 pub mod Loops
 pub mod TokenRows
+pub mod Tokens
+pub mod Gathered
 pub mod SoFar
 pub mod ManySoFar
 pub mod WordRows

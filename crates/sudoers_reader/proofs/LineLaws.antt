@@ -9,7 +9,7 @@ use Rattle.sudoers_line.specs.declared.node.Node.{Node}
 use Rattle.sudoers_line.specs.declared.node.Node.TheVariants as node
 use Rattle.sudoers_line.specs.Piece.{Piece, is_some, is_punct, is_word, is_comment, is_arg, is_mark, kind_word, include_word, operator_of, scope_sign}
 use Rattle.sudoers_line.specs.Grammar.{Separated, AreMembers, IsDef, IsHostGroup, is_defaults, BeginsSpec, BeginsNoScope, PerhapsScope, IsParam, IsEnd, Says, Reads}
-use Rattle.sudoers_line.proofs.Tokens.{plain_comment, mark_comment, no_punct_mark, include_no_kind, include_kind, defaults_kind, defaults_no_kind, defaults_no_include, kind_word_kind}
+use Rattle.sudoers_reader.proofs.Tokens.{plain_comment, mark_comment, no_punct_mark, include_no_kind, include_kind, defaults_kind, defaults_no_kind, defaults_no_include, kind_word_kind}
 use Rattle.sudoers_reader.specs.Reader.{comes, ◌>>=◌, token, choose, ended}
 use Rattle.sudoers_reader.specs.Descent.{argument, says, comment, alias, include, defaults, spec, last, anything, line}
 use Rattle.sudoers_reader.proofs.Keeps.{Rule, Stops, Lawful, IsToken, token_lawful, IsThen, IsEither, Begins, choose_lawful, always, stops_always, IsEnded, ended_lawful}

@@ -9,8 +9,8 @@ use Rattle.sudoers_line.specs.declared.node.Member.{Member}
 use Rattle.sudoers_line.specs.Piece.{Piece, is_mark}
 use Rattle.sudoers_line.specs.Atom.{atom_of, user_atom, user_word, host_atom, unescaped_host, bare_command}
 use Rattle.sudoers_line.specs.Grammar.{Many, IsMark, odd, start_of, IsMember, AreMembers}
-use Rattle.sudoers_line.proofs.Tokens.{is_plain, atom_plain, plain_no_mark}
-use Rattle.sudoers_line.proofs.Gathered.{turned_by, turned_odd}
+use Rattle.sudoers_reader.proofs.Tokens.{is_plain, atom_plain, plain_no_mark}
+use Rattle.sudoers_reader.proofs.Gathered.{turned_by, turned_odd}
 use Rattle.sudoers_reader.specs.Reader.{comes, ◌>>=◌, one, token}
 use Rattle.sudoers_reader.specs.Descent.{turn, signs, member_of, started, one_atom, member, members}
 use Rattle.sudoers_reader.proofs.Keeps.{Rule, Stops, Lawful, never, stops_never, IsOne, Sample, one_lawful, IsToken, IsThen, IsFrom, Full, from_lawful}

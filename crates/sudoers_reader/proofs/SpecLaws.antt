@@ -18,7 +18,7 @@ use Rattle.sudoers_line.specs.Piece.{Piece, is_some, is_mark, option_name, tag_o
 use Rattle.sudoers_line.specs.Atom.{option_value}
 use Rattle.sudoers_line.specs.Fault.{some_stamp}
 use Rattle.sudoers_line.specs.Grammar.{Many, Behind, Separated, Perhaps, AreMembers, IsRunas, PerhapsRunas, IsOption, IsTag, IsCommand, IsCmdSpec, IsHostGroup}
-use Rattle.sudoers_line.proofs.Tokens.{is_plain, plain_no_mark, other_mark, mark_arg, word_no_mark, option_kind, tag_kind, digest_word_kind, tag_no_option, digest_no_option, digest_no_tag, command_no_option, command_no_tag, command_plain, mark_no_option, mark_no_tag}
+use Rattle.sudoers_reader.proofs.Tokens.{is_plain, plain_no_mark, other_mark, mark_arg, word_no_mark, option_kind, tag_kind, digest_word_kind, tag_no_option, digest_no_option, digest_no_tag, command_no_option, command_no_tag, command_plain, mark_no_option, mark_no_tag}
 use Rattle.sudoers_reader.specs.Reader.{Reader, comes, ◌>>=◌, pure, one, token, many, snoc, behind, separated}
 use Rattle.sudoers_reader.specs.Descent.{argument, says, members, inside, runas_users, runas_groups, runas, option, tag, cmd_spec, host_group, spec}
 use Rattle.sudoers_reader.proofs.Keeps.{Rule, Stops, Lawful, never, stops_never, IsPure, pure_lawful, IsOne, Sample, one_lawful, IsToken, IsThen, Begins}

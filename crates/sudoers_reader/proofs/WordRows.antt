@@ -3,12 +3,12 @@ use Rattle.std.proofs.Common.{◌≡◌, ℕ, Bool, true, false, not, if◌then�
 use Rattle.sudoers_line.specs.declared.node.Atom.{Atom}
 use Rattle.sudoers_line.specs.declared.node.Digest.{Digest}
 use Rattle.sudoers_line.specs.declared.node.Member.{Member}
-use Rattle.sudoers_line.specs.declared.state.Program.{Program}
+use Rattle.sudoers_line.specs.declared.arguments.Program.{Program}
 use Rattle.std.proofs.lemmas.Option.{same_Some}
 use Rattle.sudoers_line.specs.Piece.{Piece, is_some, is_mark, ends_with, digest_kind}
 use Rattle.sudoers_line.specs.Grammar.{Separated, IsDigest}
 use Rattle.sudoers_line.specs.Atom.{bare_command, takes_digests}
-use Rattle.sudoers_line.specs.Machine.{suits, program_of}
+use Rattle.sudoers_line.specs.Arguments.{suits, program_of}
 use Rattle.sudoers_reader.specs.declared.rows.AtomRow.{AtomRow}
 use Rattle.sudoers_reader.specs.declared.rows.Range.{Range}
 use Rattle.sudoers_reader.specs.declared.rows.WordRow.{WordRow}

@@ -12,7 +12,7 @@ use Rattle.sudoers_line.specs.declared.node.Args.{Args}
 use Rattle.sudoers_line.specs.declared.node.Args.TheVariants.{Any}
 use Rattle.sudoers_line.specs.declared.node.Atom.{Atom}
 use Rattle.sudoers_line.specs.declared.node.Member.{Member}
-use Rattle.sudoers_line.specs.declared.state.Program.{Program}
+use Rattle.sudoers_line.specs.declared.arguments.Program.{Program}
 use Rattle.sudoers_line.specs.declared.node.Def.{Def}
 use Rattle.sudoers_line.specs.declared.node.RunasSpec.{RunasSpec}
 use Rattle.sudoers_line.specs.declared.node.CmdSpec.{CmdSpec}
@@ -28,7 +28,7 @@ use Rattle.sudoers_line.specs.declared.fault.Why.{Why}
 use Rattle.sudoers_line.specs.declared.fault.Why.TheVariants.{EndOfLine}
 use Rattle.sudoers_line.specs.Grammar.{list_stop, is_defaults}
 use Rattle.sudoers_line.specs.Fault.{some_word, some_stamp, some_path, cause}
-use Rattle.sudoers_line.specs.Machine.{with_argument, suits, program_of, program_atom}
+use Rattle.sudoers_line.specs.Arguments.{with_argument, suits, program_of, program_atom}
 use Rattle.sudoers_reader.specs.Reader.{Outcome, Read, Halt, Reader, ◌>>=◌, pure, one, token, choose, many, snoc, behind, separated, perhaps, from, ended}
 
 -- ---- tokens

@@ -27,9 +27,9 @@ use Rattle.sudoers_reader.specs.declared.rows.AtomRow.{AtomRow}
 use Rattle.sudoers_reader.specs.declared.rows.AtomRow.TheVariants as atom_row
 use Rattle.sudoers_reader.specs.declared.rows.DigestRow.{DigestRow}
 use Rattle.sudoers_reader.specs.declared.rows.MemberRow.{MemberRow}
-use Rattle.sudoers_line.specs.declared.state.Program.{Program}
+use Rattle.sudoers_line.specs.declared.arguments.Program.{Program}
 use Rattle.sudoers_line.specs.Grammar.{list_stop}
-use Rattle.sudoers_line.specs.Machine.{program_of}
+use Rattle.sudoers_line.specs.Arguments.{program_of}
 use Rattle.sudoers_reader.specs.declared.rows.WordRow.{WordRow}
 use Rattle.sudoers_reader.specs.declared.rows.RunasRow.{RunasRow}
 use Rattle.sudoers_reader.specs.declared.rows.OptionRow.{OptionRow}

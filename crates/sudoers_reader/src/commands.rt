@@ -2,8 +2,8 @@
 
 ghost use Rattle.std.specs.Prelude.{◌≡◌, Some, IfOk};
 ghost use Rattle.sudoers_line.specs.declared.node.Args.TheVariants.{Any};
-ghost use Rattle.sudoers_line.specs.declared.state.Program.{Program as ProgramOf};
-ghost use Rattle.sudoers_line.specs.Machine.{with_argument, program_of, program_atom};
+ghost use Rattle.sudoers_line.specs.declared.arguments.Program.{Program as ProgramOf};
+ghost use Rattle.sudoers_line.specs.Arguments.{with_argument, program_of, program_atom};
 ghost use Rattle.sudoers_reader.specs.declared.rows.Tables.{Tables as TablesOf};
 ghost use Rattle.sudoers_reader.specs.Reader.{many, token};
 ghost use Rattle.sudoers_line.specs.Piece.{is_some};

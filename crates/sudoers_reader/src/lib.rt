@@ -5,6 +5,7 @@ mod aliases;
 mod commands;
 mod counts;
 mod cursor;
+mod debug;
 mod defaults;
 mod digests;
 mod includes;
@@ -25,7 +26,7 @@ mod view;
 mod walk;
 mod words;
 
-pub use laws::{descent_is, one_reading, outcome_is, some_outcome};
+pub use laws::{descent_is, growth_goes_on, one_reading, outcome_is, some_outcome};
 pub use list::{Rows, rows_in};
 pub use reading::{Reading, parse, read_line};
 pub use rows::{

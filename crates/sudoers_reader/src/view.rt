@@ -14,7 +14,7 @@ use crate::rows::{
 use sudoers_line::{Address, DigestKind, Kind, Mask, Operator};
 
 /// What is said of a command's arguments.
-#[derive(Clone, Copy)]
+#[derive(Clone, Copy, Debug)]
 pub enum Args<'a> {
     /// Nothing: any arguments do.
     Any,
@@ -25,7 +25,7 @@ pub enum Args<'a> {
 }
 
 /// What a member is, its `!` aside. Names are without quotes and escapes, patterns keep the escapes that wildcards need.
-#[derive(Clone, Copy)]
+#[derive(Clone, Copy, Debug)]
 pub enum Atom<'a> {
     /// `ALL`
     All,
@@ -58,14 +58,14 @@ pub enum Atom<'a> {
 }
 
 /// A digest of a command's file; of several one is enough (sudoers(5), Digest_Spec).
-#[derive(Clone, Copy)]
+#[derive(Clone, Copy, Debug)]
 pub struct Digest<'a> {
     pub kind: DigestKind,
     pub text: &'a [u8],
 }
 
 /// A member of a list: from its first digest, `!` or other token up to its last token's end.
-#[derive(Clone, Copy)]
+#[derive(Clone, Copy, Debug)]
 pub struct Member<'a> {
     pub start: usize,
     pub stop: usize,
@@ -77,14 +77,14 @@ pub struct Member<'a> {
 }
 
 /// The users and groups as which a command may be run. A list without members is an absent one (sudoers(5), Runas_Spec).
-#[derive(Clone, Copy)]
+#[derive(Clone, Copy, Debug)]
 pub struct RunasSpec<'a> {
     pub users: Rows<'a, MemberRow>,
     pub groups: Rows<'a, MemberRow>,
 }
 
 /// A command with what stands before it (sudoers(5), User specification).
-#[derive(Clone, Copy)]
+#[derive(Clone, Copy, Debug)]
 pub struct CmdSpec<'a> {
     pub runas: Option<RunasSpec<'a>>,
     pub options: Rows<'a, OptionRow>,
@@ -94,14 +94,14 @@ pub struct CmdSpec<'a> {
 }
 
 /// Hosts, and what may be run there (sudoers(5), User specification).
-#[derive(Clone, Copy)]
+#[derive(Clone, Copy, Debug)]
 pub struct HostGroup<'a> {
     pub hosts: Rows<'a, MemberRow>,
     pub commands: Rows<'a, CommandRow>,
 }
 
 /// A definition of an alias: from its name's first byte up to its last member's end.
-#[derive(Clone, Copy)]
+#[derive(Clone, Copy, Debug)]
 pub struct Def<'a> {
     pub name: &'a [u8],
     pub start: usize,
@@ -110,14 +110,14 @@ pub struct Def<'a> {
 }
 
 /// What a parameter is set to.
-#[derive(Clone, Copy)]
+#[derive(Clone, Copy, Debug)]
 pub struct Setting<'a> {
     pub operator: Operator,
     pub value: &'a [u8],
 }
 
 /// A parameter of a Defaults line; its value is without quotes and escapes.
-#[derive(Clone, Copy)]
+#[derive(Clone, Copy, Debug)]
 pub struct Param<'a> {
     /// An odd number of `!` stands before the name.
     pub negated: bool,
@@ -126,14 +126,14 @@ pub struct Param<'a> {
 }
 
 /// What a Defaults line is for: `@` hosts, `:` users, `!` commands, `>` runas users (sudoers(5), Defaults).
-#[derive(Clone, Copy)]
+#[derive(Clone, Copy, Debug)]
 pub struct Scope<'a> {
     pub kind: Kind,
     pub members: Rows<'a, MemberRow>,
 }
 
 /// What a line says (sudoers(5), SUDOERS FILE FORMAT).
-#[derive(Clone, Copy)]
+#[derive(Clone, Copy, Debug)]
 pub enum Node<'a> {
     /// Nothing.
     Blank,

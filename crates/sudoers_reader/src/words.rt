@@ -3,7 +3,7 @@
 ghost use Rattle.std.specs.Prelude.{◌≡◌, List, IfOk};
 ghost use Rattle.sudoers_line.specs.declared.node.Digest.{Digest as DigestOf};
 ghost use Rattle.sudoers_line.specs.Atom.{bare_command, takes_digests};
-ghost use Rattle.sudoers_line.specs.Machine.{suits};
+ghost use Rattle.sudoers_line.specs.Arguments.{suits};
 ghost use Rattle.sudoers_reader.specs.declared.rows.Tables.{Tables as TablesOf};
 ghost use Rattle.sudoers_reader.specs.Reader.{one};
 ghost use Rattle.sudoers_reader.specs.Descent.{one_word};

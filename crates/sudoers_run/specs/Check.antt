@@ -1,7 +1,7 @@
 -- What `check` writes for a policy file.
 use Rattle.std.specs.Prelude.{◌≡◌, ℕ, Bool, if◌then◌else◌, List, [], ◌++◌, codes, Option, Result, Ok, Err}
 use Rattle.sudoers_text.specs.Fault.{text_limit}
-use Rattle.sudoers_tree.specs.declared.line.Line.{Line}
+use Rattle.sudoers_tree.specs.Line.{Line}
 use Rattle.sudoers_tree.specs.declared.fault.ReadFault.{ReadFault}
 use Rattle.sudoers_tree.specs.Reading.{read_of}
 use Rattle.sudoers_check.specs.Report.{report_of, report_text, is_fine}

@@ -1,7 +1,6 @@
 pub mod Device
 pub mod FaultText
 pub mod Shown
-pub mod ShownOutline
 pub mod LayerOf
 pub mod Program
 pub mod Show

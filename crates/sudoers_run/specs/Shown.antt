@@ -8,7 +8,7 @@ use Rattle.sudoers_line.specs.declared.node.Node.{Node}
 use Rattle.sudoers_line.specs.declared.node.Node.TheVariants as node
 use Rattle.sudoers_tree.specs.declared.kind.LineKind.{LineKind}
 use Rattle.sudoers_tree.specs.declared.kind.LineKind.TheVariants as kind
-use Rattle.sudoers_tree.specs.declared.line.Line.{Line}
+use Rattle.sudoers_tree.specs.Line.{Line}
 use Rattle.sudoers_tree.specs.Kind.{line_kind, kind_name}
 
 abbrev pub kind_word : LineKind → List ℕ

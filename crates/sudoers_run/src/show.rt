@@ -4,17 +4,20 @@ ghost use Rattle.std.specs.Io.KnownBytes.{Keeps, Appends};
 ghost use Rattle.sudoers_text.specs.Fault.{text_limit};
 ghost use Rattle.sudoers_run.specs.Device.{Rose, Reads, Writes, AppendsFront, counted_by};
 ghost use Rattle.sudoers_run.specs.Program.{pull_limit, TellsLayer};
-ghost use Rattle.sudoers_run.specs.Shown.{kind_word as word_of_kind, shown_def, shown_defs};
-ghost use Rattle.sudoers_run.specs.ShownOutline.{shown_alias, outline_word as word_of_outline, shown_outline, shown_outlines};
+ghost use Rattle.sudoers_text.specs.Line.{join};
+ghost use Rattle.sudoers_reader.specs.View.{def_shown, defs_shown, node_shown};
+ghost use Rattle.sudoers_tree.specs.Policy.{texts};
+ghost use Rattle.sudoers_run.specs.Shown.{kind_word as word_of_kind, shown as shown_policy, shown_def, shown_defs, shown_line};
 ghost use Rattle.sudoers_run.specs.Show.{show_output, TellsShow, IsFileFault, IsShowFault, StopsShow, NeedsShowEnd};
 
 use crate::device::{Sink, Source};
 use crate::fault::{LayerFault, ToolFault, append_number};
 use crate::program::{read_all, write_all};
 use std::alloc::{AllocError, Global};
-use sudoers_line::{Def, Kind, Node, Outline};
 use sudoers_text::{TEXT_LIMIT, TextFault};
-use sudoers_tree::{LineKind, OutlinedLine, OutlinedPolicy, ReadFault, kind_word};
+use sudoers_tree::{
+    Def, DefRow, Kind, Line, LineKind, Node, Policy, ReadFault, Rows, kind_word, lf_count,
+};
 
 /// Reads a policy file, and writes for each of its lines its number, its kind and the number of its first physical line, and
 /// for each definition of an alias its numbers, its kind, its name and how many members it has. All numbers count from 1.
@@ -73,44 +76,49 @@ fn show_text(alloc: Global, input: &[u8]) -> Result<Vec<u8>, LayerFault>
         (λ fault. TellsLayer fault (show_output input.now) × IsFileFault fault) }
     ensures size { IfErr result (λ fault. fault ≡ LayerFault.Policy (ReadFault.Text TextFault.TooLarge) → text_limit < length input.now) }
 {
-    let policy = OutlinedPolicy::read(alloc, input)?;
-    Ok(shown(alloc, policy.lines())?)
+    let policy = Policy::read(alloc, input)?;
+    Ok(shown(alloc, &policy)?)
 }
 
-/// What is shown of a policy, by its outline.
-fn shown(alloc: Global, lines: &[OutlinedLine<'_>]) -> Result<Vec<u8>, AllocError>
-    ensures { IfOk result (λ out. out.items ≡ shown_outlines 1 lines.now) }
+/// A law: a policy's text is within the limit.
+fn within_limit(policy: &Policy)
+    ensures { length (join (texts policy.now)) ≤ text_limit }
 {
+    policy.is_policy();
+}
+
+/// Returns what is shown of a policy.
+fn shown(alloc: Global, policy: &Policy) -> Result<Vec<u8>, AllocError>
+    ensures { IfOk result (λ out. out.items ≡ shown_policy policy.now) }
+{
+    within_limit(policy);
     let mut out = Vec::new(alloc);
-    for (place, line) in lines.iter().enumerate() {
-        append_line(alloc, &mut out, place + 1, line)?;
+    let mut row = 1;
+    let lines = policy.lines();
+    for (place, line_row) in lines.rows.iter().enumerate() {
+        let line = Line::of(lines.tables, line_row);
+        append_line(alloc, &mut out, place + 1, row, &line.node)?;
+        row += lf_count(line.text);
     }
     Ok(out)
 }
 
-/// A line with its number and that of its first physical line, and its definitions.
+/// Appends a line with its number and that of its first physical line, and its definitions.
 fn append_line(
     alloc: Global,
     out: &mut Vec<u8>,
     number: usize,
-    line: &OutlinedLine<'_>,
+    row: usize,
+    node: &Node<'_>,
 ) -> Result<(), AllocError>
-    ensures { OnOk result (out.new.items ≡ out.old.items ++ shown_outline number line.now) }
+    ensures { OnOk result (out.new.items ≡ out.old.items ++ shown_line number row (node_shown node.now)) }
 {
     append_number(alloc, out, number)?;
-    append_between_blanks(out, outline_word(&line.outline))?;
-    append_number(alloc, out, line.row)?;
+    append_between_blanks(out, line_word(LineKind::of(node)))?;
+    append_number(alloc, out, row)?;
     out.extend_from_slice(b"\n")?;
-    match &line.outline {
-        Outline::Alias {
-            kind,
-            name,
-            members,
-            ..
-        } => { append_alias(alloc, out, *kind, (number, 1), name, *members) }
-        Outline::Whole(Node::Alias { kind, defs }) => {
-            append_defs(alloc, out, *kind, number, defs.as_slice())
-        }
+    match node {
+        Node::Alias { kind, defs } => append_defs(alloc, out, *kind, number, defs),
         _ => Ok(()),
     }
 }
@@ -120,49 +128,34 @@ fn append_defs(
     out: &mut Vec<u8>,
     kind: Kind,
     line: usize,
-    defs: &[Def],
+    defs: &Rows<'_, DefRow>,
 ) -> Result<(), AllocError>
-    ensures { OnOk result (out.new.items ≡ out.old.items ++ shown_defs kind line 1 defs.now) }
+    ensures { OnOk result (out.new.items ≡ out.old.items ++ shown_defs kind line 1 (defs_shown defs.now)) }
 {
-    for (place, def) in defs.iter().enumerate() {
-        append_def(alloc, out, kind, line, place + 1, def)?;
+    let tables = defs.tables;
+    for (place, row) in defs.rows.iter().enumerate() {
+        append_def(alloc, out, kind, (line, place + 1), &tables.def(row))?;
     }
     Ok(())
 }
 
-/// A definition with its number and that of its line.
+/// Appends a definition with the number of its line and its own.
 fn append_def(
     alloc: Global,
     out: &mut Vec<u8>,
     kind: Kind,
-    line: usize,
-    number: usize,
-    def: &Def,
-) -> Result<(), AllocError>
-    ensures { OnOk result (out.new.items ≡ out.old.items ++ shown_def kind line number def.now) }
-{
-    let name = def.name.as_slice();
-    append_alias(alloc, out, kind, (line, number), name, def.members.len())
-}
-
-/// An alias of this name, that has so many members, by the numbers of its line and in it.
-fn append_alias(
-    alloc: Global,
-    out: &mut Vec<u8>,
-    kind: Kind,
     numbers: (usize, usize),
-    name: &[u8],
-    members: usize,
+    def: &Def<'_>,
 ) -> Result<(), AllocError>
-    ensures { OnOk result (out.new.items ≡ out.old.items ++ shown_alias kind numbers.0 numbers.1 name.now members) }
+    ensures { OnOk result (out.new.items ≡ out.old.items ++ shown_def kind numbers.0 numbers.1 (def_shown def.now)) }
 {
     append_number(alloc, out, numbers.0)?;
     out.extend_from_slice(b".")?;
     append_number(alloc, out, numbers.1)?;
     append_between_blanks(out, kind_word(kind))?;
-    out.extend_from_slice(name)?;
+    out.extend_from_slice(def.name)?;
     out.extend_from_slice(b" ")?;
-    append_number(alloc, out, members)?;
+    append_number(alloc, out, def.members.rows.len())?;
     out.extend_from_slice(b"\n")
 }
 
@@ -172,17 +165,6 @@ fn append_between_blanks(out: &mut Vec<u8>, word: &[u8]) -> Result<(), AllocErro
     out.extend_from_slice(b" ")?;
     out.extend_from_slice(word)?;
     out.extend_from_slice(b" ")
-}
-
-/// The word for the kind of a line.
-fn outline_word(outline: &Outline<'_>) -> &'static [u8]
-    ensures { result.now ≡ word_of_outline outline.now }
-{
-    match outline {
-        Outline::Spec { .. } => line_word(LineKind::Spec),
-        Outline::Alias { .. } => line_word(LineKind::Alias),
-        Outline::Whole(node) => line_word(LineKind::of(node)),
-    }
 }
 
 /// The word for a kind of lines.

@@ -5,7 +5,12 @@ use Rattle.sudoers_line.specs.declared.node.Kind.{Kind}
 use Rattle.sudoers_line.specs.declared.node.Def.{Def}
 use Rattle.sudoers_line.specs.declared.node.Node.{Node}
 use Rattle.sudoers_line.specs.declared.node.Node.TheVariants as node
-use Rattle.sudoers_tree.specs.declared.line.Line.{Line}
+use Rattle.sudoers_reader.specs.declared.list.Rows.{Rows}
+use Rattle.sudoers_reader.specs.declared.rows.DefRow.{DefRow}
+use Rattle.sudoers_reader.specs.declared.view.Node.{Node as NodeView}
+use Rattle.sudoers_reader.specs.declared.view.Node.TheVariants as view
+use Rattle.sudoers_reader.specs.View.{defs_shown, node_shown}
+use Rattle.sudoers_tree.specs.Line.{Line}
 use Rattle.sudoers_tree.specs.declared.place.Place.{Place}
 use Rattle.sudoers_tree.specs.Definition.{Definition, definitions_from, definitions_in, definitions_since, definitions, defines, defined, place_of, members_of}
 
@@ -103,3 +108,15 @@ pub node_at : (lines : List Line) (k : Kind) (name : List ℕ) (place : Place) (
     → o ≡ option_map (λ (line : Line). line.node) (slice_get lines place.line) → o ≡ Some (node.Alias at.kind at.defs)
 node_at lines k name place at o is =
     is ∙ ap (option_map (λ (line : Line). line.node)) at.line_is ∙ ap (λ n. Some n) at.says
+
+-- a view of a line of definitions
+pub alias_shown : (v : NodeView) (k : Kind) (ds : List Def) → node_shown v ≡ node.Alias k ds → (w : Rows DefRow) × (v ≡ view.Alias k w) × (defs_shown w ≡ ds)
+alias_shown view.Blank k ds e = absurd cc
+alias_shown view.Comment k ds e = absurd cc
+alias_shown (view.Include dir path) k ds e = absurd cc
+alias_shown (view.Defaults scope params) k ds e = absurd cc
+alias_shown (view.Alias j w) k ds e = let kind : j ≡ k = cc in (w, ap (λ x. view.Alias x w) kind, cc)
+alias_shown (view.Spec users groups) k ds e = absurd cc
+
+pub same_defs : (j k : Kind) (ds es : List Def) → node.Alias j ds ≡ node.Alias k es → ds ≡ es
+same_defs j k ds es e = cc

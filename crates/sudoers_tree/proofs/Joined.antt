@@ -5,7 +5,7 @@ use Rattle.std.proofs.lemmas.List.Recursion.{is_count_by}
 use Rattle.std.proofs.lemmas.Option.{slice_get_within, get_or_from_slice_get}
 use Rattle.sudoers_text.specs.Line.{join}
 use Rattle.sudoers_text.specs.Fault.{lf_count}
-use Rattle.sudoers_tree.specs.declared.line.Line.{Line}
+use Rattle.sudoers_tree.specs.Line.{Line}
 use Rattle.sudoers_tree.specs.Definition.{definitions_in, definitions_since, definitions}
 use Rattle.sudoers_tree.specs.Policy.{texts}
 

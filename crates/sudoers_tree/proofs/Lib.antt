@@ -9,5 +9,6 @@ pub mod Outcomes
 pub mod OneOutcome
 pub mod AtPlaces
 pub mod ReadText
-pub mod Outlined
 pub mod ChangedText
+pub mod ListedMembers
+pub mod TreeLines

@@ -10,9 +10,9 @@ use Rattle.sudoers_line.specs.declared.fault.LineFault.{LineFault}
 use Rattle.sudoers_line.specs.declared.fault.LineFault.TheVariants as line_fault
 use Rattle.sudoers_line.specs.declared.node.Node.{Node}
 use Rattle.sudoers_line.specs.Line.{ReadsLine, IsFault}
-use Rattle.sudoers_line.specs.Outcome.{outcome_of}
-use Rattle.sudoers_line.specs.Outcome.{IsOutcome as IsLineOutcome}
-use Rattle.sudoers_tree.specs.declared.line.Line.{Line}
+use Rattle.sudoers_reader.specs.Outcome.{outcome_of}
+use Rattle.sudoers_reader.specs.Outcome.{IsOutcome as IsLineOutcome}
+use Rattle.sudoers_tree.specs.Line.{Line}
 use Rattle.sudoers_tree.specs.declared.fault.ReadFault.{ReadFault}
 use Rattle.sudoers_tree.specs.declared.fault.ReadFault.TheVariants.{Text, Syntax, Reserved, Duplicate, TooMany, NoMemory}
 use Rattle.sudoers_tree.specs.Definition.{definitions, definitions_in}

@@ -3,7 +3,7 @@ use Rattle.std.proofs.Common.{◌≡◌, ℕ, ◌⊎◌, inl, inr, List, [], Res
 use Rattle.sudoers_text.specs.declared.fault.TextFault.{TextFault}
 use Rattle.sudoers_text.specs.declared.fault.TextFault.TheVariants as text
 use Rattle.sudoers_text.specs.Cut.{cut_of, CutGives}
-use Rattle.sudoers_tree.specs.declared.line.Line.{Line}
+use Rattle.sudoers_tree.specs.Line.{Line}
 use Rattle.sudoers_tree.specs.declared.fault.ReadFault.{ReadFault}
 use Rattle.sudoers_tree.specs.declared.fault.ReadFault.TheVariants.{Text, Syntax, Reserved, Duplicate, TooMany, NoMemory}
 use Rattle.sudoers_tree.specs.Wrapped.{fault_of_text}

@@ -8,8 +8,8 @@ use Rattle.sudoers_line.specs.declared.fault.LineFault.{LineFault}
 use Rattle.sudoers_line.specs.declared.fault.LineFault.TheVariants.{Syntax, NoMemory}
 use Rattle.sudoers_line.specs.declared.node.Node.{Node}
 use Rattle.sudoers_line.specs.Line.{ReadsLine}
-use Rattle.sudoers_line.specs.Outcome.{outcome_of, IsOutcome}
-use Rattle.sudoers_tree.specs.declared.line.Line.{Line}
+use Rattle.sudoers_reader.specs.Outcome.{outcome_of, IsOutcome}
+use Rattle.sudoers_tree.specs.Line.{Line}
 use Rattle.sudoers_tree.specs.Policy.{texts, SaysSo}
 use Rattle.sudoers_tree.specs.Single.{said}
 use Rattle.sudoers_tree.proofs.OneOutcome.{OneReading, NoFault}

@@ -6,14 +6,16 @@ use Rattle.sudoers_text.specs.Fault.{lf_count}
 use Rattle.sudoers_line.specs.declared.fault.Why.{Why}
 use Rattle.sudoers_line.specs.declared.fault.LineFault.{LineFault}
 use Rattle.sudoers_line.specs.declared.fault.LineFault.TheVariants.{Syntax as syntax, NoMemory as no_memory}
+use Rattle.sudoers_line.specs.declared.fault.LineFault.TheVariants as line_fault
 use Rattle.sudoers_line.specs.declared.node.Node.{Node}
-use Rattle.sudoers_line.specs.Outcome.{outcome_of}
-use Rattle.sudoers_tree.specs.declared.line.Line.{Line}
+use Rattle.sudoers_reader.specs.Outcome.{outcome_of, LineGives}
+use Rattle.sudoers_tree.specs.Line.{Line}
 use Rattle.sudoers_tree.specs.declared.index.Index.{Index}
 use Rattle.sudoers_tree.specs.declared.fault.ReadFault.{ReadFault}
 use Rattle.sudoers_tree.specs.declared.fault.ReadFault.TheVariants.{Text, Syntax, Reserved, Duplicate, TooMany, NoMemory}
 use Rattle.sudoers_tree.specs.Physical.{row_behind, column_behind}
 use Rattle.sudoers_tree.specs.Definition.{definitions, definitions_in}
+use Rattle.sudoers_tree.specs.Fault.{fault_of_line}
 use Rattle.sudoers_tree.specs.Policy.{texts}
 use Rattle.sudoers_tree.specs.Reading.{line_behind, line_by, unless_faulty, first_name_fault, read_behind, with_line}
 use Rattle.sudoers_tree.specs.Index.{Enters, Takes, ReadsAll}
@@ -61,6 +63,13 @@ row_more before line row more is count =
     let behind : lf_count (join (texts (before ++ line ∷ []))) ≡ lf_count (join (texts before)) + lf_count line.text =
     ap lf_count (join_push before line) ∙ lf_append (join (texts before)) line.text in
     omega (arith, is, count, behind)
+
+-- the fault of a line that says nothing
+pub not_read : (before new : List Line) (text : List ℕ) (row : ℕ) (fault : LineFault) → LineGives (Err fault) (outcome_of text)
+    → row ≡ row_behind (join (texts before)) → Takes (Err (fault_of_line row text fault)) before new (line_behind before text)
+not_read before new text row (line_fault.Syntax at why) is row_is =
+    says_nothing before text at (row + lf_count (take at text)) (column_behind (take at text)) why is (ap (λ n. n + lf_count (take at text)) row_is) refl
+not_read before new text row line_fault.NoMemory is row_is = tt
 
 -- ---- the lines of a text
 

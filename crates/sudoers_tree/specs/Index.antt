@@ -6,7 +6,7 @@ use Rattle.sudoers_text.specs.Word.{is_reserved}
 use Rattle.sudoers_line.specs.declared.node.Kind.{Kind}
 use Rattle.sudoers_line.specs.declared.node.Kind.TheVariants.{User, Runas, Host, Cmnd}
 use Rattle.sudoers_line.specs.declared.node.Def.{Def}
-use Rattle.sudoers_tree.specs.declared.line.Line.{Line}
+use Rattle.sudoers_tree.specs.Line.{Line}
 use Rattle.sudoers_tree.specs.declared.place.Place.{Place}
 use Rattle.sudoers_tree.specs.declared.index.Index.{Index}
 use Rattle.sudoers_tree.specs.declared.reading.Reading.{Reading}
@@ -89,7 +89,7 @@ Takes (Err NoMemory) old new wanted = Unit {0}
 
 -- the lines that are read, with their names, or the first fault
 abbrev pub ReadsAll : Result Reading ReadFault → Result (List Line) ReadFault → Type 0
-ReadsAll (Ok reading) wanted = (wanted ≡ Ok reading.lines.items) × Indexes reading.index (definitions reading.lines.items)
+ReadsAll (Ok reading) wanted = (wanted ≡ Ok reading.tree) × Indexes reading.index (definitions reading.tree)
 ReadsAll (Err (Text fault)) wanted = wanted ≡ Err (Text fault)
 ReadsAll (Err (Syntax row col why)) wanted = wanted ≡ Err (Syntax row col why)
 ReadsAll (Err (Reserved k name)) wanted = wanted ≡ Err (Reserved k name)
@@ -99,5 +99,5 @@ ReadsAll (Err NoMemory) wanted = Unit {0}
 
 -- What is kept while lines are read: the names of their definitions, and the physical line behind them.
 pub record IsReading (reading : Reading) : Type 0 where
-  pub index : Indexes reading.index (definitions reading.lines.items)
-  pub row : reading.row ≡ row_behind (join (texts reading.lines.items))
+  pub index : Indexes reading.index (definitions reading.tree)
+  pub row : reading.row ≡ row_behind (join (texts reading.tree))

@@ -8,6 +8,6 @@ pub mod Fault
 pub mod Reading
 pub mod Single
 pub mod Index
-pub mod Outline
-pub mod Outlining
 pub mod Changed
+pub mod Line
+pub mod Tree

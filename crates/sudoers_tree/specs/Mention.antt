@@ -1,5 +1,5 @@
 -- The mentions of aliases.
-use Rattle.std.specs.Prelude.{ℕ, ◌+◌, ◌-◌, List, [], ◌∷◌, ◌++◌, length, map, Option, None, Some, if◌then◌else◌}
+use Rattle.std.specs.Prelude.{ℕ, ◌+◌, ◌-◌, ◌&&◌, List, [], ◌∷◌, ◌++◌, length, map, Option, None, Some, if◌then◌else◌}
 use Rattle.std.specs.List.{flat_map}
 use Rattle.std.specs.Str.{bytes_eq}
 use Rattle.sudoers_line.specs.declared.node.Kind.{Kind}
@@ -14,7 +14,8 @@ use Rattle.sudoers_line.specs.declared.node.HostGroup.{HostGroup}
 use Rattle.sudoers_line.specs.declared.node.Scope.{Scope}
 use Rattle.sudoers_line.specs.declared.node.Node.{Node}
 use Rattle.sudoers_line.specs.declared.node.Node.TheVariants as node
-use Rattle.sudoers_tree.specs.declared.line.Line.{Line}
+use Rattle.sudoers_line.specs.Listed.{Listed, AliasMember}
+use Rattle.sudoers_tree.specs.Line.{Line}
 use Rattle.sudoers_tree.specs.declared.place.Span.{Span}
 use Rattle.sudoers_tree.specs.Definition.{is_kind}
 
@@ -76,3 +77,14 @@ mentions_since k name n (line ∷ lines) = mentions_in k name n line.node ++ men
 -- all mentions of a name in lists of a kind, in file order
 abbrev pub mentions : Kind → List ℕ → List Line → List Span
 mentions k name lines = mentions_since k name 0 lines
+
+-- ---- the same, picked from the members of all lists
+
+-- those of the members that stand in lists of this kind
+abbrev pub of_kind : Kind → List Listed → List Member
+of_kind k [] = []
+of_kind k (l ∷ ls) = if is_kind k l.0 then l.1 ∷ of_kind k ls else of_kind k ls
+
+-- the place of an alias, if it is this name in a list of this kind
+abbrev pub place_if : Kind → List ℕ → ℕ → AliasMember → List Span
+place_if k name line a = if is_kind k a.kind && bytes_eq name a.name then record { line = line; start = a.stop - length name; stop = a.stop } ∷ [] else []

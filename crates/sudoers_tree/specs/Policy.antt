@@ -6,7 +6,7 @@ use Rattle.sudoers_text.specs.Line.{join}
 use Rattle.sudoers_text.specs.Fault.{IsCut}
 use Rattle.sudoers_text.specs.Word.{is_reserved}
 use Rattle.sudoers_line.specs.Line.{ReadsLine}
-use Rattle.sudoers_tree.specs.declared.line.Line.{Line}
+use Rattle.sudoers_tree.specs.Line.{Line}
 use Rattle.sudoers_tree.specs.Definition.{Definition, definitions, defined, is_kind}
 
 -- how many definitions of one kind a policy may have

@@ -1,18 +1,19 @@
 //! The texts of policies of which a line is changed.
-ghost use Rattle.std.specs.Prelude.{◌≡◌, ◌<◌, ◌≤◌, ◌++◌, List, ℕ, length, take, insert, remove, false, Ok, IfOk, OnOk};
+ghost use Rattle.std.specs.Prelude.{◌≡◌, ◌<◌, ◌≤◌, ◌++◌, List, ℕ, length, map, take, insert, remove, false, Ok, IfOk, OnOk};
 ghost use Rattle.std.specs.List.{AllByRecursion};
 ghost use Rattle.sudoers_text.specs.Ended.{has_unended_inside};
 ghost use Rattle.sudoers_text.specs.Line.{join};
 ghost use Rattle.sudoers_text.specs.Whole.{IsLogicalLine};
-ghost use Rattle.sudoers_tree.specs.declared.line.Line.{Line as LineOf};
+ghost use Rattle.sudoers_tree.specs.Line.{Line as LineOf, line_in, lines_shown};
 ghost use Rattle.sudoers_tree.specs.Changed.{replaced};
 ghost use Rattle.sudoers_tree.specs.Policy.{texts};
 ghost use Rattle.sudoers_tree.specs.Reading.{read_of};
 
 use crate::laws::policy_is_cut;
-use crate::line::Line;
+use crate::line::LineRow;
 use crate::policy::Policy;
 use std::alloc::{AllocError, Global};
+use sudoers_reader::{Rows, Tables};
 use sudoers_text::{
     cut_is, line_alone_is_whole, lines_stand_alone, one_list, whole_line_is, whole_lines_of_join,
 };
@@ -24,18 +25,18 @@ use sudoers_text::{
 /// Want of memory alone.
 pub fn text_with(
     alloc: Global,
-    lines: &[Line],
+    lines: &Rows<'_, LineRow>,
     at: usize,
     line: &[u8],
 ) -> Result<Vec<u8>, AllocError>
-    requires { at ≤ length lines.now }
-    ensures { IfOk result (λ text. text.items ≡ join (insert (texts lines.now) at line.now)) }
+    requires { at ≤ length (lines_shown lines.now) }
+    ensures { IfOk result (λ text. text.items ≡ join (insert (texts (lines_shown lines.now)) at line.now)) }
 {
-    let (front, back) = lines.split_at(at);
+    let (front, back) = lines.rows.split_at(at);
     let mut text = Vec::new(alloc);
-    append_texts(front, &mut text)?;
+    append_texts(lines.tables, front, &mut text)?;
     text.extend_from_slice(line)?;
-    append_texts(back, &mut text)?;
+    append_texts(lines.tables, back, &mut text)?;
     Ok(text)
 }
 
@@ -44,15 +45,19 @@ pub fn text_with(
 /// # Errors
 ///
 /// Want of memory alone.
-pub fn text_without(alloc: Global, lines: &[Line], at: usize) -> Result<Vec<u8>, AllocError>
-    requires { at < length lines.now }
-    ensures { IfOk result (λ text. text.items ≡ join (remove (texts lines.now) at)) }
+pub fn text_without(
+    alloc: Global,
+    lines: &Rows<'_, LineRow>,
+    at: usize,
+) -> Result<Vec<u8>, AllocError>
+    requires { at < length (lines_shown lines.now) }
+    ensures { IfOk result (λ text. text.items ≡ join (remove (texts (lines_shown lines.now)) at)) }
 {
-    let (front, _) = lines.split_at(at);
-    let (_, back) = lines.split_at(at + 1);
+    let (front, _) = lines.rows.split_at(at);
+    let (_, back) = lines.rows.split_at(at + 1);
     let mut text = Vec::new(alloc);
-    append_texts(front, &mut text)?;
-    append_texts(back, &mut text)?;
+    append_texts(lines.tables, front, &mut text)?;
+    append_texts(lines.tables, back, &mut text)?;
     Ok(text)
 }
 
@@ -63,19 +68,19 @@ pub fn text_without(alloc: Global, lines: &[Line], at: usize) -> Result<Vec<u8>,
 /// Want of memory alone.
 pub fn text_replaced(
     alloc: Global,
-    lines: &[Line],
+    lines: &Rows<'_, LineRow>,
     at: usize,
     line: &[u8],
 ) -> Result<Vec<u8>, AllocError>
-    requires { at < length lines.now }
-    ensures { IfOk result (λ text. text.items ≡ join (replaced at line.now (texts lines.now))) }
+    requires { at < length (lines_shown lines.now) }
+    ensures { IfOk result (λ text. text.items ≡ join (replaced at line.now (texts (lines_shown lines.now)))) }
 {
-    let (front, _) = lines.split_at(at);
-    let (_, back) = lines.split_at(at + 1);
+    let (front, _) = lines.rows.split_at(at);
+    let (_, back) = lines.rows.split_at(at + 1);
     let mut text = Vec::new(alloc);
-    append_texts(front, &mut text)?;
+    append_texts(lines.tables, front, &mut text)?;
     text.extend_from_slice(line)?;
-    append_texts(back, &mut text)?;
+    append_texts(lines.tables, back, &mut text)?;
     Ok(text)
 }
 
@@ -85,12 +90,12 @@ pub fn text_replaced(
 ///
 /// Want of memory alone; the text then still begins as it was.
 #[tactic(auto, using(crate::proofs::ChangedText::front_begins, crate::proofs::ChangedText::front_kept))]
-pub fn append_texts(lines: &[Line], text: &mut Vec<u8>) -> Result<(), AllocError>
-    ensures appended { OnOk result (text.new.items ≡ text.old.items ++ join (texts lines.now)) }
+pub fn append_texts(tables: &Tables, rows: &[LineRow], text: &mut Vec<u8>) -> Result<(), AllocError>
+    ensures appended { OnOk result (text.new.items ≡ text.old.items ++ join (texts (map (line_in tables.now) rows.now))) }
     ensures front { take (length text.old.items) text.new.items ≡ text.old.items }
 {
-    for line in lines {
-        text.extend_from_slice(line.text.as_slice())?;
+    for row in rows {
+        text.extend_from_slice(tables.text(row.text))?;
     }
     Ok(())
 }

@@ -1,9 +1,11 @@
 //! The kinds of lines, and the words for the kinds of aliases.
 
 ghost use Rattle.std.specs.Prelude.{◌≡◌};
+ghost use Rattle.sudoers_reader.specs.View.{node_shown};
 ghost use Rattle.sudoers_tree.specs.Kind.{line_kind, kind_name};
 
-use sudoers_line::{Kind, Node};
+use sudoers_line::Kind;
+use sudoers_reader::Node;
 
 /// What sort of line it is (sudoers(5), SUDOERS FILE FORMAT).
 #[derive(Clone, Copy, Debug, PartialEq, Eq)]
@@ -24,8 +26,8 @@ pub enum LineKind {
 
 impl LineKind {
     /// The kind of a line that says this.
-    pub fn of(node: &Node) -> LineKind
-        ensures { result ≡ line_kind node.now }
+    pub fn of(node: &Node<'_>) -> LineKind
+        ensures { result ≡ line_kind (node_shown node.now) }
     {
         match node {
             Node::Blank => LineKind::Blank,

@@ -3,13 +3,18 @@
 ghost use Rattle.std.specs.Prelude.{◌≡◌, ℕ, List, Result, Ok, Some};
 ghost use Rattle.std.specs.List.{AllByRecursion};
 ghost use Rattle.sudoers_text.specs.Cut.{cut_of};
-ghost use Rattle.sudoers_tree.specs.declared.line.Line.{Line as LineOf};
+ghost use Rattle.sudoers_tree.specs.Line.{Line as LineOf};
 ghost use Rattle.sudoers_tree.specs.declared.fault.ReadFault.{ReadFault as FaultOf};
+ghost use Rattle.sudoers_line.specs.declared.node.Kind.{Kind as KindOf};
+ghost use Rattle.sudoers_line.specs.declared.node.Node.{Node as NodeOf};
+ghost use Rattle.sudoers_line.specs.Listed.{listed};
+ghost use Rattle.sudoers_tree.specs.Mention.{members_in, of_kind};
 ghost use Rattle.sudoers_tree.specs.Policy.{texts};
 ghost use Rattle.sudoers_tree.specs.Reading.{read_of, IsOutcome};
 ghost use Rattle.sudoers_tree.specs.Single.{said};
 
-use sudoers_line::{no_fault, one_fault, one_reading, outcome_is};
+use sudoers_line::{no_fault, one_fault};
+use sudoers_reader::{one_reading, outcome_is};
 use sudoers_text::{cut_is, line_alone_is_whole, lines_stand_alone, one_outcome as one_cut};
 
 /// A text has an outcome: the policy that it is, or its first fault.
@@ -55,3 +60,8 @@ pub fn lines_are_said()
     one_reading();
     no_fault();
 }
+
+/// The members of lists of a kind are those of all members that stand in such lists.
+pub fn members_are_listed()
+    ensures { (kind : KindOf) (says : NodeOf) → members_in kind says ≡ of_kind kind (listed says) }
+{}

@@ -9,12 +9,12 @@ mod laws;
 mod line;
 mod mention;
 mod names;
-mod outline;
 mod place;
 mod policy;
 mod position;
 mod reading;
 mod single;
+mod tree;
 
 pub use changed::{
     append_texts, lines_are_whole, text_replaced, text_with, text_without, whole_lines_are_read,
@@ -22,15 +22,19 @@ pub use changed::{
 pub use fault::ReadFault;
 pub use index::ALIAS_LIMIT;
 pub use kind::{LineKind, kind_word};
-pub use laws::{lines_are_said, one_outcome, policy_is_cut, read_is};
-pub use line::Line;
-pub use outline::{OutlinedLine, OutlinedPolicy};
+pub use laws::{lines_are_said, members_are_listed, one_outcome, policy_is_cut, read_is};
+pub use line::{Line, LineRow};
+pub use mention::is_kind;
 pub use place::{Place, Span};
 pub use policy::Policy;
 pub use position::lf_count;
 pub use single::read_line;
 pub use sudoers_line::{
-    Address, AliasMember, Args, Atom, CmdSpec, Def, Digest, DigestKind, HostGroup, Items, Kind,
-    LineFault, Mask, Member, Node, Operator, OptionName, Outline, Param, RunasSpec, Scope, Setting,
-    Tag, Why, definitions_ascend,
+    Address, AliasMember, DigestKind, Items, Kind, LineFault, Mask, Operator, OptionName, Tag, Why,
+    definitions_ascend,
+};
+pub use sudoers_reader::{
+    Args, Atom, CmdSpec, CommandRow, Def, DefRow, Digest, DigestRow, GroupRow, HostGroup, Member,
+    MemberRow, Node, NodeRow, OptionRow, Param, ParamRow, Reading, Rows, RunasSpec, Scope, Setting,
+    Tables, TagRow, alias_members,
 };

@@ -7,8 +7,10 @@ ghost use Rattle.sudoers_tree.specs.Changed.{replaced as with_another};
 ghost use Rattle.std.specs.Option.{option_map, option_copied};
 ghost use Rattle.sudoers_text.specs.Line.{join};
 ghost use Rattle.sudoers_text.specs.Fault.{text_limit};
+ghost use Rattle.sudoers_line.specs.declared.node.Def.{Def as DefOf};
 ghost use Rattle.sudoers_line.specs.declared.node.Kind.{Kind as KindOf};
-ghost use Rattle.sudoers_tree.specs.declared.line.Line.{Line as LineOf};
+ghost use Rattle.sudoers_reader.specs.View.{defs_shown, members_shown, node_shown};
+ghost use Rattle.sudoers_tree.specs.Line.{Line as LineOf, lines_shown};
 ghost use Rattle.sudoers_tree.specs.Kind.{line_kind};
 ghost use Rattle.sudoers_tree.specs.Definition.{place_of, members_of};
 ghost use Rattle.sudoers_tree.specs.Mention.{mentions};
@@ -17,26 +19,28 @@ ghost use Rattle.sudoers_tree.specs.Fault.{IsFaultOf};
 ghost use Rattle.sudoers_tree.specs.Reading.{read_of, ReadGives};
 
 use crate::changed::{
-    lines_are_whole, text_replaced, text_with, text_without, whole_lines_are_read,
+    append_texts, lines_are_whole, text_replaced, text_with, text_without, whole_lines_are_read,
 };
 use crate::fault::ReadFault;
 use crate::index::Index;
 use crate::kind::LineKind;
 use crate::laws::read_is;
-use crate::line::Line;
-use crate::mention::Sought;
+use crate::line::{Line, LineRow};
+use crate::mention::append_mentions;
 use crate::place::{Place, Span};
 use crate::reading::read_lines;
+use crate::tree::Tree;
 use std::alloc::{AllocError, Global};
 use std::boxed::Box;
 use std::marker::Model;
-use sudoers_line::{Kind, Member, Node};
+use sudoers_line::Kind;
+use sudoers_reader::{DefRow, MemberRow, Node, Rows};
 use sudoers_text::cut;
 
 /// A sudoers policy. Contracts see the list of its lines with what they say.
 #[derive(Drop)]
 pub struct Policy {
-    lines: Vec<Line>,
+    tree: Tree,
     index: Box<Index>,
     size: usize,
     alloc: Global,
@@ -45,7 +49,7 @@ pub struct Policy {
 impl Model for Policy {
     ghost use Rattle.std.specs.Prelude.{◌≡◌, List, length, Ok};
     ghost use Rattle.sudoers_text.specs.Line.{join};
-    ghost use Rattle.sudoers_tree.specs.declared.line.Line.{Line};
+    ghost use Rattle.sudoers_tree.specs.Line.{Line};
     ghost use Rattle.sudoers_tree.specs.Definition.{definitions};
     ghost use Rattle.sudoers_tree.specs.Policy.{texts};
     ghost use Rattle.sudoers_tree.specs.Reading.{read_of};
@@ -53,11 +57,11 @@ impl Model for Policy {
 
     ghost Value = { List Line };
 
-    ghost view = { λ policy. policy.lines.items };
+    ghost view = { λ policy. policy.tree };
 
-    ghost invariant = { λ policy. (read_of (join (texts policy.lines.items)) ≡ Ok policy.lines.items)
-        × Indexes policy.index.value (definitions policy.lines.items)
-        × (policy.size ≡ length (join (texts policy.lines.items))) };
+    ghost invariant = { λ policy. (read_of (join (texts policy.tree)) ≡ Ok policy.tree)
+        × Indexes policy.index.value (definitions policy.tree)
+        × (policy.size ≡ length (join (texts policy.tree))) };
 }
 
 impl Policy {
@@ -79,7 +83,7 @@ impl Policy {
         let lines = cut(alloc, text)?;
         let reading = read_lines(alloc, &lines)?;
         Ok(Policy {
-            lines: reading.lines,
+            tree: reading.tree,
             index: Box::new(alloc, reading.index)?,
             size: text.len(),
             alloc,
@@ -92,7 +96,7 @@ impl Policy {
         ensures read { read_of (join (texts self.now)) ≡ Ok self.now }
     {
         read_is();
-        let _ = &self.lines;
+        let _ = &self.tree;
     }
 
     /// The text, byte for byte.
@@ -104,9 +108,8 @@ impl Policy {
         ensures { IfOk result (λ text. text.items ≡ join (texts self.now)) }
     {
         let mut text = Vec::with_capacity(self.alloc, self.size)?;
-        for line in &self.lines {
-            text.extend_from_slice(line.text.as_slice())?;
-        }
+        let lines = self.tree.lines();
+        append_texts(lines.tables, lines.rows, &mut text)?;
         Ok(text)
     }
 
@@ -125,7 +128,7 @@ impl Policy {
     {
         lines_are_whole(self);
         whole_lines_are_read();
-        let text = text_with(self.alloc, self.lines.as_slice(), at, line)?;
+        let text = text_with(self.alloc, &self.lines(), at, line)?;
         *self = Policy::read(self.alloc, text.as_slice())?;
         Ok(())
     }
@@ -144,7 +147,7 @@ impl Policy {
     {
         lines_are_whole(self);
         whole_lines_are_read();
-        let text = text_without(self.alloc, self.lines.as_slice(), at)?;
+        let text = text_without(self.alloc, &self.lines(), at)?;
         *self = Policy::read(self.alloc, text.as_slice())?;
         Ok(())
     }
@@ -165,7 +168,7 @@ impl Policy {
     {
         lines_are_whole(self);
         whole_lines_are_read();
-        let text = text_replaced(self.alloc, self.lines.as_slice(), at, line)?;
+        let text = text_replaced(self.alloc, &self.lines(), at, line)?;
         *self = Policy::read(self.alloc, text.as_slice())?;
         Ok(())
     }
@@ -174,14 +177,14 @@ impl Policy {
     pub fn len(&self) -> usize
         ensures { result ≡ length self.now }
     {
-        self.lines.len()
+        self.tree.len()
     }
 
     /// The lines with what they say.
-    pub fn lines(&self) -> &[Line]
-        ensures { result.now ≡ self.now }
+    pub fn lines(&self) -> Rows<'_, LineRow>
+        ensures { lines_shown result ≡ self.now }
     {
-        self.lines.as_slice()
+        self.tree.lines()
     }
 
     /// The allocator of its lines.
@@ -193,21 +196,21 @@ impl Policy {
     pub fn line(&self, i: usize) -> Option<&[u8]>
         ensures { option_copied result ≡ option_map (λ (line : LineOf). line.text) (slice_get self.now i) }
     {
-        Some(self.lines.get(i)?.text.as_slice())
+        Some(self.tree.line(i)?.text)
     }
 
     /// The kind of a line.
     pub fn line_kind(&self, i: usize) -> Option<LineKind>
         ensures { result ≡ option_map (λ (line : LineOf). line_kind line.node) (slice_get self.now i) }
     {
-        Some(LineKind::of(self.node(i)?))
+        Some(LineKind::of(&self.node(i)?))
     }
 
     /// What a line says.
-    pub fn node(&self, i: usize) -> Option<&Node>
-        ensures { option_copied result ≡ option_map (λ (line : LineOf). line.node) (slice_get self.now i) }
+    pub fn node(&self, i: usize) -> Option<Node<'_>>
+        ensures { option_map node_shown result ≡ option_map (λ (line : LineOf). line.node) (slice_get self.now i) }
     {
-        Some(&self.lines.get(i)?.node)
+        Some(self.tree.line(i)?.node)
     }
 
     /// Where the name is defined as an alias of this kind.
@@ -218,14 +221,14 @@ impl Policy {
     }
 
     /// The members of the alias.
-    pub fn members(&self, kind: Kind, name: &[u8]) -> Option<&[Member]>
-        ensures { option_copied result ≡ members_of kind name.now self.now }
+    pub fn members(&self, kind: Kind, name: &[u8]) -> Option<Rows<'_, MemberRow>>
+        ensures { option_map members_shown result ≡ members_of kind name.now self.now }
     {
         let place = self.definition(kind, name)?;
         let Node::Alias { defs, .. } = self.node(place.line)? else {
             return None;
         };
-        Some(defs.as_slice().get(place.def)?.members.as_slice())
+        members_at(&defs, place.def)
     }
 
     /// Where the name stands as a member of a list of this kind, in file order.
@@ -237,10 +240,21 @@ impl Policy {
         ensures { IfOk result (λ spans. spans.items ≡ mentions kind name.now self.now) }
     {
         let mut spans = Vec::new(self.alloc);
-        for (number, line) in self.lines.iter().enumerate() {
-            let sought = Sought { name, line: number };
-            sought.in_line(kind, &line.node, &mut spans)?;
+        let lines = self.tree.lines();
+        for (number, row) in lines.rows.iter().enumerate() {
+            let line = Line::of(lines.tables, row);
+            append_mentions(self.alloc, kind, name, number, &line.node, &mut spans)?;
         }
         Ok(spans)
+    }
+}
+
+/// Returns the members of the definition at a place, from 0.
+fn members_at<'a>(defs: &Rows<'a, DefRow>, at: usize) -> Option<Rows<'a, MemberRow>>
+    ensures { option_map members_shown result ≡ option_map (λ (d : DefOf). d.members) (slice_get (defs_shown defs.now) at) }
+{
+    match defs.rows.get(at) {
+        Some(row) => Some(defs.tables.members(row.members)),
+        None => None,
     }
 }

@@ -1,25 +1,27 @@
 //! How lines are read one behind the other.
 
-ghost use Rattle.std.specs.Prelude.{◌≡◌, ◌≤◌, ◌+◌, List, [], ◌∷◌, ◌++◌, ℕ, length, drop, take, OnOk, IfErr};
+ghost use Rattle.std.specs.Prelude.{◌≡◌, ◌≤◌, ◌+◌, List, [], ◌∷◌, ◌++◌, ℕ, length, drop, take, slice_get, Some, OnOk, IfErr};
 ghost use Rattle.sudoers_text.specs.Line.{join};
 ghost use Rattle.sudoers_text.specs.Fault.{text_limit};
 ghost use Rattle.sudoers_tree.specs.Policy.{texts};
 ghost use Rattle.sudoers_tree.specs.Reading.{line_behind, read_behind};
-ghost use Rattle.sudoers_tree.specs.Index.{IsReading, Takes, ReadsAll};
-ghost use Rattle.sudoers_tree.specs.Outlining.{fault_of_line as fault_in_line};
+ghost use Rattle.sudoers_tree.specs.Definition.{Definition, definitions_in};
+ghost use Rattle.sudoers_tree.specs.Line.{Line as LineOf};
+ghost use Rattle.sudoers_tree.specs.Index.{Enters, Indexes, IsReading, Takes, ReadsAll};
+ghost use Rattle.sudoers_tree.specs.Fault.{fault_of_line as fault_in_line};
 
 use crate::fault::ReadFault;
 use crate::index::Index;
-use crate::line::Line;
 use crate::position::{column_behind, lf_count};
+use crate::tree::Tree;
 use std::alloc::Global;
-use sudoers_line::{Items, LineFault, parse};
+use sudoers_line::LineFault;
 use sudoers_text::Lines;
 
 /// The lines that are read, the names that they define, and the number of the physical line behind them, from 1.
 #[derive(Drop)]
 pub struct Reading {
-    pub lines: Vec<Line>,
+    pub tree: Tree,
     pub index: Index,
     row: usize,
 }
@@ -43,23 +45,34 @@ pub fn fault_of_line(row: usize, text: &[u8], fault: LineFault) -> ReadFault
     }
 }
 
+/// Enters the names that the line with this number, from 0, defines.
+fn enter_line(alloc: Global, index: &mut Index, tree: &Tree, number: usize) -> Result<(), ReadFault>
+    ensures { (before : List Definition) (line : LineOf) → slice_get tree.now number ≡ Some line → Indexes index.old before
+        → Enters result index.new before (definitions_in number line.node) }
+{
+    match tree.line(number) {
+        Some(line) => index.enter(alloc, number, &line.node),
+        None => Ok(()),
+    }
+}
+
 impl Reading {
     /// One line more.
     fn take_line(&mut self, alloc: Global, text: &[u8]) -> Result<(), ReadFault>
         requires reading { IsReading self.old }
-        requires fits { length (join (texts self.old.lines.items)) + length text.now ≤ text_limit }
-        ensures taken { Takes result self.old.lines.items self.new.lines.items (line_behind self.old.lines.items text.now) }
+        requires fits { length (join (texts self.old.tree)) + length text.now ≤ text_limit }
+        ensures taken { Takes result self.old.tree self.new.tree (line_behind self.old.tree text.now) }
         ensures reading { OnOk result (IsReading self.new) }
     {
-        let node = match parse(alloc, text) {
-            Ok(node) => node,
-            Err(fault) => return Err(fault_of_line(self.row, text, fault)),
-        };
-        self.index.enter(alloc, self.lines.len(), &node)?;
-        let text = Items::from_slice(alloc, text)?;
-        self.row += lf_count(text.as_slice());
-        self.lines.push(Line { text, node })?;
-        Ok(())
+        let number = self.tree.len();
+        match self.tree.read(alloc, text) {
+            Ok(()) => {
+                enter_line(alloc, &mut self.index, &self.tree, number)?;
+                self.row += lf_count(text);
+                Ok(())
+            }
+            Err(fault) => Err(fault_of_line(self.row, text, fault)),
+        }
     }
 }
 
@@ -69,11 +82,11 @@ pub fn read_lines(alloc: Global, lines: &Lines<'_>) -> Result<Reading, ReadFault
     ensures { ReadsAll result (read_behind [] lines.now) }
 {
     let mut reading = Reading {
-        lines: Vec::with_capacity(alloc, lines.len())?,
+        tree: Tree::with_capacity(alloc, lines.len())?,
         index: Index::new(alloc),
         row: 1,
     };
-    while let Some(text) = lines.get(reading.lines.len()) {
+    while let Some(text) = lines.get(reading.tree.len()) {
         reading.take_line(alloc, text)?;
     }
     Ok(reading)

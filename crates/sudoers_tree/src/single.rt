@@ -4,7 +4,8 @@ ghost use Rattle.std.specs.Prelude.{◌≡◌, IfOk};
 ghost use Rattle.sudoers_tree.specs.Single.{said, IsSaid};
 
 use std::alloc::{AllocError, Global};
-use sudoers_line::{LineFault, Node, parse};
+use sudoers_line::LineFault;
+use sudoers_reader::{Reading, parse};
 use sudoers_text::{is_logical_line, whole_line_is};
 
 /// What the bytes say, where they are one logical line that says something. How long they are is no matter here.
@@ -12,7 +13,7 @@ use sudoers_text::{is_logical_line, whole_line_is};
 /// # Errors
 ///
 /// Want of memory alone.
-pub fn read_line(alloc: Global, text: &[u8]) -> Result<Option<Node>, AllocError>
+pub fn read_line(alloc: Global, text: &[u8]) -> Result<Option<Reading>, AllocError>
     // What is given is what the line says, and where nothing is given the bytes are no line that says something.
     ensures line { IfOk result (IsSaid text.now) }
     // In one word: what is computed.
@@ -23,7 +24,7 @@ pub fn read_line(alloc: Global, text: &[u8]) -> Result<Option<Node>, AllocError>
         return Ok(None);
     }
     match parse(alloc, text) {
-        Ok(node) => Ok(Some(node)),
+        Ok(reading) => Ok(Some(reading)),
         Err(LineFault::Syntax { .. }) => Ok(None),
         Err(LineFault::NoMemory) => Err(AllocError),
     }

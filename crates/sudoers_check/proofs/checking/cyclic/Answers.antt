@@ -10,5 +10,5 @@ returns-clause-size c = c.in_ok-marks.ensures.size ∙ ap length c.requires ∙ 
 
 pub returns-clause-cyclic : goal.returns-clause-cyclic
 returns-clause-cyclic c =
-    cyclic_picked c.args.numbers.now.policy.now c.in_ok-marks.marks.items c.is_policy.ensures
+    cyclic_picked c.args.numbers.now.policy.now c.in_ok-marks.marks.items c.is_policy.ensures.policy
     (subst (λ g. Marks (IsOnCycle g) (length g) c.in_ok-marks.marks.items) c.requires c.in_ok-marks.ensures)

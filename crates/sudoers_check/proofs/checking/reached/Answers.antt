@@ -1,5 +1,5 @@
 use Rattle.std.proofs.Common.{◌≡◌, ◌∙◌, sym, subst, ap, length, List}
-use Rattle.sudoers_tree.specs.declared.line.Line.{Line}
+use Rattle.sudoers_tree.specs.Line.{Line}
 use Rattle.sudoers_tree.specs.Definition.{definitions}
 use Rattle.sudoers_check.specs.Graph.{IsReached, Marks, AreNodes}
 use Rattle.sudoers_check.specs.Numbers.{graph_of, roots_since}
@@ -20,6 +20,6 @@ pub returns-clause-unused : goal.returns-clause-unused
 returns-clause-unused c =
     let lines : List Line = c.args.numbers.now.policy.now in
     let roots : c.as_slice.result.now ≡ roots_since (definitions lines) 0 lines = c.as_slice.ensures.value ∙ c.in_ok-roots.ensures in
-    unused_picked lines c.in_ok-marks.marks.items c.is_policy.ensures
+    unused_picked lines c.in_ok-marks.marks.items c.is_policy.ensures.policy
     (subst (λ r. Marks (IsReached (graph_of (definitions lines)) r) (length (graph_of (definitions lines))) c.in_ok-marks.marks.items) roots
     (subst (λ g. Marks (IsReached g c.as_slice.result.now) (length g) c.in_ok-marks.marks.items) c.requires c.in_ok-marks.ensures))

@@ -1,12 +1,14 @@
-use Rattle.std.proofs.Common.{◌∙◌, ◌++◌, sym, ap, append-nil}
+use Rattle.std.proofs.Common.{◌∙◌, ◌++◌, sym, ap, append-nil, map}
 use Rattle.std.proofs.Math.ListN.{drop_of_length-le}
+use Rattle.sudoers_reader.specs.Tables.{def_in}
 use Rattle.sudoers_check.specs.Noting.{noted_defs}
 use Rattle.sudoers_check.proofs.Noted.{noted_none}
 use Rattle.sudoers_check.proofs.notes.note_defs.Goals as goal
 
-pub returns-after-loop-def : goal.returns-after-loop-def
-returns-after-loop-def c =
-    let none = drop_of_length-le c.args.defs.now c.loop-def-test.false in
-    let l = c.loop-def in
+pub returns-after-loop-row : goal.returns-after-loop-row
+returns-after-loop-row c =
+    let defs = c.args.defs.now in
+    let none = drop_of_length-le defs.rows.now c.loop-row-test.false in
+    let l = c.loop-row in
     sym (append-nil l.notes.items) ∙ ap (λ xs. l.notes.items ++ xs) (sym (noted_none c.args.wanted l.cursor.row l.cursor.text.now c.args.kind l.rest.now))
-    ∙ ap (λ ds. l.notes.items ++ noted_defs c.args.wanted l.cursor.row l.cursor.text.now c.args.kind l.rest.now ds) (sym none) ∙ l.invariant
+    ∙ ap (λ rows. l.notes.items ++ noted_defs c.args.wanted l.cursor.row l.cursor.text.now c.args.kind l.rest.now (map (def_in defs.tables.now) rows)) (sym none) ∙ l.invariant

@@ -1,8 +1,10 @@
-use Rattle.std.proofs.Common.{◌≡◌, ◌++◌, drop}
+use Rattle.std.proofs.Common.{◌≡◌, ◌++◌, drop, map}
+use Rattle.sudoers_reader.specs.Tables.{def_in}
 use Rattle.sudoers_check.specs.Noting.{noted_defs}
 use Rattle.sudoers_check.proofs.notes.note_defs.Given as goal
 
-abbrev pub invariant-loop-def : goal.invariant-loop-def
-invariant-loop-def l =
-    (l.notes.items ++ noted_defs l.wanted l.cursor.row l.cursor.text.now l.kind l.rest (drop l.def-index l.defs)
-    ≡ l.initial.notes.items ++ noted_defs l.wanted l.initial.cursor.row l.initial.cursor.text.now l.kind l.initial.rest l.defs)
+abbrev pub invariant-loop-row : goal.invariant-loop-row
+invariant-loop-row l =
+    l.notes.items ++ noted_defs l.wanted l.cursor.row l.cursor.text.now l.kind l.rest (map (def_in l.defs.tables.now) (drop l.row-index l.defs.rows.now))
+    ≡ l.initial.notes.items
+    ++ noted_defs l.wanted l.initial.cursor.row l.initial.cursor.text.now l.kind l.initial.rest (map (def_in l.defs.tables.now) l.defs.rows.now)

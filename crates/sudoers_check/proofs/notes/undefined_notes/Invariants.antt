@@ -1,6 +1,7 @@
-use Rattle.std.proofs.Common.{◌≡◌, ◌≤◌, ◌++◌, ◌+◌, [], List, drop, length}
+use Rattle.std.proofs.Common.{◌≡◌, ◌≤◌, ◌++◌, ◌+◌, [], List, drop, length, map}
 use Rattle.sudoers_text.specs.Line.{join}
 use Rattle.sudoers_tree.specs.Definition.{definitions}
+use Rattle.sudoers_tree.specs.Line.{line_in}
 use Rattle.sudoers_tree.specs.Policy.{texts}
 use Rattle.sudoers_check.specs.Mentioned.{Mention}
 use Rattle.sudoers_check.specs.Noting.{undefined_from, Agrees}
@@ -9,5 +10,6 @@ use Rattle.sudoers_check.proofs.notes.undefined_notes.Given as goal
 abbrev pub invariant-loop-number : goal.invariant-loop-number
 invariant-loop-number l =
     ((before : List Mention) × Agrees (definitions l.policy) l.seen before
-    × (l.notes.items ++ undefined_from (definitions l.policy) l.row before l.number (drop l.number l.line-items) ≡ undefined_from (definitions l.policy) 1 [] 0 l.line-items))
-    × (l.row + length (join (texts (drop l.number l.line-items))) ≤ 1048577)
+    × (l.notes.items ++ undefined_from (definitions l.policy) l.row before l.number (map (line_in l.lines.tables.now) (drop l.number l.lines.rows.now))
+    ≡ undefined_from (definitions l.policy) 1 [] 0 (map (line_in l.lines.tables.now) l.lines.rows.now)))
+    × (l.row + length (join (texts (map (line_in l.lines.tables.now) (drop l.number l.lines.rows.now)))) ≤ 1048577)

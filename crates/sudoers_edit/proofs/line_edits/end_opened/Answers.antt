@@ -2,7 +2,7 @@ use Rattle.std.proofs.Common.{◌≡◌, ◌∙◌, ◌-◌, List, ℕ, length, 
 use Rattle.std.specs.Prelude.{slice_get}
 use Rattle.sudoers_text.specs.Line.{join}
 use Rattle.sudoers_text.specs.Ended.{ends_in_lf}
-use Rattle.sudoers_tree.specs.declared.line.Line.{Line}
+use Rattle.sudoers_tree.specs.Line.{Line}
 use Rattle.sudoers_tree.specs.Policy.{texts}
 use Rattle.sudoers_edit.specs.declared.edit.Edit.TheVariants.{OpenEnd}
 use Rattle.sudoers_edit.specs.Leading.{Leads}

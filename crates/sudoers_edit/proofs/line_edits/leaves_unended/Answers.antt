@@ -1,5 +1,5 @@
 use Rattle.std.proofs.Common.{◌≡◌, ◌∙◌, ◌-◌, ◌≤◌, List, ℕ, length, not, ap, arith, sym}
-use Rattle.sudoers_tree.specs.declared.line.Line.{Line}
+use Rattle.sudoers_tree.specs.Line.{Line}
 use Rattle.sudoers_tree.specs.Policy.{texts}
 use Rattle.sudoers_edit.proofs.EditLemmas.{open_insert, last_decides}
 use Rattle.sudoers_edit.proofs.PolicyLemmas.{at_get, text_at, count_texts, past_lines}

@@ -1,7 +1,7 @@
 use Rattle.std.proofs.Common.{◌≡◌, ◌∙◌, ◌<◌, List, ℕ, length, false, ap, sym, subst, arith}
 use Rattle.sudoers_text.specs.Line.{join}
 use Rattle.sudoers_text.specs.Ended.{has_unended_inside}
-use Rattle.sudoers_tree.specs.declared.line.Line.{Line}
+use Rattle.sudoers_tree.specs.Line.{Line}
 use Rattle.sudoers_tree.specs.Policy.{texts}
 use Rattle.sudoers_edit.specs.declared.edit.Edit.TheVariants.{Move}
 use Rattle.sudoers_edit.specs.LineEdits.{moved}

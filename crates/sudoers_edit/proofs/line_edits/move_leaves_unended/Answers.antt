@@ -1,6 +1,6 @@
 use Rattle.std.proofs.Common.{◌≡◌, ◌∙◌, ◌<◌, ◌-◌, ◌≤◌, List, ℕ, Some, length, not, ap, arith, sym}
 use Rattle.std.specs.Prelude.{slice_get}
-use Rattle.sudoers_tree.specs.declared.line.Line.{Line}
+use Rattle.sudoers_tree.specs.Line.{Line}
 use Rattle.sudoers_tree.specs.Policy.{texts}
 use Rattle.sudoers_edit.proofs.EditLemmas.{stays_in_place, move_before, move_behind}
 use Rattle.sudoers_edit.proofs.PolicyLemmas.{text_at, count_texts, past_lines}

@@ -1,11 +1,14 @@
-use Rattle.std.proofs.Common.{◌≡◌, ◌∙◌, ◌++◌, ◌<◌, ◌+◌, [], ◌∷◌, ℕ, List, drop, map, reverse, ap, ap₂, sym, arith, append-nil}
+use Rattle.std.proofs.Common.{◌≡◌, ◌∙◌, ◌++◌, ◌<◌, ◌+◌, [], ◌∷◌, ℕ, List, drop, length, map, reverse, slice_index_or, ap, ap₂, sym, arith, append-nil}
 use Rattle.std.proofs.lemmas.List.{drop_more, drop_all}
 use Rattle.std.proofs.lemmas.List.Elements.{All-map, All-filter, All-weaker, All-same, All-drop}
 use Rattle.std.specs.Prelude.{◌^◌}
 use Rattle.sudoers_line.specs.declared.node.Kind.{Kind}
-use Rattle.sudoers_tree.specs.declared.line.Line.{Line}
+use Rattle.sudoers_line.specs.declared.node.Node.{Node}
+use Rattle.sudoers_reader.specs.declared.rows.NodeRow.TheVariants as node_row
+use Rattle.sudoers_tree.specs.Line.{Line, line_in, lines_shown}
+use Rattle.sudoers_tree.specs.declared.line.LineRow.{LineRow}
 use Rattle.sudoers_tree.specs.declared.place.Place.{Place}
-use Rattle.sudoers_tree.specs.Definition.{Definition, definitions}
+use Rattle.sudoers_tree.specs.Definition.{Definition, definitions, definitions_in}
 use Rattle.sudoers_tree.specs.Policy.{alias_limit}
 use Rattle.sudoers_check.specs.Led.{is_unused, unused_of}
 use Rattle.sudoers_edit.specs.PruneOrder.{removals_along}
@@ -16,7 +19,7 @@ pub loop-number-init : goal.loop-number-init
 loop-number-init c =
     let policy : List Line = c.args.policy.now in
     let places : c.as_slice-rest.result.now ≡ map place_in (unused_of policy) = c.as_slice-rest.ensures.value ∙ c.in_ok-places.ensures in (
-      ap (λ xs. xs ++ removals_along 0 c.lines-line-items.result.now c.as_slice-rest.result.now) c.new-removals.ensures.items,
+      ap (λ xs. xs ++ removals_along 0 (lines_shown c.lines-lines.result) c.as_slice-rest.result.now) c.new-removals.ensures.items,
       All-same (λ (p : Kind × Place). p.1.def < 2 ^ 32) c.as_slice-rest.result.now (map place_in (unused_of policy)) places
           (All-map (λ (p : Kind × Place). p.1.def < 2 ^ 32) place_in (unused_of policy)
           (All-filter (is_unused policy) (λ (d : Definition). d.place.def < 2 ^ 32) (definitions policy)
@@ -25,14 +28,16 @@ loop-number-init c =
 
 pub loop-number-preserved : goal.loop-number-preserved
 loop-number-preserved c =
-    let items : List Line = c.lines-line-items.result.now in
+    let says : LineRow → Line = line_in c.lines-lines.result.tables.now in
+    let items : List LineRow = c.lines-lines.result.rows.now in
     let i : ℕ = c.loop-number.number in
-    let line : Line = c.line-item.result in
+    let none : LineRow = record { text = record { from = 0; to = 0 }; node = node_row.Blank } in
+    let row : LineRow = slice_index_or items i none in
+    let line : Line = says row in
     let rest : List (Kind × Place) = c.loop-number.rest.now in
-    let whole : drop i items ≡ line ∷ drop (i + 1) items =
-    drop_more items i line c.loop-number-test.true ∙ ap (λ (l : Line). l ∷ drop (i + 1) items) (sym c.line-item.is) in (
-      along_more c.loop-number.removals.items c.append_removals.new.removals.items i c.count_in_front.result c.definitions_of.result line (drop (i + 1) items) (drop i items)
-          rest c.split_at.result.0.now c.split_at.result.1.now c.in_ok-append_removals.ensures c.count_in_front.ensures.is (c.definitions_of.ensures i)
+    let whole : map says (drop i items) ≡ line ∷ map says (drop (i + 1) items) = ap (map says) (drop_more items i none c.loop-number-test.true) in (
+      along_more c.loop-number.removals.items c.append_removals.new.removals.items i c.count_in_front.result c.definitions_of.result line (map says (drop (i + 1) items)) (map says (drop i items))
+          rest c.split_at.result.0.now c.split_at.result.1.now c.in_ok-append_removals.ensures c.count_in_front.ensures.is (c.definitions_of.ensures i ∙ ap (λ (says : Node). length (definitions_in i says)) c.node.ensures)
           c.split_at.ensures.front c.split_at.ensures.back whole ∙ c.loop-number.invariant.0,
       All-same (λ (p : Kind × Place). p.1.def < 2 ^ 32) c.split_at.result.1.now (drop c.count_in_front.result rest) c.split_at.ensures.back
           (All-drop (λ (p : Kind × Place). p.1.def < 2 ^ 32) c.count_in_front.result rest c.loop-number.invariant.1),
@@ -41,11 +46,12 @@ loop-number-preserved c =
 pub returns : goal.returns
 returns c =
     let policy : List Line = c.args.policy.now in
-    let items : List Line = c.lines-line-items.result.now in
+    let says : LineRow → Line = line_in c.lines-lines.result.tables.now in
+    let items : List LineRow = c.lines-lines.result.rows.now in
     let places : c.as_slice-rest.result.now ≡ map place_in (unused_of policy) = c.as_slice-rest.ensures.value ∙ c.in_ok-places.ensures in
-    let none : drop c.loop-number.number items ≡ [] = drop_all c.loop-number.number items c.loop-number-test.false in
+    let none : map says (drop c.loop-number.number items) ≡ [] = ap (map says) (drop_all c.loop-number.number items c.loop-number-test.false) in
     c.reverse.ensures.items
     ∙ ap reverse (sym (append-nil c.loop-number.removals.items)
     ∙ ap (λ ls. c.loop-number.removals.items ++ removals_along c.loop-number.number ls c.loop-number.rest.now) (sym none)
-    ∙ c.loop-number.invariant.0 ∙ ap₂ (removals_along 0) c.lines-line-items.ensures places)
+    ∙ c.loop-number.invariant.0 ∙ ap₂ (removals_along 0) c.lines-lines.ensures places)
     ∙ removals_are policy

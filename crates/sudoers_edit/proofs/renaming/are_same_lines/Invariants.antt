@@ -1,11 +1,14 @@
-use Rattle.std.proofs.Common.{◌≡◌, length}
+use Rattle.std.proofs.Common.{◌≡◌, length, map}
 use Rattle.std.specs.Str.{bytes_eq}
+use Rattle.sudoers_tree.specs.Line.{line_in, lines_shown}
 use Rattle.sudoers_tree.specs.Policy.{texts}
 use Rattle.sudoers_edit.specs.Alike.{are_alike}
 use Rattle.sudoers_edit.proofs.renaming.are_same_lines.Given as goal
 
-abbrev pub invariant-loop-line : goal.invariant-loop-line
-invariant-loop-line l = are_alike bytes_eq (texts l.rest) (texts l.left) ≡ are_alike bytes_eq (texts l.lines) (texts l.others)
+abbrev pub invariant-loop-row : goal.invariant-loop-row
+invariant-loop-row l =
+    are_alike bytes_eq (texts (map (line_in l.lines.tables.now) l.rest)) (texts (map (line_in l.others.tables.now) l.left))
+    ≡ are_alike bytes_eq (texts (lines_shown l.lines)) (texts (lines_shown l.others))
 
-abbrev pub decreases-loop-line : goal.decreases-loop-line
-decreases-loop-line l = length l.rest
+abbrev pub decreases-loop-row : goal.decreases-loop-row
+decreases-loop-row l = length l.rest

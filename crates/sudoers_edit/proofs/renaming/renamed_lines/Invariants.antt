@@ -1,7 +1,9 @@
-use Rattle.std.proofs.Common.{◌≡◌, ◌++◌, drop}
+use Rattle.std.proofs.Common.{◌≡◌, ◌++◌, drop, map}
+use Rattle.sudoers_tree.specs.Line.{line_in, lines_shown}
 use Rattle.sudoers_edit.specs.Renaming.{renamed}
 use Rattle.sudoers_edit.proofs.renaming.renamed_lines.Given as goal
 
-abbrev pub invariant-loop-line : goal.invariant-loop-line
-invariant-loop-line l =
-    l.lines.items ++ renamed l.kind l.name l.fresh (drop l.line-index l.policy) ≡ renamed l.kind l.name l.fresh l.policy
+abbrev pub invariant-loop-row : goal.invariant-loop-row
+invariant-loop-row l =
+    l.texts.items ++ renamed l.kind l.name l.fresh (map (line_in l.lines.tables.now) (drop l.row-index l.lines.rows.now))
+    ≡ renamed l.kind l.name l.fresh (lines_shown l.lines)

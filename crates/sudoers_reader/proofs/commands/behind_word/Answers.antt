@@ -1,7 +1,7 @@
 use Rattle.std.proofs.Common.{◌≡◌, true, false, Option, rules, sym, ap, subst, ◌∙◌}
 use Rattle.sudoers_line.specs.declared.node.Member.{Member}
-use Rattle.sudoers_line.specs.declared.state.Program.{Program}
-use Rattle.sudoers_line.specs.Machine.{program_of}
+use Rattle.sudoers_line.specs.declared.arguments.Program.{Program}
+use Rattle.sudoers_line.specs.Arguments.{program_of}
 use Rattle.sudoers_reader.specs.Reader.{Outcome}
 use Rattle.sudoers_reader.specs.Tables.{ReadsAs, atom_in, member_in, word_in}
 use Rattle.sudoers_reader.proofs.WordRows.{alone, no_argument, with_arguments, some_program}

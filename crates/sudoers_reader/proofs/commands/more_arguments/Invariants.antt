@@ -1,6 +1,6 @@
 use Rattle.std.proofs.Common.{◌≡◌, length}
 use Rattle.sudoers_line.specs.declared.node.Args.TheVariants.{Any}
-use Rattle.sudoers_line.specs.Machine.{with_argument}
+use Rattle.sudoers_line.specs.Arguments.{with_argument}
 use Rattle.sudoers_reader.specs.Reader.{many, token}
 use Rattle.sudoers_reader.specs.Descent.{add_argument, argument}
 use Rattle.sudoers_reader.proofs.commands.more_arguments.Given as goal

@@ -1,6 +1,6 @@
 use Rattle.std.proofs.Common.{Option, Some, option_map, not, rules, sym, ap, ◌∙◌}
 use Rattle.sudoers_line.specs.declared.node.Member.{Member}
-use Rattle.sudoers_line.specs.declared.state.Program.{Program}
+use Rattle.sudoers_line.specs.declared.arguments.Program.{Program}
 use Rattle.sudoers_line.specs.Seen.{seen}
 use Rattle.sudoers_line.specs.Atom.{bare_command}
 use Rattle.sudoers_reader.specs.Descent.{one_word}

@@ -1,7 +1,10 @@
-use Rattle.std.proofs.Common.{◌≡◌, drop}
+use Rattle.std.proofs.Common.{◌≡◌, drop, map}
+use Rattle.sudoers_reader.specs.Tables.{def_in}
 use Rattle.sudoers_tree.specs.Index.{entered}
 use Rattle.sudoers_tree.proofs.index.enter_all.Given as goal
 
 -- what is left leads on to what the whole leads to
 abbrev pub invariant-loop-number : goal.invariant-loop-number
-invariant-loop-number l = entered l.kind l.line l.number l.names (drop l.number l.defs) ≡ entered l.kind l.line 0 l.initial.names l.defs
+invariant-loop-number l =
+    entered l.kind l.line l.number l.names (map (def_in l.defs.tables.now) (drop l.number l.defs.rows.now))
+    ≡ entered l.kind l.line 0 l.initial.names (map (def_in l.defs.tables.now) l.defs.rows.now)

@@ -3,7 +3,7 @@ use Rattle.std.proofs.lemmas.List.{length-append}
 use Rattle.std.proofs.lemmas.Option.{slice_get_within}
 use Rattle.sudoers_text.specs.Line.{join}
 use Rattle.sudoers_text.specs.Fault.{text_limit}
-use Rattle.sudoers_tree.specs.declared.line.Line.{Line}
+use Rattle.sudoers_tree.specs.Line.{Line}
 use Rattle.sudoers_tree.specs.declared.fault.ReadFault.{ReadFault}
 use Rattle.sudoers_tree.specs.Policy.{texts}
 use Rattle.sudoers_tree.specs.Reading.{line_behind, read_behind}
@@ -28,27 +28,27 @@ fewer lines read new line text next more = omega (arith, slice_get_within lines 
 
 pub take_line-requires-clause-fits : goal.take_line-requires-clause-fits
 take_line-requires-clause-fits c =
-    let read : List Line = c.loop-text.reading.lines.items in
+    let read : List Line = c.loop-text.reading.tree in
     let count : c.len-in-loop-text.result ≡ length read = search rules in
     let next = at_next c.args.lines.now c.len-in-loop-text.result (length read) (Some c.in-Some.text.now) count c.in-Some.ensures in
     room c.args.lines.now read c.in-Some.text.now c.loop-text.invariant.0 next c.requires
 
 pub loop-text-smaller : goal.loop-text-smaller
 loop-text-smaller c =
-    let read : List Line = c.loop-text.reading.lines.items in
+    let read : List Line = c.loop-text.reading.tree in
     let count : c.len-in-loop-text.result ≡ length read = search rules in
     let next = at_next c.args.lines.now c.len-in-loop-text.result (length read) (Some c.in-Some.text.now) count c.in-Some.ensures in
-    fewer c.args.lines.now read c.take_line.new.self.lines.items c.in_ok-take_line.ensures.taken.0 c.in-Some.text.now next c.in_ok-take_line.ensures.taken.2
+    fewer c.args.lines.now read c.take_line.new.self.tree c.in_ok-take_line.ensures.taken.0 c.in-Some.text.now next c.in_ok-take_line.ensures.taken.2
 
 pub loop-text-preserved : goal.loop-text-preserved
 loop-text-preserved c =
     let lines : List (List ℕ) = c.args.lines.now in
-    let read : List Line = c.loop-text.reading.lines.items in
+    let read : List Line = c.loop-text.reading.tree in
     let count : c.len-in-loop-text.result ≡ length read = search rules in
     let next = at_next lines c.len-in-loop-text.result (length read) (Some c.in-Some.text.now) count c.in-Some.ensures in
     let line : Line = c.in_ok-take_line.ensures.taken.0 in
     let is : line_behind read c.in-Some.text.now ≡ Ok line = c.in_ok-take_line.ensures.taken.1 in
-    let more : read ++ line ∷ [] ≡ c.take_line.new.self.lines.items = sym c.in_ok-take_line.ensures.taken.2 in (
+    let more : read ++ line ∷ [] ≡ c.take_line.new.self.tree = sym c.in_ok-take_line.ensures.taken.2 in (
       subst (λ ls. texts ls ≡ take (length ls) lines) more (next_texts lines read c.in-Some.text.now line c.loop-text.invariant.0 next is),
       c.in_ok-take_line.ensures.reading,
       subst (λ ls. read_behind ls (drop (length ls) lines) ≡ read_behind [] lines) more (next_read lines read c.in-Some.text.now line next is ∙ c.loop-text.invariant.2),
@@ -57,19 +57,19 @@ loop-text-preserved c =
 pub returns-in_err-take_line : goal.returns-in_err-take_line
 returns-in_err-take_line c =
     let lines : List (List ℕ) = c.args.lines.now in
-    let read : List Line = c.loop-text.reading.lines.items in
+    let read : List Line = c.loop-text.reading.tree in
     let count : c.len-in-loop-text.result ≡ length read = search rules in
     let next = at_next lines c.len-in-loop-text.result (length read) (Some c.in-Some.text.now) count c.in-Some.ensures in
     let fault : ReadFault = c.in_err-take_line.field-0.0 in
     let same : c.from_residual-in_err-take_line.result ≡ Err fault = search rules in
-    let taken : Takes (Err fault) read c.take_line.new.self.lines.items (line_behind read c.in-Some.text.now) = c.in_err-take_line.ensures.taken in
+    let taken : Takes (Err fault) read c.take_line.new.self.tree (line_behind read c.in-Some.text.now) = c.in_err-take_line.ensures.taken in
     subst (λ r. ReadsAll r (read_behind [] lines)) (sym same)
-    (stops lines read c.take_line.new.self.lines.items c.in-Some.text.now fault next c.loop-text.invariant.2 taken)
+    (stops lines read c.take_line.new.self.tree c.in-Some.text.now fault next c.loop-text.invariant.2 taken)
 
 pub returns : goal.returns
 returns c =
     let lines : List (List ℕ) = c.args.lines.now in
-    let read : List Line = c.loop-text.reading.lines.items in
+    let read : List Line = c.loop-text.reading.tree in
     let count : c.len-in-loop-text.result ≡ length read = search rules in
     let none = at_next lines c.len-in-loop-text.result (length read) None count c.in_default.ensures in
     (sym (ap (read_behind read) (sym (drop_none lines (length read) none)) ∙ c.loop-text.invariant.2), c.loop-text.invariant.1.index)

@@ -7,9 +7,9 @@ use Rattle.sudoers_tree.proofs.reading.read_lines.Given as goal
 -- The lines so far are read, and what is left leads on to what all lead to.
 abbrev pub invariant-loop-text : goal.invariant-loop-text
 invariant-loop-text l =
-    (texts l.reading.lines.items ≡ take (length l.reading.lines.items) l.lines)
+    (texts l.reading.tree ≡ take (length l.reading.tree) l.lines)
     × IsReading l.reading
-    × (read_behind l.reading.lines.items (drop (length l.reading.lines.items) l.lines) ≡ read_behind [] l.lines)
+    × (read_behind l.reading.tree (drop (length l.reading.tree) l.lines) ≡ read_behind [] l.lines)
 
 abbrev pub decreases-loop-text : goal.decreases-loop-text
-decreases-loop-text l = length l.lines - length l.reading.lines.items
+decreases-loop-text l = length l.lines - length l.reading.tree

@@ -5,7 +5,7 @@ use Rattle.sudoers_line.specs.declared.fault.LineFault.{LineFault}
 use Rattle.sudoers_line.specs.declared.fault.LineFault.TheVariants.{Syntax}
 use Rattle.sudoers_line.specs.declared.node.Node.{Node}
 use Rattle.sudoers_line.specs.Line.{Gives}
-use Rattle.sudoers_line.specs.Outcome.{outcome_of, LineGives}
+use Rattle.sudoers_reader.specs.Outcome.{outcome_of, LineGives}
 use Rattle.sudoers_tree.specs.Single.{said}
 use Rattle.sudoers_tree.proofs.single.read_line.Goals as goal
 
@@ -23,7 +23,7 @@ pub returns-then-not-is_logical_line-clause-said : goal.returns-then-not-is_logi
 returns-then-not-is_logical_line-clause-said c = said_none c.args.text.now c.if-not-is_logical_line.ensures
 
 pub returns-in-Ok-clause-said : goal.returns-in-Ok-clause-said
-returns-in-Ok-clause-said c = said_is c.args.text.now (Ok c.in-Ok.node) c.if-not-is_logical_line.ensures c.in-Ok.ensures.outcome
+returns-in-Ok-clause-said c = said_is c.args.text.now (Ok c.in-Ok.reading) c.if-not-is_logical_line.ensures c.in-Ok.ensures.outcome
 
 pub returns-in-Err-Syntax-clause-line : goal.returns-in-Err-Syntax-clause-line
 returns-in-Err-Syntax-clause-line c = λ says line reads.

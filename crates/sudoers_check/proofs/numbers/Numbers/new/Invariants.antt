@@ -1,9 +1,11 @@
-use Rattle.std.proofs.Common.{◌≡◌, ◌≤◌, ◌+◌, ◌++◌, drop}
+use Rattle.std.proofs.Common.{◌≡◌, ◌≤◌, ◌+◌, ◌++◌, drop, map}
+use Rattle.sudoers_tree.specs.Line.{line_in}
 use Rattle.sudoers_check.specs.Numbers.{firsts_since}
 use Rattle.sudoers_check.proofs.Located.{total}
 use Rattle.sudoers_check.proofs.numbers.Numbers.new.Given as goal
 
-abbrev pub invariant-loop-line : goal.invariant-loop-line
-invariant-loop-line l =
-    (l.firsts.items ++ firsts_since l.count (drop l.line-index l.line-items) ≡ firsts_since 0 l.line-items)
-    × (l.count + total (drop l.line-index l.line-items) ≤ 16384)
+abbrev pub invariant-loop-row : goal.invariant-loop-row
+invariant-loop-row l =
+    (l.firsts.items ++ firsts_since l.count (map (line_in l.lines.tables.now) (drop l.row-index l.lines.rows.now))
+    ≡ firsts_since 0 (map (line_in l.lines.tables.now) l.lines.rows.now))
+    × (l.count + total (map (line_in l.lines.tables.now) (drop l.row-index l.lines.rows.now)) ≤ 16384)

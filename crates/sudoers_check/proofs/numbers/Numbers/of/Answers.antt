@@ -15,7 +15,7 @@ index-requires c =
 pub overflow_add-result : goal.overflow_add-result
 overflow_add-result c =
     let is = told c.args.kind c.args.name.now c.args.self.now.policy.now c.in_ok-place.place c.args.self.now.firsts.items c.index.result.now c.args.self.now.firsts_are (sym c.in_ok-place.ensures) c.index.ensures in
-    omega (arith, is.1, few_total c.args.self.now.policy.now c.is_policy.ensures)
+    omega (arith, is.1, few_total c.args.self.now.policy.now c.is_policy.ensures.policy)
 
 pub returns : goal.returns
 returns c =

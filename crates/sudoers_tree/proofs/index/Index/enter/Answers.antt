@@ -1,5 +1,7 @@
-use Rattle.std.proofs.Common.{◌∙◌, sym, ap, subst, refl}
+use Rattle.std.proofs.Common.{List, ◌∙◌, sym, ap, subst, refl}
+use Rattle.sudoers_line.specs.declared.node.Def.{Def}
 use Rattle.sudoers_line.specs.declared.node.Node.{Node}
+use Rattle.sudoers_reader.specs.View.{defs_shown, node_shown}
 use Rattle.sudoers_line.specs.declared.node.Node.TheVariants.{Alias}
 use Rattle.sudoers_line.specs.declared.node.Kind.TheVariants.{User, Runas, Host, Cmnd}
 use Rattle.sudoers_tree.specs.Definition.{definitions_in}
@@ -9,13 +11,13 @@ use Rattle.sudoers_tree.proofs.index.Index.enter.Goals as goal
 
 pub returns-in-User : goal.returns-in-User
 returns-in-User c = λ before indexed.
-    let defs = c.in-Alias.defs in
+    let defs : List Def = defs_shown c.in-Alias.defs in
     let old = c.args.self.now in
     let comes : Comes c.enter_all.result c.enter_all.new.names (entered User c.args.line 0 (entries User before) defs) =
     subst (λ es. Comes c.enter_all.result c.enter_all.new.names (entered User c.args.line 0 es defs)) (indexed User)
-    (subst (λ ds. Comes c.enter_all.result c.enter_all.new.names (entered User c.args.line 0 old.user ds)) c.as_slice-defs.ensures c.enter_all.ensures) in
+    c.enter_all.ensures in
     subst (λ (n : Node). Enters c.enter_all.result (record { user = c.enter_all.new.names; runas = c.args.self.now.runas; host = c.args.self.now.host; cmnd = c.args.self.now.cmnd }) before (definitions_in c.args.line n))
-    (sym (c.in-Alias.is ∙ ap (λ kind. Alias kind defs) c.in-User.is))
+    (sym (ap node_shown c.in-Alias.is ∙ ap (λ kind. Alias kind defs) c.in-User.is))
     (enters User c.args.line before defs c.enter_all.result c.enter_all.new.names _ comes (λ new. all_kinds _ _
     new
     (keeps Runas User c.args.line before defs old.runas refl (indexed Runas))
@@ -24,13 +26,13 @@ returns-in-User c = λ before indexed.
 
 pub returns-in-Runas : goal.returns-in-Runas
 returns-in-Runas c = λ before indexed.
-    let defs = c.in-Alias.defs in
+    let defs : List Def = defs_shown c.in-Alias.defs in
     let old = c.args.self.now in
     let comes : Comes c.enter_all-in-Runas.result c.enter_all-in-Runas.new.names (entered Runas c.args.line 0 (entries Runas before) defs) =
     subst (λ es. Comes c.enter_all-in-Runas.result c.enter_all-in-Runas.new.names (entered Runas c.args.line 0 es defs)) (indexed Runas)
-    (subst (λ ds. Comes c.enter_all-in-Runas.result c.enter_all-in-Runas.new.names (entered Runas c.args.line 0 old.runas ds)) c.as_slice-defs.ensures c.enter_all-in-Runas.ensures) in
+    c.enter_all-in-Runas.ensures in
     subst (λ (n : Node). Enters c.enter_all-in-Runas.result (record { user = c.args.self.now.user; runas = c.enter_all-in-Runas.new.names; host = c.args.self.now.host; cmnd = c.args.self.now.cmnd }) before (definitions_in c.args.line n))
-    (sym (c.in-Alias.is ∙ ap (λ kind. Alias kind defs) c.in-Runas.is))
+    (sym (ap node_shown c.in-Alias.is ∙ ap (λ kind. Alias kind defs) c.in-Runas.is))
     (enters Runas c.args.line before defs c.enter_all-in-Runas.result c.enter_all-in-Runas.new.names _ comes (λ new. all_kinds _ _
     (keeps User Runas c.args.line before defs old.user refl (indexed User))
     new
@@ -39,13 +41,13 @@ returns-in-Runas c = λ before indexed.
 
 pub returns-in-Host : goal.returns-in-Host
 returns-in-Host c = λ before indexed.
-    let defs = c.in-Alias.defs in
+    let defs : List Def = defs_shown c.in-Alias.defs in
     let old = c.args.self.now in
     let comes : Comes c.enter_all-in-Host.result c.enter_all-in-Host.new.names (entered Host c.args.line 0 (entries Host before) defs) =
     subst (λ es. Comes c.enter_all-in-Host.result c.enter_all-in-Host.new.names (entered Host c.args.line 0 es defs)) (indexed Host)
-    (subst (λ ds. Comes c.enter_all-in-Host.result c.enter_all-in-Host.new.names (entered Host c.args.line 0 old.host ds)) c.as_slice-defs.ensures c.enter_all-in-Host.ensures) in
+    c.enter_all-in-Host.ensures in
     subst (λ (n : Node). Enters c.enter_all-in-Host.result (record { user = c.args.self.now.user; runas = c.args.self.now.runas; host = c.enter_all-in-Host.new.names; cmnd = c.args.self.now.cmnd }) before (definitions_in c.args.line n))
-    (sym (c.in-Alias.is ∙ ap (λ kind. Alias kind defs) c.in-Host.is))
+    (sym (ap node_shown c.in-Alias.is ∙ ap (λ kind. Alias kind defs) c.in-Host.is))
     (enters Host c.args.line before defs c.enter_all-in-Host.result c.enter_all-in-Host.new.names _ comes (λ new. all_kinds _ _
     (keeps User Host c.args.line before defs old.user refl (indexed User))
     (keeps Runas Host c.args.line before defs old.runas refl (indexed Runas))
@@ -54,13 +56,13 @@ returns-in-Host c = λ before indexed.
 
 pub returns-in-Cmnd : goal.returns-in-Cmnd
 returns-in-Cmnd c = λ before indexed.
-    let defs = c.in-Alias.defs in
+    let defs : List Def = defs_shown c.in-Alias.defs in
     let old = c.args.self.now in
     let comes : Comes c.enter_all-in-Cmnd.result c.enter_all-in-Cmnd.new.names (entered Cmnd c.args.line 0 (entries Cmnd before) defs) =
     subst (λ es. Comes c.enter_all-in-Cmnd.result c.enter_all-in-Cmnd.new.names (entered Cmnd c.args.line 0 es defs)) (indexed Cmnd)
-    (subst (λ ds. Comes c.enter_all-in-Cmnd.result c.enter_all-in-Cmnd.new.names (entered Cmnd c.args.line 0 old.cmnd ds)) c.as_slice-defs.ensures c.enter_all-in-Cmnd.ensures) in
+    c.enter_all-in-Cmnd.ensures in
     subst (λ (n : Node). Enters c.enter_all-in-Cmnd.result (record { user = c.args.self.now.user; runas = c.args.self.now.runas; host = c.args.self.now.host; cmnd = c.enter_all-in-Cmnd.new.names }) before (definitions_in c.args.line n))
-    (sym (c.in-Alias.is ∙ ap (λ kind. Alias kind defs) c.in-Cmnd.is))
+    (sym (ap node_shown c.in-Alias.is ∙ ap (λ kind. Alias kind defs) c.in-Cmnd.is))
     (enters Cmnd c.args.line before defs c.enter_all-in-Cmnd.result c.enter_all-in-Cmnd.new.names _ comes (λ new. all_kinds _ _
     (keeps User Cmnd c.args.line before defs old.user refl (indexed User))
     (keeps Runas Cmnd c.args.line before defs old.runas refl (indexed Runas))

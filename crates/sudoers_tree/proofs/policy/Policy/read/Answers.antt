@@ -38,16 +38,16 @@ returns-clause-outcome c = is_cut c.args.text.now c.in_ok-lines.lines c.in_ok-li
 pub returns-clause-policy : goal.returns-clause-policy
 returns-clause-policy c =
     let text : List ℕ = c.args.text.now in
-    let outcome : read_of text ≡ Ok c.in_ok-reading.reading.lines.items =
+    let outcome : read_of text ≡ Ok c.in_ok-reading.reading.tree =
     is_cut text c.in_ok-lines.lines c.in_ok-lines.ensures.outcome ∙ c.in_ok-reading.ensures.0 in
     subst (IsOutcome text) outcome (c.read_is.ensures text)
 
 pub invariant_of-result : goal.invariant_of-result
 invariant_of-result c =
     let text : List ℕ = c.args.text.now in
-    let outcome : read_of text ≡ Ok c.in_ok-reading.reading.lines.items =
+    let outcome : read_of text ≡ Ok c.in_ok-reading.reading.tree =
     is_cut text c.in_ok-lines.lines c.in_ok-lines.ensures.outcome ∙ c.in_ok-reading.ensures.0 in
-    let is : IsOutcome text (Ok c.in_ok-reading.reading.lines.items) = subst (IsOutcome text) outcome (c.read_is.ensures text) in
-    let kept : Indexes c.in_ok-new.field-0.value (definitions c.in_ok-reading.reading.lines.items) =
-    subst (λ index. Indexes index (definitions c.in_ok-reading.reading.lines.items)) (sym c.in_ok-new.ensures.ok) c.in_ok-reading.ensures.1 in
+    let is : IsOutcome text (Ok c.in_ok-reading.reading.tree) = subst (IsOutcome text) outcome (c.read_is.ensures text) in
+    let kept : Indexes c.in_ok-new.field-0.value (definitions c.in_ok-reading.reading.tree) =
+    subst (λ index. Indexes index (definitions c.in_ok-reading.reading.tree)) (sym c.in_ok-new.ensures.ok) c.in_ok-reading.ensures.1 in
     (ap read_of is.1 ∙ outcome, kept, ap length (sym is.1))

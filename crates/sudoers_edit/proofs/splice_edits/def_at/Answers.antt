@@ -1,0 +1,42 @@
+use Rattle.std.proofs.Common.{◌≡◌, ◌∙◌, List, ℕ, length, map, None, Some, Err, option_map, Option, Result, refl, sym, ap, arith}
+use Rattle.std.proofs.lemmas.List.{length-map}
+use Rattle.std.proofs.lemmas.Option.{slice_get-map, slice_get_read, slice_get_past}
+use Rattle.std.specs.Prelude.{slice_get}
+use Rattle.sudoers_line.specs.declared.node.Def.{Def}
+use Rattle.sudoers_reader.specs.declared.rows.DefRow.{DefRow}
+use Rattle.sudoers_reader.specs.declared.view.Node.{Node}
+use Rattle.sudoers_reader.specs.Tables.{def_in}
+use Rattle.sudoers_reader.specs.View.{defs_shown, node_shown}
+use Rattle.sudoers_tree.specs.Line.{Line, line_shown}
+use Rattle.sudoers_tree.specs.declared.place.Place.{Place}
+use Rattle.sudoers_edit.specs.declared.edit.EditFault.{EditFault}
+use Rattle.sudoers_edit.specs.declared.edit.EditFault.TheVariants.{NoAlias}
+use Rattle.sudoers_edit.specs.SpliceEdits.{Lines, defs_of, with_def}
+use Rattle.sudoers_edit.proofs.splice_edits.def_at.Goals as goal
+
+-- a place behind the definitions of its line
+no_def : (place : Option Place) (policy : List Line) (at : Place) (line : Line) (defs : List Def) → place ≡ Some at → slice_get policy at.line ≡ Some line
+    → defs_of line.node ≡ Some defs → slice_get defs at.def ≡ None → (next : Place → Line → Def → Result Lines EditFault) → with_def place policy next ≡ Err NoAlias
+no_def place policy at line defs there here makes none next = rw (there, here, makes, none) refl
+
+pub returns-in-Some-get-clause-found : goal.returns-in-Some-get-clause-found
+returns-in-Some-get-clause-found c =
+    let at : ℕ = c.in-Some.place.def in
+    let says : DefRow → Def = def_in c.in-Alias.defs.tables.now in
+    let rows : List DefRow = c.in-Alias.defs.rows.now in record {
+      named = sym c.in-Some.ensures;
+      here = sym c.in-Some-line_at.ensures;
+      defs = defs_shown c.in-Alias.defs;
+      makes = ap (λ (n : Node). defs_of (node_shown n)) c.in-Alias.is;
+      stands = slice_get-map says rows at
+          ∙ ap (option_map says) (slice_get_read rows (length rows) at c.in-Some-get.row.now refl c.in-Some-get.ensures.lookup.3.0 (c.in-Some-get.ensures.lookup.3.1 c.in-Some-get.row.now))
+          ∙ ap (λ (d : Def). Some d) (sym c.def.ensures);
+    }
+
+pub returns-in-None-clause-outcome : goal.returns-in-None-clause-outcome
+returns-in-None-clause-outcome c =
+    let says : DefRow → Def = def_in c.in-Alias.defs.tables.now in
+    let rows : List DefRow = c.in-Alias.defs.rows.now in
+    no_def _ c.args.policy.now c.in-Some.place (line_shown c.in-Some-line_at.line) (defs_shown c.in-Alias.defs) (sym c.in-Some.ensures) (sym c.in-Some-line_at.ensures)
+    (ap (λ (n : Node). defs_of (node_shown n)) c.in-Alias.is)
+    (slice_get_past (map says rows) c.in-Some.place.def (omega (arith, length-map rows says, c.in-None.ensures.lookup.3)))

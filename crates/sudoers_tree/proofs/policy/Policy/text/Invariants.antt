@@ -1,7 +1,0 @@
-use Rattle.std.proofs.Common.{◌≡◌, ◌++◌, drop}
-use Rattle.sudoers_text.specs.Line.{join}
-use Rattle.sudoers_tree.specs.Policy.{texts}
-use Rattle.sudoers_tree.proofs.policy.Policy.text.Given as goal
-
-abbrev pub invariant-loop-line : goal.invariant-loop-line
-invariant-loop-line l = l.text.items ++ join (texts (drop l.line-index l.line-items)) ≡ join (texts l.line-items)
