@@ -144,7 +144,10 @@ fn changed_text(
         b'W' if at <= lines.rows.len() => {
             format!(in alloc; "{:?}", text_with(alloc, &lines, at, line)?)
         }
-        b'O' if at < lines.rows.len() => format!(in alloc; "{:?}", text_without(alloc, &lines, at)?),
+        b'O' if at < lines.rows.len() => format!(in alloc;
+            "{:?}",
+            text_without(alloc, &lines, at)?
+        ),
         b'I' if at < lines.rows.len() => {
             format!(in alloc; "{:?}", text_replaced(alloc, &lines, at, line)?)
         }

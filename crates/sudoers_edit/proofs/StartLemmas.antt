@@ -6,7 +6,6 @@ use Rattle.sudoers_line.specs.declared.node.Atom.{Atom}
 use Rattle.sudoers_line.specs.declared.node.Atom.TheVariants as atom
 use Rattle.sudoers_line.specs.declared.node.Member.{Member}
 use Rattle.sudoers_line.specs.declared.node.Node.{Node}
-use Rattle.sudoers_line.specs.declared.node.Node.TheVariants as node
 use Rattle.sudoers_reader.specs.declared.list.Rows.{Rows}
 use Rattle.sudoers_reader.specs.declared.rows.DefRow.{DefRow}
 use Rattle.sudoers_reader.specs.declared.view.Node.{Node as NodeView}

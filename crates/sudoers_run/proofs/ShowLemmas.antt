@@ -1,12 +1,8 @@
 -- What is shown of a policy, and of a file that is too large.
-use Rattle.std.proofs.Common.{◌≡◌, ◌<◌, ℕ, Bool, codes, List, length, Option, Some, None, Err, IfSome, inl, inr, subst, sym, refl, ap, append-nil, ◌∙◌, ◌⊎◌, ◌+◌, ◌++◌, [], ◌∷◌, Ok}
+use Rattle.std.proofs.Common.{◌≡◌, ◌<◌, ℕ, Bool, codes, List, length, Option, Some, None, Err, IfSome, inl, inr, subst, sym, refl, ap, ◌∙◌, ◌⊎◌, ◌++◌}
 use Rattle.std.proofs.lemmas.Bool.{lt-ltb}
-use Rattle.sudoers_text.specs.Fault.{text_limit, lf_count}
-use Rattle.sudoers_line.specs.declared.node.Node.{Node}
-use Rattle.sudoers_line.specs.declared.node.Node.TheVariants as node
-use Rattle.sudoers_tree.specs.Line.{Line}
+use Rattle.sudoers_text.specs.Fault.{text_limit}
 use Rattle.sudoers_tree.specs.declared.fault.ReadFault.{ReadFault}
-use Rattle.sudoers_tree.specs.Kind.{line_kind}
 use Rattle.sudoers_text.specs.Cut.{cut_of}
 use Rattle.sudoers_text.specs.declared.fault.TextFault.TheVariants as text
 use Rattle.sudoers_tree.specs.declared.fault.ReadFault.TheVariants as read
@@ -18,7 +14,6 @@ use Rattle.sudoers_run.specs.FaultText.{text_of_read}
 use Rattle.sudoers_run.specs.Check.{TellsCheck, check_text, check_status}
 use Rattle.sudoers_run.specs.LayerOf.{layer_of_read}
 use Rattle.sudoers_run.specs.Program.{TellsLayer}
-use Rattle.sudoers_run.specs.Shown.{kind_word, shown_def, shown_node, shown_line, shown_from}
 use Rattle.sudoers_run.specs.Show.{show_read, show_output, TellsShow}
 
 read_large : (input : List ℕ) → text_limit < length input → read_of input ≡ Err (read.Text text.TooLarge)

@@ -1,4 +1,4 @@
-use Rattle.std.proofs.Common.{◌∙◌, ◌++◌, List, ℕ, flat_map, ap, ap₂}
+use Rattle.std.proofs.Common.{◌∙◌, ◌++◌, List, ℕ, flat_map, ap₂}
 use Rattle.sudoers_line.specs.Listed.{AliasMember}
 use Rattle.sudoers_edit.specs.Renaming.{start_if}
 use Rattle.sudoers_edit.proofs.StartLemmas.{starts_picked}

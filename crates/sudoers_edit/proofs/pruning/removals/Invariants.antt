@@ -3,7 +3,7 @@ use Rattle.std.specs.List.{All}
 use Rattle.std.specs.Prelude.{◌^◌}
 use Rattle.sudoers_line.specs.declared.node.Kind.{Kind}
 use Rattle.sudoers_tree.specs.declared.place.Place.{Place}
-use Rattle.sudoers_tree.specs.Line.{line_in, lines_shown}
+use Rattle.sudoers_tree.specs.Line.{line_in}
 use Rattle.sudoers_edit.specs.PruneOrder.{removals_along}
 use Rattle.sudoers_edit.proofs.pruning.removals.Given as goal
 

@@ -9,8 +9,7 @@ use Rattle.sudoers_edit.specs.declared.edit.Edit.TheVariants.{AddMember, DropMem
 use Rattle.sudoers_edit.specs.Editing.{Refuses}
 use Rattle.sudoers_edit.specs.Leading.{Replaces}
 use Rattle.sudoers_edit.specs.declared.edit.EditFault.{EditFault}
-use Rattle.sudoers_edit.specs.Splice.{member_extents, seam}
-use Rattle.sudoers_edit.specs.SpliceEdits.{Lines, place_to_add, put_in, add_member}
+use Rattle.sudoers_edit.specs.SpliceEdits.{Lines, put_in, add_member}
 use Rattle.sudoers_edit.specs.declared.one_more.Among.TheVariants as among
 use Rattle.sudoers_edit.proofs.BackLemmas.{def_of_policy}
 use Rattle.sudoers_edit.proofs.MemberLemmas.{unfound, add_found, add_replaces}

@@ -11,7 +11,7 @@ use Rattle.sudoers_edit.specs.Editing.{Refuses}
 use Rattle.sudoers_edit.specs.Leading.{Replaces}
 use Rattle.sudoers_edit.specs.declared.edit.EditFault.{EditFault}
 use Rattle.sudoers_edit.specs.Splice.{member_extents, seam, owned_stop, slice}
-use Rattle.sudoers_edit.specs.SpliceEdits.{Lines, place_to_drop, cut_out, drop_member}
+use Rattle.sudoers_edit.specs.SpliceEdits.{Lines, cut_out, drop_member}
 use Rattle.sudoers_edit.specs.declared.one_more.Among.TheVariants as among
 use Rattle.sudoers_edit.proofs.BackLemmas.{def_of_policy}
 use Rattle.sudoers_edit.proofs.MemberLemmas.{unfound, drop_found, drop_replaces}
