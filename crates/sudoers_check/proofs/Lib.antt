@@ -16,3 +16,4 @@ pub mod Linked
 pub mod Spots
 pub mod Keys
 pub mod Noted
+pub mod Marked

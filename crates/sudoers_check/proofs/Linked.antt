@@ -11,7 +11,7 @@ use Rattle.sudoers_tree.specs.Policy.{AreOnce, IsPolicy}
 use Rattle.sudoers_check.specs.Chain.{Has, Chain, here, onward}
 use Rattle.sudoers_check.specs.Chains.{Joins, name_in, names_in, roots_in, roots}
 use Rattle.sudoers_check.specs.Mentioned.{Mention, mentioned_in}
-use Rattle.sudoers_check.specs.Led.{is_unused, is_cyclic, unused_of, cyclic_of}
+use Rattle.sudoers_check.specs.Led.{is_unused, is_used, is_cyclic}
 use Rattle.sudoers_check.specs.Graph.{edges_of, Leads, IsReached, IsOnCycle, Marks}
 use Rattle.sudoers_check.specs.Numbers.{number_of, numbers_of, numbers_among, nodes_of, graph_of, roots_since, is_rooting, picked}
 use Rattle.sudoers_check.proofs.Named.{has_append, has_front, has_back, has_flat, flat_has, same_kind, kind_itself, defines_is, defines_itself}
@@ -123,6 +123,18 @@ leads_from ds [] i j h = absurd h
 leads_from ds (x ∷ others) zero j h = (x, refl)
 leads_from ds (x ∷ others) (suc n) j h = leads_from ds others n j h
 
+has_at : {X : Type 0} (xs : List X) (x : X) → Has xs x → (i : ℕ) × (slice_get xs i ≡ Some x)
+has_at [] x h = absurd h
+has_at (y ∷ ys) x (inl e) = (0, ap (λ z. Some z) e)
+has_at (y ∷ ys) x (inr h) = let r = has_at ys x h in (suc r.0, r.1)
+
+-- each definition has its own number
+pub own_number : (lines : List Line) → IsPolicy lines → (d : Definition) → Has (definitions lines) d
+    → (n : ℕ) × (number_of d.kind d.def.name (definitions lines) ≡ Some n) × (slice_get (definitions lines) n ≡ Some d)
+own_number lines policy d h =
+    let at = has_at (definitions lines) d h in
+    (at.0, its_own (definitions lines) policy.once at.0 d at.1, at.1)
+
 -- ---- chains
 
 -- chains of the graph are those of mentions
@@ -139,11 +151,6 @@ names_led ds From Begun begun i (onward x y chain leads) d at =
     let whole : Chain (Joins source.kind ds) (Begun source.kind) said.0 =
     onward source.def.name said.0 before (record { by = source; stands = at_has ds x source by.1; of_kind = refl; of_name = refl; mentions = said.1 }) in
     subst (λ k. Chain (Joins k ds) (Begun k) d.def.name) (sym is.0) (subst (λ n. Chain (Joins source.kind ds) (Begun source.kind) n) (sym is.1) whole)
-
-has_at : {X : Type 0} (xs : List X) (x : X) → Has xs x → (i : ℕ) × (slice_get xs i ≡ Some x)
-has_at [] x h = absurd h
-has_at (y ∷ ys) x (inl e) = (0, ap (λ z. Some z) e)
-has_at (y ∷ ys) x (inr h) = let r = has_at ys x h in (suc r.0, r.1)
 
 -- chains of mentions are those of the graph
 pub numbers_led : (ds : List Definition) → AreOnce ds → (From : ℕ → Type 0) (k : Kind) (Begun : List ℕ → Type 0)
@@ -241,24 +248,32 @@ said_roots ds n (line ∷ lines) k name i h e =
 
 -- ---- marks
 
-picked_is : (wanted : Bool) (p : Definition → Bool) (marks : List Bool) (ds : List Definition) → length marks ≡ length ds
-    → ((i : ℕ) (d : Definition) (b : Bool) → slice_get ds i ≡ Some d → slice_get marks i ≡ Some b → p d ≡ (if wanted then b else not b))
-    → picked wanted marks ds ≡ filter p ds
-picked_is wanted p [] [] l each = refl
-picked_is wanted p [] (d ∷ ds) l each = absurd (omega (arith, l))
-picked_is wanted p (b ∷ marks) [] l each = absurd (omega (arith, l))
-picked_is wanted p (b ∷ marks) (d ∷ ds) l each =
-    by wanted b (p d) (each 0 d b refl refl) (picked_is wanted p marks ds (omega (arith, l)) (λ i x c at mark. each (suc i) x c at mark))
+-- marks are what they say at each place
+marks_are : (p : Definition → Bool) (marks : List Bool) (ds : List Definition) → length marks ≡ length ds
+    → ((i : ℕ) (d : Definition) (b : Bool) → slice_get ds i ≡ Some d → slice_get marks i ≡ Some b → p d ≡ b) → marks ≡ map p ds
+marks_are p [] [] l each = refl
+marks_are p [] (d ∷ ds) l each = absurd (omega (arith, l))
+marks_are p (b ∷ marks) [] l each = absurd (omega (arith, l))
+marks_are p (b ∷ marks) (d ∷ ds) l each =
+    ap (λ c. c ∷ marks) (sym (each 0 d b refl refl))
+    ∙ ap (λ rest. p d ∷ rest) (marks_are p marks ds (omega (arith, l)) (λ i x c at mark. each (suc i) x c at mark))
+
+pub picked_marked : (p : Definition → Bool) (ds : List Definition) → picked true (map p ds) ds ≡ filter p ds
+picked_marked p [] = refl
+picked_marked p (d ∷ ds) = by (p d) (picked_marked p ds)
   where
-    by : (w m t : Bool) → t ≡ (if w then m else not m) → picked w marks ds ≡ filter p ds → picked w (m ∷ marks) (d ∷ ds) ≡ Rattle.std.proofs.Common.cond t (d ∷ filter p ds) (filter p ds)
-    by true true true e rest = ap (λ xs. d ∷ xs) rest
-    by true true false e rest = absurd cc
-    by true false true e rest = absurd cc
-    by true false false e rest = rest
-    by false true true e rest = absurd cc
-    by false true false e rest = rest
-    by false false true e rest = ap (λ xs. d ∷ xs) rest
-    by false false false e rest = absurd cc
+    by : (t : Bool) → picked true (map p ds) ds ≡ filter p ds → picked true (t ∷ map p ds) (d ∷ ds) ≡ Rattle.std.proofs.Common.cond t (d ∷ filter p ds) (filter p ds)
+    by true rest = ap (λ xs. d ∷ xs) rest
+    by false rest = rest
+
+pub picked_others : (p : Definition → Bool) (ds : List Definition) → picked false (map (λ d. not (p d)) ds) ds ≡ filter p ds
+picked_others p [] = refl
+picked_others p (d ∷ ds) = by (p d) (picked_others p ds)
+  where
+    by : (t : Bool) → picked false (map (λ x. not (p x)) ds) ds ≡ filter p ds
+        → picked false (not t ∷ map (λ x. not (p x)) ds) (d ∷ ds) ≡ Rattle.std.proofs.Common.cond t (d ∷ filter p ds) (filter p ds)
+    by true rest = ap (λ xs. d ∷ xs) rest
+    by false rest = rest
 
 decided : (b : Bool) → (b ≡ false → ⊥) → b ≡ true
 decided true h = refl
@@ -268,11 +283,11 @@ refuted : (b : Bool) → (b ≡ true → ⊥) → b ≡ false
 refuted true h = absurd (h refl)
 refuted false h = refl
 
-pub unused_picked : (lines : List Line) (marks : List Bool) → IsPolicy lines
+pub used_marks : (lines : List Line) (marks : List Bool) → IsPolicy lines
     → Marks (IsReached (graph_of (definitions lines)) (roots_since (definitions lines) 0 lines)) (length (graph_of (definitions lines))) marks
-    → picked false marks (definitions lines) ≡ unused_of lines
-unused_picked lines marks policy are =
-    picked_is false (is_unused lines) marks (definitions lines) (are.size ∙ graph_length (definitions lines)) each
+    → marks ≡ map (is_used lines) (definitions lines)
+used_marks lines marks policy are =
+    marks_are (is_used lines) marks (definitions lines) (are.size ∙ graph_length (definitions lines)) each
   where
     begun : (i : ℕ) (d : Definition) → Has (roots_since (definitions lines) 0 lines) i → slice_get (definitions lines) i ≡ Some d → Has (roots d.kind lines) d.def.name
     begun i d h at =
@@ -280,20 +295,20 @@ unused_picked lines marks policy are =
         let is = defines_is said.0 said.1 d (number_at said.0 said.1 (definitions lines) i d said.3 at) in
         subst (λ name. Has (roots d.kind lines) name) (sym is.1) (subst (λ k. Has (roots k lines) said.1) (sym is.0) said.2)
 
-    each : (i : ℕ) (d : Definition) (b : Bool) → slice_get (definitions lines) i ≡ Some d → slice_get marks i ≡ Some b → is_unused lines d ≡ (if false then b else not b)
+    each : (i : ℕ) (d : Definition) (b : Bool) → slice_get (definitions lines) i ≡ Some d → slice_get marks i ≡ Some b → is_used lines d ≡ b
     each i d true at mark =
-        refuted (is_unused lines d) (λ e. unused_is lines d (at_has (definitions lines) i d at) e
-        (names_led (definitions lines) (Has (roots_since (definitions lines) 0 lines)) (λ k. Has (roots k lines)) begun i (are.holds i mark) d at))
+        ap not (refuted (is_unused lines d) (λ e. unused_is lines d (at_has (definitions lines) i d at) e
+        (names_led (definitions lines) (Has (roots_since (definitions lines) 0 lines)) (λ k. Has (roots k lines)) begun i (are.holds i mark) d at)))
     each i d false at mark =
-        decided (is_unused lines d) (λ e. are.fails i mark
+        ap not (decided (is_unused lines d) (λ e. are.fails i mark
         (numbers_led (definitions lines) policy.once (Has (roots_since (definitions lines) 0 lines)) d.kind (Has (roots d.kind lines))
         (λ name j h number. said_roots (definitions lines) 0 lines d.kind name j h number) d.def.name
-        (used_is lines d (at_has (definitions lines) i d at) e) i d at refl refl))
+        (used_is lines d (at_has (definitions lines) i d at) e) i d at refl refl)))
 
-pub cyclic_picked : (lines : List Line) (marks : List Bool) → IsPolicy lines → Marks (IsOnCycle (graph_of (definitions lines))) (length (graph_of (definitions lines))) marks
-    → picked true marks (definitions lines) ≡ cyclic_of lines
-cyclic_picked lines marks policy are =
-    picked_is true (is_cyclic lines) marks (definitions lines) (are.size ∙ graph_length (definitions lines)) each
+pub cyclic_marks : (lines : List Line) (marks : List Bool) → IsPolicy lines → Marks (IsOnCycle (graph_of (definitions lines))) (length (graph_of (definitions lines))) marks
+    → marks ≡ map (is_cyclic lines) (definitions lines)
+cyclic_marks lines marks policy are =
+    marks_are (is_cyclic lines) marks (definitions lines) (are.size ∙ graph_length (definitions lines)) each
   where
     edges_at : (i : ℕ) (d : Definition) → slice_get (definitions lines) i ≡ Some d → edges_of (graph_of (definitions lines)) i ≡ numbers_of d.kind (names_in d.def.members) (definitions lines)
     edges_at i d at = node_at (definitions lines) (definitions lines) i d at
@@ -305,7 +320,7 @@ cyclic_picked lines marks policy are =
         let is = defines_is d.kind said.0 e (number_at d.kind said.0 (definitions lines) j e said.2 at_e) in
         subst (λ name. Has (names_in d.def.members) name) (sym is.1) said.1
 
-    each : (i : ℕ) (d : Definition) (b : Bool) → slice_get (definitions lines) i ≡ Some d → slice_get marks i ≡ Some b → is_cyclic lines d ≡ (if true then b else not b)
+    each : (i : ℕ) (d : Definition) (b : Bool) → slice_get (definitions lines) i ≡ Some d → slice_get marks i ≡ Some b → is_cyclic lines d ≡ b
     each i d true at mark =
         decided (is_cyclic lines d) (λ e. straight_is lines d (at_has (definitions lines) i d at) e
         (names_led (definitions lines) (Leads (graph_of (definitions lines)) i) (λ k. Has (names_in d.def.members)) (begun i d at) i (are.holds i mark) d at))

@@ -48,3 +48,10 @@ IsReachable k lines = Chain (Joins k (definitions lines)) (Has (roots k lines))
 -- The definition's alias is joined to itself by a chain of one or more mentions.
 abbrev pub IsCyclic : List Line → Definition → Type 0
 IsCyclic lines d = Chain (Joins d.kind (definitions lines)) (Has (names_in d.def.members)) d.def.name
+
+-- Some alias is cyclic to which a chain of mentions leads from a user specification or a Defaults line.
+pub record HasReachableCycle (lines : List Line) : Type 0 where
+  pub alias : Definition
+  pub stands : Has (definitions lines) alias
+  pub reached : IsReachable alias.kind lines alias.def.name
+  pub cyclic : IsCyclic lines alias

@@ -30,6 +30,9 @@ is_led_to names ds d = not (is_some (defined d.kind d.def.name (left_after (leng
 abbrev pub is_unused : List Line → Definition → Bool
 is_unused lines d = not (is_led_to (roots d.kind lines) (definitions lines) d)
 
+abbrev pub is_used : List Line → Definition → Bool
+is_used lines d = not (is_unused lines d)
+
 abbrev pub is_cyclic : List Line → Definition → Bool
 is_cyclic lines d = is_led_to (names_in d.def.members) (definitions lines) d
 

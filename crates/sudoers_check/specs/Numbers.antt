@@ -1,5 +1,6 @@
--- A device of the proof, which no public contract cites: the definitions of a policy as the numbered nodes of a graph.
-use Rattle.std.specs.Prelude.{ℕ, suc, ◌+◌, Bool, true, false, List, [], ◌∷◌, ◌++◌, length, map, Option, Some, None, if◌then◌else◌}
+-- The numbers of the definitions of a policy (`number_of`). The rest is a device of the proof, which no public contract cites: the
+-- definitions as the numbered nodes of a graph.
+use Rattle.std.specs.Prelude.{ℕ, suc, ◌+◌, ◌&&◌, ◌||◌, Bool, true, false, List, [], ◌∷◌, ◌++◌, length, map, Option, Some, None, if◌then◌else◌}
 use Rattle.std.specs.List.{filter_map}
 use Rattle.std.specs.Option.{option_map}
 use Rattle.sudoers_line.specs.declared.node.Kind.{Kind}
@@ -67,3 +68,9 @@ picked true (true ∷ ms) (d ∷ ds) = d ∷ picked true ms ds
 picked true (false ∷ ms) (d ∷ ds) = picked true ms ds
 picked false (true ∷ ms) (d ∷ ds) = picked false ms ds
 picked false (false ∷ ms) (d ∷ ds) = d ∷ picked false ms ds
+
+-- both have a mark at one place
+abbrev pub have_both : List Bool → List Bool → Bool
+have_both [] others = false
+have_both (m ∷ marks) [] = false
+have_both (m ∷ marks) (o ∷ others) = (m && o) || have_both marks others

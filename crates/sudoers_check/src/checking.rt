@@ -1,12 +1,13 @@
 //! The checks.
 
-ghost use Rattle.std.specs.Prelude.{◌≡◌, ◌++◌, ◌⊎◌, List, true, false, length, map, Ok, Err, IfOk, IfErr, OnOk};
+ghost use Rattle.std.specs.Prelude.{◌≡◌, ◌++◌, ◌⊎◌, ◌↔◌, IsTrue, List, true, false, length, map, Ok, Err, IfOk, IfErr, OnOk};
 ghost use Rattle.sudoers_reader.specs.View.{node_shown};
 ghost use Rattle.sudoers_tree.specs.Line.{Line as LineOf};
 ghost use Rattle.sudoers_tree.specs.Definition.{definitions, Definition};
 ghost use Rattle.sudoers_tree.specs.Reading.{read_of};
-ghost use Rattle.sudoers_check.specs.Led.{unused_of, cyclic_of};
-ghost use Rattle.sudoers_check.specs.Numbers.{picked, graph_of};
+ghost use Rattle.sudoers_check.specs.Chains.{HasReachableCycle};
+ghost use Rattle.sudoers_check.specs.Led.{is_used, is_cyclic, unused_of, cyclic_of};
+ghost use Rattle.sudoers_check.specs.Numbers.{have_both, picked, graph_of};
 ghost use Rattle.sudoers_check.specs.Noting.{places_from, unmarked_places};
 ghost use Rattle.sudoers_check.specs.Report.{report_of};
 
@@ -67,6 +68,33 @@ pub fn unused(alloc: Global, policy: &Policy) -> Result<Vec<(Kind, Place)>, Allo
     unmarked(alloc, policy, reached.as_slice())
 }
 
+/// Returns whether some alias is cyclic to which a user specification or a Defaults line leads (sudoers(5), Aliases).
+///
+/// # Errors
+///
+/// Memory ran out.
+pub fn reachable_cycle(alloc: Global, policy: &Policy) -> Result<bool, AllocError>
+    ensures { IfOk result (λ cycle. IsTrue cycle ↔ HasReachableCycle policy.now) }
+{
+    let numbers = Numbers::new(alloc, policy)?;
+    let graph = numbers.graph(alloc)?;
+    let reached = reached(alloc, &numbers, &graph)?;
+    let cyclic = cyclic(alloc, &numbers, &graph)?;
+    Ok(have_both(reached.as_slice(), cyclic.as_slice()))
+}
+
+/// Returns whether both have a mark at one place.
+fn have_both(marks: &[bool], others: &[bool]) -> bool
+    ensures { result ≡ have_both marks.now others.now }
+{
+    for (at, mark) in marks.iter().enumerate() {
+        if at < others.len() && *mark && others[at] {
+            return true;
+        }
+    }
+    false
+}
+
 /// Returns the places of the definitions that have no mark, with their kinds.
 fn unmarked(
     alloc: Global,
@@ -92,9 +120,7 @@ fn unmarked(
 /// Returns a mark for each definition: whether a user specification or a Defaults line leads to it.
 fn reached(alloc: Global, numbers: &Numbers<'_>, graph: &Graph) -> Result<Vec<bool>, AllocError>
     requires { graph.now ≡ graph_of (definitions numbers.now.policy.now) }
-    ensures size { IfOk result (λ marks. length marks.items ≡ length (definitions numbers.now.policy.now)) }
-    ensures unused { IfOk result (λ marks. picked false marks.items (definitions numbers.now.policy.now)
-        ≡ unused_of numbers.now.policy.now) }
+    ensures { IfOk result (λ marks. marks.items ≡ map (is_used numbers.now.policy.now) (definitions numbers.now.policy.now)) }
 {
     numbers.policy.is_policy();
     let roots = numbers.roots(alloc)?;
@@ -105,9 +131,7 @@ fn reached(alloc: Global, numbers: &Numbers<'_>, graph: &Graph) -> Result<Vec<bo
 /// Returns a mark for each definition: whether it is joined to itself.
 fn cyclic(alloc: Global, numbers: &Numbers<'_>, graph: &Graph) -> Result<Vec<bool>, AllocError>
     requires { graph.now ≡ graph_of (definitions numbers.now.policy.now) }
-    ensures size { IfOk result (λ marks. length marks.items ≡ length (definitions numbers.now.policy.now)) }
-    ensures cyclic { IfOk result (λ marks. picked true marks.items (definitions numbers.now.policy.now)
-        ≡ cyclic_of numbers.now.policy.now) }
+    ensures { IfOk result (λ marks. marks.items ≡ map (is_cyclic numbers.now.policy.now) (definitions numbers.now.policy.now)) }
 {
     numbers.policy.is_policy();
     let marks = on_cycles(alloc, graph)?;

@@ -1,14 +1,16 @@
-//! Laws of chains and mentions. Each is the contract of a function that does nothing.
+//! Laws of chains, mentions and numbers. Each is the contract of a function that does nothing.
 
-ghost use Rattle.std.specs.Prelude.{◌≡◌, ℕ, List, true, false, map};
+ghost use Rattle.std.specs.Prelude.{◌≡◌, ℕ, List, true, false, map, slice_get, Some};
 ghost use Rattle.std.specs.List.{filter};
 ghost use Rattle.sudoers_line.specs.declared.node.Kind.{Kind as KindOf};
 ghost use Rattle.sudoers_tree.specs.Line.{Line as LineOf};
 ghost use Rattle.sudoers_tree.specs.Definition.{Definition, definitions};
+ghost use Rattle.sudoers_tree.specs.Policy.{IsPolicy};
 ghost use Rattle.sudoers_tree.specs.Mention.{mentions};
 ghost use Rattle.sudoers_check.specs.Chain.{Has};
 ghost use Rattle.sudoers_check.specs.Chains.{IsReachable, IsCyclic};
 ghost use Rattle.sudoers_check.specs.Led.{is_unused, is_cyclic};
+ghost use Rattle.sudoers_check.specs.Numbers.{number_of};
 ghost use Rattle.sudoers_check.specs.Mentioned.{Mention, mentioned, is_of};
 
 /// What is computed tells which definitions are unused: those to which no chain of mentions leads from a user specification
@@ -28,4 +30,10 @@ pub fn chains_are()
 pub fn mentions_are()
     ensures { (lines : List LineOf) (k : KindOf) (name : List ℕ) → mentions k name lines
         ≡ map (λ (m : Mention). m.span) (filter (is_of k name) (mentioned lines)) }
+{}
+
+/// In a policy each definition has the number of its name.
+pub fn numbers_are()
+    ensures { (lines : List LineOf) → IsPolicy lines → (d : Definition) → Has (definitions lines) d
+        → (n : ℕ) × (number_of d.kind d.def.name (definitions lines) ≡ Some n) × (slice_get (definitions lines) n ≡ Some d) }
 {}

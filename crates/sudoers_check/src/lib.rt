@@ -13,6 +13,7 @@ mod numbers;
 mod report;
 mod seen;
 
-pub use checking::{check, check_text, unused};
-pub use laws::{chains_are, mentions_are};
+pub use checking::{check, check_text, reachable_cycle, unused};
+pub use laws::{chains_are, mentions_are, numbers_are};
+pub use numbers::Numbers;
 pub use report::{Note, Report, report_text};

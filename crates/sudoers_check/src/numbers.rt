@@ -14,20 +14,23 @@ use crate::mentioned::mentioned_in;
 use std::alloc::{AllocError, Global};
 use sudoers_tree::{Atom, DefRow, Kind, MemberRow, Node, Policy, Rows};
 
-/// A policy, and for each of its lines how many definitions stand before it.
+/// The numbers of the definitions of a policy, in file order from 0.
 #[derive(Drop)]
 pub struct Numbers<'a> {
     pub policy: &'a Policy,
+    /// For each line how many definitions stand before it.
     firsts: Vec<usize>,
+    count: usize,
     ghost firsts_are: { firsts.items ≡ firsts_since 0 policy.now },
+    ghost count_is: { count ≡ length (definitions policy.now) },
 }
 
 impl<'a> Numbers<'a> {
-    /// Returns the numbers of the definitions of a policy.
+    /// Returns the numbers of the definitions of `policy`.
     ///
     /// # Errors
     ///
-    /// Want of memory alone, as of all of these.
+    /// Memory ran out.
     pub fn new(alloc: Global, policy: &'a Policy) -> Result<Numbers<'a>, AllocError>
         ensures { IfOk result (λ numbers. numbers.policy.now ≡ policy.now) }
     {
@@ -39,10 +42,21 @@ impl<'a> Numbers<'a> {
             firsts.push(count)?;
             count += count_definitions(&lines.tables.node(&row.node));
         }
-        Ok(Numbers { policy, firsts })
+        Ok(Numbers {
+            policy,
+            firsts,
+            count,
+        })
     }
 
-    /// Returns the number of the definition of a name.
+    /// Returns how many definitions there are.
+    pub fn len(&self) -> usize
+        ensures { result ≡ length (definitions self.now.policy.now) }
+    {
+        self.count
+    }
+
+    /// Returns the number of the definition of the alias `name` of this kind, if it is defined.
     pub fn of(&self, kind: Kind, name: &[u8]) -> Option<usize>
         ensures { result ≡ number_of kind name.now (definitions self.now.policy.now) }
     {

@@ -1,7 +1,6 @@
 -- What an edit leaves of the lines, and that its inverse gives them back.
-use Rattle.std.proofs.Common.{◌≡◌, ℕ, zero, suc, ◌-◌, ◌<◌, ◌≤◌, Bool, true, false, not, ◌||◌, List, [], ◌∷◌, ◌++◌, length, insert, remove, slice_index_or, reverse, Some, Ok, refl, sym, ap, ◌∙◌, arith}
+use Rattle.std.proofs.Common.{◌≡◌, ℕ, zero, suc, ◌-◌, ◌<◌, ◌≤◌, Bool, true, false, not, ◌||◌, List, [], ◌∷◌, length, insert, remove, slice_index_or, Some, Ok, refl, sym, ap, ◌∙◌, arith}
 use Rattle.std.proofs.lemmas.Bool.{le-ltb, lt-ltb, or_parts as or_false}
-use Rattle.std.proofs.lemmas.List.{reverse-append}
 use Rattle.std.specs.Prelude.{slice_get}
 use Rattle.sudoers_edit.proofs.PolicyLemmas.{at_get}
 use Rattle.sudoers_text.specs.Line.{join}
@@ -9,14 +8,13 @@ use Rattle.sudoers_text.specs.Ended.{has_unended_inside, ends_in_lf}
 use Rattle.sudoers_text.specs.Cut.{StandAlone}
 use Rattle.sudoers_edit.specs.declared.edit.Edit.{Edit}
 use Rattle.sudoers_edit.specs.declared.edit.Edit.TheVariants.{Insert, Delete, Move}
-use Rattle.sudoers_edit.specs.Landing.{lines_or_refusal, policy_or_refusal, where_policy}
+use Rattle.sudoers_edit.specs.Landing.{lines_or_refusal, policy_or_refusal}
 use Rattle.sudoers_edit.specs.LineEdits.{moved}
-use Rattle.sudoers_edit.specs.Editing.{step, run, IsUndoable, first_lines}
+use Rattle.sudoers_edit.specs.Editing.{step, run}
 use Rattle.sudoers_tree.specs.Line.{Line}
 use Rattle.sudoers_edit.specs.OneLine.{is_one_line, IsAlone, IsSound}
 use Rattle.sudoers_tree.specs.Policy.{texts}
 use Rattle.sudoers_edit.specs.Leading.{Leads}
-use Rattle.sudoers_edit.specs.declared.editor.Entry.{Entry}
 
 or-false : (x : Bool) → (x || false) ≡ x
 or-false true = refl
@@ -168,10 +166,6 @@ step_delete ls at l = rw (lt-ltb at (length ls) l) refl
 pub step_move : (ls : List (List ℕ)) (from to : ℕ) → from < length ls → to < length ls → step (Move from to) ls ≡ lines_or_refusal (moved from to ls)
 step_move ls from to l k = rw (lt-ltb from (length ls) l, lt-ltb to (length ls) k) refl
 
--- lines of which only the last may lack LF go by what their text is read as
-pub by_text : (ls : List (List ℕ)) → has_unended_inside ls ≡ false → lines_or_refusal ls ≡ where_policy ls (policy_or_refusal (join ls))
-by_text ls ended = rw ended refl
-
 -- one step as a run
 pub run_one : (e : Edit) (ls new : List (List ℕ)) → step e ls ≡ Ok new → run (e ∷ []) ls ≡ Some new
 run_one e ls new h = rw h refl
@@ -197,15 +191,6 @@ back_move ls from to sound l k =
     ∙ ap lines_or_refusal (moved_back ls from to l k) ∙ settled ls sound)
 
 -- JOURNALS
-
-pushed : (journal later : List Entry) (x : Entry) → later ≡ journal ++ x ∷ [] → reverse later ≡ x ∷ reverse journal
-pushed journal later x e = ap reverse e ∙ reverse-append journal (x ∷ [])
-
--- What an accepted edit leaves: the step, a journal that can be undone, and that leads back as before.
-pub record Leaves (e : Edit) (inverse : List Edit) (ls new : List (List ℕ)) (journal later : List Entry) : Type 0 where
-  pub forth : step e ls ≡ Ok new
-  pub undoable : IsUndoable (reverse later) new
-  pub begun : first_lines (reverse later) new ≡ first_lines (reverse journal) ls
 
 -- the last line, as the code reads it
 pub last_decides : (ls : List (List ℕ)) (at : ℕ) (t x : List ℕ) → at ≡ length ls → 0 < at → slice_index_or ls (at - 1) x ≡ x → has_unended_inside ls ≡ false → not (ends_in_lf x) ≡ has_unended_inside (insert ls at t)

@@ -1,20 +1,14 @@
 -- One member or definition more, as the code compares two lines.
 use Rattle.std.proofs.Common.{◌≡◌, ℕ, Bool, ◌&&◌, List, Some, refl, remove}
-use Rattle.std.specs.Prelude.{slice_get}
 use Rattle.sudoers_line.specs.declared.node.Def.{Def}
 use Rattle.sudoers_line.specs.declared.node.Kind.{Kind}
 use Rattle.sudoers_line.specs.declared.node.Node.{Node}
 use Rattle.sudoers_line.specs.declared.node.Node.TheVariants as node
 use Rattle.sudoers_tree.specs.Definition.{is_kind}
 use Rattle.sudoers_edit.specs.Alike.{are_alike, is_same_def}
-use Rattle.sudoers_edit.specs.Splice.{Extent, def_extents, owns_exactly, less_member, changed_at, extents_in, is_member_more, is_def_more}
+use Rattle.sudoers_edit.specs.Splice.{def_extents, owns_exactly, is_def_more}
 
 pub def_more : (at from to : ℕ) (k j : Kind) (more less : List Def) (n m : Node) (a b c : Bool) → n ≡ node.Alias k more → m ≡ node.Alias j less → a ≡ is_kind k j
     → b ≡ are_alike is_same_def (remove more at) less → c ≡ owns_exactly at from to (def_extents more) (def_extents less)
     → ((a && b) && c) ≡ is_def_more at from to (Some n) (Some m)
 def_more at from to k j more less n m a b c is was kind alike owned = rw (is, was, kind, alike, owned) refl
-
-pub member_more : (def at from to : ℕ) (k j : Kind) (more less : List Def) (n m : Node) (a b c : Bool) (xs ys : List Extent) → n ≡ node.Alias k more → m ≡ node.Alias j less
-    → a ≡ is_kind k j → b ≡ are_alike is_same_def (changed_at def (less_member at) more) less → xs ≡ extents_in (slice_get more def) → ys ≡ extents_in (slice_get less def)
-    → c ≡ owns_exactly at from to xs ys → ((a && b) && c) ≡ is_member_more def at from to (Some n) (Some m)
-member_more def at from to k j more less n m a b c xs ys is was kind alike longer shorter owned = rw (is, was, kind, alike, owned, longer, shorter) refl

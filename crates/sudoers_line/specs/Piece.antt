@@ -57,14 +57,6 @@ abbrev pub is_quoted : TokenKind → Bool
 is_quoted kind.Quoted = true
 is_quoted k = false
 
-abbrev pub is_id : TokenKind → Bool
-is_id kind.Id = true
-is_id k = false
-
-abbrev pub is_path : TokenKind → Bool
-is_path kind.Path = true
-is_path k = false
-
 abbrev pub is_arg : TokenKind → Bool
 is_arg kind.Arg = true
 is_arg k = false

@@ -1,11 +1,10 @@
 -- Rows in tables that grow.
 use Rattle.std.proofs.lemmas.Option.{same_Some}
-use Rattle.std.proofs.Common.{Option, Some, None, option_map, Vec, Global, ◌≡◌, ℕ, ◌-◌, List, [], ◌++◌, length, take, drop, sym, ap, ◌∙◌, append_assoc, append-nil, length-append, arith}
+use Rattle.std.proofs.Common.{Option, Some, None, option_map, ◌≡◌, ℕ, ◌-◌, List, [], ◌++◌, length, take, drop, sym, ap, ◌∙◌, append_assoc, append-nil, length-append, arith}
 use Rattle.std.specs.List.{slice_range}
 use Rattle.std.proofs.Math.Seq.{drop-append_seam, take-append_seam}
-use Rattle.sudoers_reader.specs.declared.rows.MemberRow.{MemberRow}
 use Rattle.sudoers_reader.specs.declared.rows.Tables.{Tables}
-use Rattle.sudoers_reader.specs.Tables.{Grows, Grown, Keeps, KeepsSome, Lasts}
+use Rattle.sudoers_reader.specs.Tables.{Grows, Grown, KeepsSome, Lasts}
 
 -- ---- lists that grow
 
@@ -56,36 +55,7 @@ grown_on t u v g h = record {
   params = grows_on _ _ _ g.params h.params;
 }
 
--- What is kept is kept.
-pub keeps_on : {R X : Type 0} (view : Tables → R → X) (t u : Tables) (r : R) (x : X) → Grown t u → Keeps view t r x → Keeps view u r x
-keeps_on view t u r x g h v later = h v (grown_on t u v g later)
-
--- Only members were added.
-pub grown_members : (t : Tables) (rows : Vec MemberRow Global) → Grows t.members.items rows.items → Grown t (record {
-  bytes = t.bytes;
-  digests = t.digests;
-  members = rows;
-  options = t.options;
-  tags = t.tags;
-  commands = t.commands;
-  groups = t.groups;
-  defs = t.defs;
-  params = t.params;
-})
-grown_members t rows g = let self = grown_self t in record {
-  bytes = self.bytes;
-  digests = self.digests;
-  members = g;
-  options = self.options;
-  tags = self.tags;
-  commands = self.commands;
-  groups = self.groups;
-  defs = self.defs;
-  params = self.params;
-}
-
 -- ---- what is kept of what may be
-
 pub none_kept : {R X : Type 0} (view : Tables → R → X) (t : Tables) (o : Option R) (p : Option X) → KeepsSome view t o p → o ≡ None → p ≡ None
 none_kept view t o p keeps none = sym (keeps t (grown_self t)) ∙ ap (option_map (view t)) none
 
@@ -94,7 +64,3 @@ some_kept view t o p r keeps some = sym (keeps t (grown_self t)) ∙ ap (option_
 
 pub lasts_kept : {R X : Type 0} (view : Tables → R → X) (t : Tables) (o : Option R) (p : Option X) (r : R) → KeepsSome view t o p → o ≡ Some r → Lasts view t r
 lasts_kept view t o p r keeps some u g = same_Some (view u r) (view t r) (ap (option_map (view u)) (sym some) ∙ keeps u g ∙ sym (keeps t (grown_self t)) ∙ ap (option_map (view t)) some)
-
--- What lasts, lasts on.
-pub lasts_on : {R X : Type 0} (view : Tables → R → X) (t u : Tables) (r : R) → Grown t u → Lasts view t r → Lasts view u r
-lasts_on view t u r g lasts v h = lasts v (grown_on t u v g h) ∙ sym (lasts u g)

@@ -51,10 +51,6 @@ pub record Lawful {X : Type 0} (read : Reader X) (Is : Rule X) (on : Piece → B
 
 -- ---- pieces that are alike
 
-pub alike_self : (ts : List Piece) → Alike ts ts
-alike_self [] = tt
-alike_self (t ∷ ts) = refl
-
 pub alike_front : (front rest zs : List Piece) → Alike rest zs → Alike (front ++ rest) (front ++ zs)
 alike_front [] rest zs h = h
 alike_front (t ∷ front) rest zs h = refl
@@ -66,9 +62,6 @@ alike_comes test (t ∷ ts) [] h = absurd h
 alike_comes test (t ∷ ts) (u ∷ us) h = ap test h
 
 -- ---- another rule for the same
-
-completes_as : {X : Type 0} (Is So : Rule X) (on : Piece → Bool) (front : List Piece) → ((ts : List Piece) (x : X) (rest : List Piece) → Is ts x rest → So ts x rest) → Completes Is on front → Completes So on front
-completes_as Is So on front to h = record { more = h.more; what = h.what; is = λ zs st. to _ _ _ (h.is zs st) }
 
 pub tells_as : {X : Type 0} (read : Reader X) (Is So : Rule X) (on wide : Piece → Bool) (ts : List Piece) (o : Outcome X)
     → ((ts : List Piece) (x : X) (rest : List Piece) → Is ts x rest → So ts x rest) → ((zs : List Piece) → Stops wide zs → Stops on zs)

@@ -183,9 +183,6 @@ begins_no_scope : (stop : _) (ts : List Piece) → comes (says (scope_sign stop)
 begins_no_scope stop [] e = (refl, tt)
 begins_no_scope stop (t ∷ ts) e = (refl, none_of (scope_sign stop t) e)
 
-reads_as : (ts : List Piece) (n m : Node) (rest end : List Piece) → Says ts m rest → n ≡ m → IsLast n rest n end → Reads ts n
-reads_as ts n m rest end h e (is, f, g) = (rest, subst (λ (x : Node). Says ts x rest) (sym e) h, is)
-
 to_alias : (ts : List Piece) (n : Node) (rest : List Piece) → IsAliasThen ts n rest → Says ts n rest
 to_alias ts n rest (k, behind, (t, e, says), (ds, end, h, (f, same))) =
     subst (λ (x : Node). Says ts x rest) (sym same) (record { word = t; behind = behind; split = e; is_kind = says; defs = subst (Separated 58 (IsDef k) behind ds) f h })

@@ -1,17 +1,13 @@
 -- What the loops of the code keep.
-use Rattle.std.proofs.Common.{◌≡◌, Bool, true, false, not, List, [], ◌∷◌, drop, refl, sym, ap, ◌∙◌, ℕ, Err}
+use Rattle.std.proofs.Common.{◌≡◌, Bool, true, false, not, List, [], ◌∷◌, drop, refl, sym, ap, ◌∙◌, ℕ}
 use Rattle.sudoers_line.specs.Piece.{Piece, is_mark}
-use Rattle.sudoers_reader.specs.Reader.{Read, comes, token, many, behind, separated, Outcome, Halt}
+use Rattle.sudoers_reader.specs.Reader.{Read, comes, token, many, behind, separated}
 use Rattle.sudoers_line.specs.declared.node.Kind.{Kind}
 use Rattle.sudoers_line.specs.declared.node.Args.{Args}
-use Rattle.sudoers_line.specs.Seen.{seen}
-use Rattle.sudoers_reader.specs.declared.cursor.Halted.{Halted}
-use Rattle.sudoers_reader.specs.declared.cursor.Halted.TheVariants.{Fault, NoMemory}
-use Rattle.sudoers_reader.specs.Cursor.{itself, Reads}
 use Rattle.sudoers_line.specs.Grammar.{IsMember, IsDigest, IsCommand, IsScopeCommand, IsCmdSpec, IsHostGroup, IsDef, IsParam}
 use Rattle.sudoers_reader.specs.Descent.{command, scope_command, cmd_spec, host_group, def, turn, signs, member, members, digest, argument, add_argument, param}
 use Rattle.sudoers_reader.proofs.Keeps.{never, token_reads}
-use Rattle.sudoers_reader.proofs.Repeats.{Shrinks, shrinks_token, shrinks_behind, next_read, next_halt, next_none}
+use Rattle.sudoers_reader.proofs.Repeats.{Shrinks, shrinks_token, shrinks_behind, next_read, next_none}
 use Rattle.sudoers_reader.proofs.MemberLaws.{member_lawful}
 use Rattle.sudoers_reader.proofs.DigestLaws.{digest_lawful}
 use Rattle.sudoers_reader.proofs.CommandLaws.{on_commands, command_lawful, scope_command_lawful}
@@ -51,21 +47,13 @@ digest_shrinks = shrinks_behind 44 digest IsDigest never digest_lawful
 pub arguments_next : (acc : Args × ℕ) (ts left : List Piece) (t : Piece) → comes argument ts ≡ true → token argument ts ≡ Read t left → many add_argument argument (token argument) acc ts ≡ many add_argument argument (token argument) (add_argument acc t) left
 arguments_next acc ts left t c e = next_read add_argument argument (token argument) (shrinks_token argument) acc t ts left c e
 
-pub arguments_halt : (acc : Args × ℕ) (ts end : List Piece) → comes argument ts ≡ true → token argument ts ≡ Halt end → many add_argument argument (token argument) acc ts ≡ Halt end
-arguments_halt acc ts end c e = next_halt add_argument argument (token argument) (shrinks_token argument) acc ts end c e
-
 pub arguments_end : (acc : Args × ℕ) (ts : List Piece) → comes argument ts ≡ false → many add_argument argument (token argument) acc ts ≡ Read acc ts
 arguments_end acc ts c = next_none add_argument argument (token argument) (shrinks_token argument) acc ts c
 
 pub argument_shrinks : Shrinks (token argument)
 argument_shrinks = shrinks_token argument
 
-pub err_arguments : (acc : Args × ℕ) (o : Outcome (Args × ℕ)) (ts end : List Piece) (h : Halted) → o ≡ many add_argument argument (token argument) acc ts → comes argument ts ≡ true → Reads (token argument ts) seen (Err h) end → Reads o (itself {X = Args × ℕ}) (Err h) end
-err_arguments acc o ts end Fault e c f = e ∙ arguments_halt acc ts end c f
-err_arguments acc o ts end NoMemory e c f = tt
-
 -- ---- commands
-
 pub command_shrinks : Shrinks (behind 44 command)
 command_shrinks = shrinks_behind 44 command IsCommand argument command_lawful
 

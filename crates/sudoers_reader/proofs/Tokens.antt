@@ -1,11 +1,10 @@
 -- What one token is excludes what it isn't.
-use Rattle.std.proofs.Common.{◌≡◌, ℕ, Bool, true, false, ◌&&◌, ◌||◌, ◌==◌, List, [], ◌∷◌, drop, codes, bytes_eq, nat_eq, if◌then◌else◌, Option, Some, None, option_map, refl, sym, ap, ◌∙◌, eqb-true, ap₂, ◌++◌}
+use Rattle.std.proofs.Common.{◌≡◌, ℕ, Bool, true, false, ◌&&◌, ◌==◌, List, [], ◌∷◌, drop, codes, bytes_eq, nat_eq, if◌then◌else◌, Option, Some, None, option_map, refl, sym, ap, ◌∙◌, eqb-true, ap₂, ◌++◌}
 use Rattle.std.specs.List.{AllByRecursion, starts_with}
 use Rattle.std.proofs.lemmas.Bool.{and_parts}
 use Rattle.std.proofs.lemmas.Slice.Eq.{bytes_eq-Decides}
 use Rattle.sudoers_text.specs.declared.token.TokenKind.{TokenKind}
 use Rattle.sudoers_text.specs.declared.token.TokenKind.TheVariants as kind
-use Rattle.sudoers_text.specs.Word.{is_name}
 use Rattle.sudoers_line.specs.declared.node.Kind.{Kind}
 use Rattle.sudoers_line.specs.declared.node.Kind.TheVariants.{User, Runas, Host, Cmnd}
 use Rattle.sudoers_line.specs.declared.node.OptionName.{OptionName}
@@ -13,9 +12,8 @@ use Rattle.sudoers_line.specs.declared.node.Tag.{Tag}
 use Rattle.sudoers_line.specs.declared.node.DigestKind.{DigestKind}
 use Rattle.sudoers_line.specs.declared.node.Operator.{Operator}
 use Rattle.sudoers_line.specs.declared.node.Atom.{Atom}
-use Rattle.sudoers_line.specs.Piece.{Piece, is_punct, is_word, is_quoted, is_arg, is_digest, is_parameter, is_value, is_comment, is_mark, is_the_word, looked_up, of_word, is_alias_name, kind_words, kind_word, include_words, include_word, option_names, option_name, tag_words, tag_of_word, tag_of, digest_kinds, digest_kind, operators, operator_of, scope_signs, scope_sign}
-use Rattle.sudoers_line.specs.Atom.{atom_of, user_atom, host_atom, bare_command, command_word, filled, is_checked, option_value, path_value}
-use Rattle.sudoers_text.specs.Value.{value_of}
+use Rattle.sudoers_line.specs.Piece.{Piece, is_punct, is_word, is_arg, is_parameter, is_comment, is_mark, is_the_word, looked_up, of_word, kind_words, kind_word, include_words, include_word, option_names, option_name, tag_words, tag_of_word, tag_of, digest_kinds, digest_kind, operators, operator_of}
+use Rattle.sudoers_line.specs.Atom.{atom_of, user_atom, host_atom, bare_command, command_word}
 use Rattle.sudoers_line.specs.Grammar.{is_defaults}
 
 -- ---- tests
@@ -55,24 +53,11 @@ pub word_kind : (k : TokenKind) → is_word k ≡ true → k ≡ kind.Word
 word_kind kind.Word e = refl
 word_kind k e = absurd cc
 
-pub arg_kind : (k : TokenKind) → is_arg k ≡ true → k ≡ kind.Arg
-arg_kind kind.Arg e = refl
-arg_kind k e = absurd cc
-
-pub digest_token : (k : TokenKind) → is_digest k ≡ true → k ≡ kind.Digest
-digest_token kind.Digest e = refl
-digest_token k e = absurd cc
-
 pub parameter_kind : (k : TokenKind) → is_parameter k ≡ true → k ≡ kind.Name
 parameter_kind kind.Name e = refl
 parameter_kind k e = absurd cc
 
-pub value_kind : (k : TokenKind) → is_value k ≡ true → k ≡ kind.Value
-value_kind kind.Value e = refl
-value_kind k e = absurd cc
-
 -- ---- marks
-
 pub mark_kind : (b : ℕ) (t : Piece) → is_mark b t ≡ true → t.kind ≡ kind.Punct
 unfolding is_mark
 mark_kind b t e = punct_kind t.kind (and_parts (is_punct t.kind) (bytes_eq t.text (b ∷ [])) e).0
@@ -302,29 +287,9 @@ pub digest_word_kind : (t : Piece) (k : DigestKind) → digest_kind t ≡ Some k
 unfolding digest_kind
 digest_word_kind t k e = of_word_kind (looked_up digest_kinds) t k e
 
-pub alias_name_kind : (t : Piece) → is_alias_name t ≡ true → t.kind ≡ kind.Word
-unfolding is_alias_name
-alias_name_kind t e = word_kind t.kind (and_parts (is_word t.kind) (is_name t.text) e).0
-
 -- a word is no mark, no comment, no argument
 pub word_no_mark : (b : ℕ) (t : Piece) → t.kind ≡ kind.Word → is_mark b t ≡ false
 word_no_mark b t e = no_punct_mark b t (ap is_punct e)
-
--- a word or something quoted
-word_or_quoted : (k : TokenKind) → (is_word k || is_quoted k) ≡ true → is_plain k ≡ true
-word_or_quoted kind.Word e = refl
-word_or_quoted kind.Quoted e = refl
-word_or_quoted k e = absurd cc
-
-pub path_plain : (t : Piece) (path : List ℕ) → path_value t ≡ Some path → is_plain t.kind ≡ true
-unfolding path_value
-path_plain t path e = word_or_quoted t.kind (taken_if (is_word t.kind || is_quoted t.kind) (filled (value_of t.text)) path e).0
-
-pub value_plain : (o : OptionName) (t : Piece) (value : List ℕ) → option_value o t ≡ Some value → is_plain t.kind ≡ true
-unfolding option_value
-value_plain o t value e =
-    let test = (taken_if ((is_word t.kind || is_quoted t.kind) && is_checked o (value_of t.text)) (Some (value_of t.text)) value e).0 in
-    word_or_quoted t.kind (and_parts (is_word t.kind || is_quoted t.kind) (is_checked o (value_of t.text)) test).0
 
 -- an operator is a mark, and no comma
 pub operator_kind : (t : Piece) (o : Operator) → operator_of t ≡ Some o → t.kind ≡ kind.Punct
@@ -338,7 +303,3 @@ operator_no_comma t o e =
     (looked_other (λ text. true && bytes_eq text (44 ∷ [])) false operators t.text o (search) (taken_if (is_punct t.kind) (looked_up operators t.text) o e).1)
 
 -- ---- scopes
-
-pub sign_kind : (stop : ℕ) (t : Piece) (k : Kind) → scope_sign stop t ≡ Some k → t.kind ≡ kind.Punct
-unfolding scope_sign
-sign_kind stop t k e = punct_kind t.kind (and_parts (is_punct t.kind) (t.start == stop) (taken_if (is_punct t.kind && t.start == stop) (looked_up scope_signs t.text) k e).0).0

@@ -177,10 +177,6 @@ Keeps view t r x = (u : Tables) → Grown t u → view u r ≡ x
 abbrev pub KeepsSome : {R X : Type 0} → (Tables → R → X) → Tables → Option R → Option X → Type 0
 KeepsSome view t o p = (u : Tables) → Grown t u → option_map (view u) o ≡ p
 
--- The range holds these rows for good.
-abbrev pub Lists : {R : Type 0} → (Tables → List R) → Tables → Range → List R → Type 0
-Lists rows t r xs = (u : Tables) → Grown t u → slice_range (rows u) r.from r.to ≡ xs
-
 abbrev pub IsRange : Range → ℕ → ℕ → Type 0
 IsRange r from to = (r.from ≡ from) × (r.to ≡ to)
 

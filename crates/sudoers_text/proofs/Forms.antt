@@ -47,9 +47,6 @@ nothing_size is none = none_size is [] absent
 
 -- ---- one byte and more behind it
 
-take_some : (b m : ℕ) (rest : List ℕ) → take (suc m) (b ∷ rest) ≡ b ∷ take m rest
-take_some b m rest = refl
-
 behind_byte : (is other : List ℕ → Bool) (b : ℕ) (rest : List ℕ) (n : ℕ) → is [] ≡ false → ((text : List ℕ) → is (b ∷ text) ≡ other text) → PieceSize other rest n → PieceSize is (b ∷ rest) (behind_prefix 1 n)
 behind_byte is other b rest zero none same size = none_size is (b ∷ rest) absent
   where

@@ -60,14 +60,6 @@ read_cut (Err fault) = Err (Text fault)
 unfoldable pub read_of : List ℕ → Result (List Line) ReadFault
 read_of text = read_cut (cut_of text)
 
-abbrev pub lines_or_none : Result (List Line) ReadFault → List Line
-lines_or_none (Ok lines) = lines
-lines_or_none (Err fault) = []
-
--- the lines of the policy that the text is; none where it is no policy
-abbrev pub lines_of : List ℕ → List Line
-lines_of text = lines_or_none (read_of text)
-
 -- The outcome of a text: the policy that it is, or its first fault.
 abbrev pub IsOutcome : List ℕ → Result (List Line) ReadFault → Type 0
 IsOutcome text (Ok lines) = IsPolicy lines × (join (texts lines) ≡ text)

@@ -22,14 +22,12 @@ use crate::changed::{
     append_texts, lines_are_whole, text_replaced, text_with, text_without, whole_lines_are_read,
 };
 use crate::fault::ReadFault;
-use crate::index::Index;
 use crate::kind::LineKind;
 use crate::laws::read_is;
 use crate::line::{Line, LineRow};
 use crate::mention::append_mentions;
 use crate::place::{Place, Span};
-use crate::reading::read_lines;
-use crate::tree::Tree;
+use crate::reading::{Reading, read_lines};
 use std::alloc::{AllocError, Global};
 use std::boxed::Box;
 use std::marker::Model;
@@ -40,8 +38,7 @@ use sudoers_text::cut;
 /// A sudoers policy. Contracts see the list of its lines with what they say.
 #[derive(Drop)]
 pub struct Policy {
-    tree: Tree,
-    index: Box<Index>,
+    reading: Box<Reading>,
     size: usize,
     alloc: Global,
 }
@@ -57,11 +54,11 @@ impl Model for Policy {
 
     ghost Value = { List Line };
 
-    ghost view = { λ policy. policy.tree };
+    ghost view = { λ policy. policy.reading.value.tree };
 
-    ghost invariant = { λ policy. (read_of (join (texts policy.tree)) ≡ Ok policy.tree)
-        × Indexes policy.index.value (definitions policy.tree)
-        × (policy.size ≡ length (join (texts policy.tree))) };
+    ghost invariant = { λ policy. (read_of (join (texts policy.reading.value.tree)) ≡ Ok policy.reading.value.tree)
+        × Indexes policy.reading.value.index (definitions policy.reading.value.tree)
+        × (policy.size ≡ length (join (texts policy.reading.value.tree))) };
 }
 
 impl Policy {
@@ -83,8 +80,7 @@ impl Policy {
         let lines = cut(alloc, text)?;
         let reading = read_lines(alloc, &lines)?;
         Ok(Policy {
-            tree: reading.tree,
-            index: Box::new(alloc, reading.index)?,
+            reading: Box::new(alloc, reading)?,
             size: text.len(),
             alloc,
         })
@@ -96,7 +92,7 @@ impl Policy {
         ensures read { read_of (join (texts self.now)) ≡ Ok self.now }
     {
         read_is();
-        let _ = &self.tree;
+        let _ = &self.reading;
     }
 
     /// The text, byte for byte.
@@ -108,7 +104,7 @@ impl Policy {
         ensures { IfOk result (λ text. text.items ≡ join (texts self.now)) }
     {
         let mut text = Vec::with_capacity(self.alloc, self.size)?;
-        let lines = self.tree.lines();
+        let lines = self.reading.tree.lines();
         append_texts(lines.tables, lines.rows, &mut text)?;
         Ok(text)
     }
@@ -177,14 +173,14 @@ impl Policy {
     pub fn len(&self) -> usize
         ensures { result ≡ length self.now }
     {
-        self.tree.len()
+        self.reading.tree.len()
     }
 
     /// The lines with what they say.
     pub fn lines(&self) -> Rows<'_, LineRow>
         ensures { lines_shown result ≡ self.now }
     {
-        self.tree.lines()
+        self.reading.tree.lines()
     }
 
     /// The allocator of its lines.
@@ -196,7 +192,7 @@ impl Policy {
     pub fn line(&self, i: usize) -> Option<&[u8]>
         ensures { option_copied result ≡ option_map (λ (line : LineOf). line.text) (slice_get self.now i) }
     {
-        Some(self.tree.line(i)?.text)
+        Some(self.reading.tree.line(i)?.text)
     }
 
     /// The kind of a line.
@@ -210,14 +206,14 @@ impl Policy {
     pub fn node(&self, i: usize) -> Option<Node<'_>>
         ensures { option_map node_shown result ≡ option_map (λ (line : LineOf). line.node) (slice_get self.now i) }
     {
-        Some(self.tree.line(i)?.node)
+        Some(self.reading.tree.line(i)?.node)
     }
 
     /// Where the name is defined as an alias of this kind.
     pub fn definition(&self, kind: Kind, name: &[u8]) -> Option<Place>
         ensures { result ≡ place_of kind name.now self.now }
     {
-        self.index.of(kind).get(name)
+        self.reading.index.of(kind).get(name)
     }
 
     /// The members of the alias.
@@ -240,7 +236,7 @@ impl Policy {
         ensures { IfOk result (λ spans. spans.items ≡ mentions kind name.now self.now) }
     {
         let mut spans = Vec::new(self.alloc);
-        let lines = self.tree.lines();
+        let lines = self.reading.tree.lines();
         for (number, row) in lines.rows.iter().enumerate() {
             let line = Line::of(lines.tables, row);
             append_mentions(self.alloc, kind, name, number, &line.node, &mut spans)?;

@@ -9,3 +9,4 @@ invariant-loop-row l =
     (l.firsts.items ++ firsts_since l.count (map (line_in l.lines.tables.now) (drop l.row-index l.lines.rows.now))
     ≡ firsts_since 0 (map (line_in l.lines.tables.now) l.lines.rows.now))
     × (l.count + total (map (line_in l.lines.tables.now) (drop l.row-index l.lines.rows.now)) ≤ 16384)
+    × (l.count + total (map (line_in l.lines.tables.now) (drop l.row-index l.lines.rows.now)) ≡ total (map (line_in l.lines.tables.now) l.lines.rows.now))

@@ -2,6 +2,7 @@ use Rattle.std.proofs.Common.{◌≡◌, ◌∙◌, ◌⊎◌, IfErr, ℕ, List,
 use Rattle.sudoers_text.specs.declared.fault.TextFault.{TextFault}
 use Rattle.sudoers_tree.specs.declared.fault.ReadFault.{ReadFault}
 use Rattle.sudoers_tree.specs.declared.fault.ReadFault.TheVariants.{NoMemory}
+use Rattle.sudoers_tree.specs.declared.reading.Reading.{Reading}
 use Rattle.sudoers_tree.specs.Wrapped.{fault_of_text}
 use Rattle.sudoers_tree.specs.Fault.{IsFaultOf}
 use Rattle.sudoers_tree.specs.Reading.{read_of, IsOutcome, ReadGives}
@@ -33,21 +34,25 @@ returns-in_err-reading-clause-fault c =
     (faulty text c.in_ok-lines.lines fault c.in_ok-lines.ensures.outcome c.in_err-reading.ensures))
 
 pub returns-clause-outcome : goal.returns-clause-outcome
-returns-clause-outcome c = is_cut c.args.text.now c.in_ok-lines.lines c.in_ok-lines.ensures.outcome ∙ c.in_ok-reading.ensures.0
+returns-clause-outcome c =
+    is_cut c.args.text.now c.in_ok-lines.lines c.in_ok-lines.ensures.outcome ∙ c.in_ok-reading.ensures.0
+    ∙ ap (λ (r : Reading). Ok r.tree) (sym c.in_ok-new.ensures.ok)
 
 pub returns-clause-policy : goal.returns-clause-policy
 returns-clause-policy c =
     let text : List ℕ = c.args.text.now in
-    let outcome : read_of text ≡ Ok c.in_ok-reading.reading.tree =
-    is_cut text c.in_ok-lines.lines c.in_ok-lines.ensures.outcome ∙ c.in_ok-reading.ensures.0 in
+    let outcome : read_of text ≡ Ok c.in_ok-new.field-0.value.tree =
+    is_cut text c.in_ok-lines.lines c.in_ok-lines.ensures.outcome ∙ c.in_ok-reading.ensures.0
+    ∙ ap (λ (r : Reading). Ok r.tree) (sym c.in_ok-new.ensures.ok) in
     subst (IsOutcome text) outcome (c.read_is.ensures text)
 
 pub invariant_of-result : goal.invariant_of-result
 invariant_of-result c =
     let text : List ℕ = c.args.text.now in
-    let outcome : read_of text ≡ Ok c.in_ok-reading.reading.tree =
-    is_cut text c.in_ok-lines.lines c.in_ok-lines.ensures.outcome ∙ c.in_ok-reading.ensures.0 in
-    let is : IsOutcome text (Ok c.in_ok-reading.reading.tree) = subst (IsOutcome text) outcome (c.read_is.ensures text) in
-    let kept : Indexes c.in_ok-new.field-0.value (definitions c.in_ok-reading.reading.tree) =
-    subst (λ index. Indexes index (definitions c.in_ok-reading.reading.tree)) (sym c.in_ok-new.ensures.ok) c.in_ok-reading.ensures.1 in
+    let outcome : read_of text ≡ Ok c.in_ok-new.field-0.value.tree =
+    is_cut text c.in_ok-lines.lines c.in_ok-lines.ensures.outcome ∙ c.in_ok-reading.ensures.0
+    ∙ ap (λ (r : Reading). Ok r.tree) (sym c.in_ok-new.ensures.ok) in
+    let is : IsOutcome text (Ok c.in_ok-new.field-0.value.tree) = subst (IsOutcome text) outcome (c.read_is.ensures text) in
+    let kept : Indexes c.in_ok-new.field-0.value.index (definitions c.in_ok-new.field-0.value.tree) =
+    subst (λ (r : Reading). Indexes r.index (definitions r.tree)) (sym c.in_ok-new.ensures.ok) c.in_ok-reading.ensures.1 in
     (ap read_of is.1 ∙ outcome, kept, ap length (sym is.1))

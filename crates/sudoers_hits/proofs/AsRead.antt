@@ -1,0 +1,22 @@
+-- Bytes as they are read.
+use Rattle.std.proofs.Common.{◌≡◌, ℕ, zero, suc, ◌-◌, ◌<◌, Bool, false, List, [], ◌∷◌, map, length, drop, take, get_or, refl, sym, ap, ◌∙◌, arith}
+use Rattle.std.proofs.lemmas.List.{take_rest, drop-map}
+use Rattle.sudoers_hits.specs.Folded.{folded, read}
+
+pub read_length : (lower : Bool) (bytes : List ℕ) → length (read lower bytes) ≡ length bytes
+read_length lower [] = refl
+read_length lower (b ∷ bytes) = let e = read_length lower bytes in omega (arith, e)
+
+-- what is read from a place on
+pub read_rest : (lower : Bool) (bytes : List ℕ) (i : ℕ) → read lower (take (length bytes - i) (drop i bytes)) ≡ drop i (read lower bytes)
+read_rest lower bytes i = ap (read lower) (take_rest bytes i) ∙ sym (drop-map (folded lower) i bytes)
+
+pub read_at : (lower : Bool) (bytes : List ℕ) (i : ℕ) → i < length bytes → get_or (read lower bytes) i 0 ≡ folded lower (get_or bytes i 0)
+read_at lower [] i h = absurd (omega arith)
+read_at lower (b ∷ bytes) zero h = refl
+read_at lower (b ∷ bytes) (suc i) h = read_at lower bytes i (omega arith)
+
+pub read_same : (bytes : List ℕ) → read false bytes ≡ bytes
+unfolding folded
+read_same [] = refl
+read_same (b ∷ bytes) = ap (λ bs. b ∷ bs) (read_same bytes)

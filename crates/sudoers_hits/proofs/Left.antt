@@ -1,0 +1,49 @@
+-- What is left to match behind the last `*`.
+use Rattle.std.proofs.Common.{◌≡◌, ◌≢◌, ℕ, zero, suc, ◌+◌, ◌-◌, ◌≤◌, ◌<◌, Bool, true, false, List, [], ◌∷◌, ◌++◌, length, drop, take, get_or, refl, sym, ap, subst, ◌∙◌, arith}
+use Rattle.sudoers_hits.specs.declared.wildcards.GlobMode.{GlobMode}
+use Rattle.sudoers_hits.specs.Wildcard.{Item, Star, may_take, items_of}
+use Rattle.sudoers_hits.specs.Run.{Take, ToStar, IsLeft, ItemsMatch, Matches}
+use Rattle.sudoers_hits.proofs.Items.{take_then, behind_take}
+use Rattle.sudoers_hits.proofs.Stars.{last_star, star_before, byte_more, byte_before}
+
+-- up to the first `*`
+pub first_star : (mode : GlobMode) (pattern text behind rest : List ℕ) → ToStar mode pattern text behind rest → IsLeft mode pattern text behind rest
+first_star mode pattern text behind rest s =
+    let more = Star ∷ items_of behind in
+    record {
+      to = λ m. behind_take mode s.items more s.bytes rest s.take
+          (subst (λ is. ItemsMatch mode is (s.bytes ++ rest)) s.pattern_is (subst (λ t. ItemsMatch mode (items_of pattern) t) s.text_is m));
+      from = λ m. subst (λ is. ItemsMatch mode is text) (sym s.pattern_is)
+          (subst (λ t. ItemsMatch mode (s.items ++ more) t) (sym s.text_is) (take_then mode s.items more s.bytes rest s.take m));
+    }
+
+-- up to the next
+pub next_star : (mode : GlobMode) (pattern text behind rest after last : List ℕ) → IsLeft mode pattern text behind rest → ToStar mode behind rest after last
+    → IsLeft mode pattern text after last
+next_star mode pattern text behind rest after last l s =
+    let more = items_of after in
+    record {
+      to = λ m. last_star mode s.items more s.bytes last s.take
+          (subst (λ is. ItemsMatch mode (Star ∷ is) (s.bytes ++ last)) s.pattern_is (subst (λ t. ItemsMatch mode (Star ∷ items_of behind) t) s.text_is (l.to m)));
+      from = λ m. l.from (subst (λ is. ItemsMatch mode (Star ∷ is) rest) (sym s.pattern_is)
+          (subst (λ t. ItemsMatch mode (Star ∷ s.items ++ Star ∷ more) t) (sym s.text_is) (star_before mode s.items more s.bytes last s.take m)));
+    }
+
+-- a byte more
+pub next_byte : (mode : GlobMode) (pattern text behind rest last : List ℕ) (b : ℕ) → IsLeft mode pattern text behind rest → (Matches mode behind rest → ⊥)
+    → rest ≡ b ∷ last → may_take mode b ≡ true → IsLeft mode pattern text behind last
+next_byte mode pattern text behind rest last b l n e h = record {
+  to = λ m. let more = byte_more mode (items_of behind) rest n (l.to m) in
+      let same : more.1 ≡ last = let f = more.2 in cc in
+      subst (ItemsMatch mode (Star ∷ items_of behind)) same more.4;
+  from = λ m. l.from (subst (ItemsMatch mode (Star ∷ items_of behind)) (sym e) (byte_before mode (items_of behind) b last h m));
+}
+
+-- no byte more
+pub no_match : (mode : GlobMode) (pattern text behind rest : List ℕ) → IsLeft mode pattern text behind rest → (Matches mode behind rest → ⊥)
+    → ((b : ℕ) (last : List ℕ) → rest ≡ b ∷ last → may_take mode b ≡ true → ⊥) → Matches mode pattern text → ⊥
+no_match mode pattern text behind rest l n h m =
+    let more = byte_more mode (items_of behind) rest n (l.to m) in h more.0 more.1 more.2 more.3
+
+pub match_here : (mode : GlobMode) (pattern text behind rest : List ℕ) → IsLeft mode pattern text behind rest → Matches mode behind rest → Matches mode pattern text
+match_here mode pattern text behind rest l m = l.from ([], rest, refl, tt, m)

@@ -1,0 +1,9 @@
+pub mod Sets
+pub mod Splits
+pub mod Names
+pub mod Directories
+pub mod AsRead
+pub mod Items
+pub mod Stars
+pub mod Passing
+pub mod Left

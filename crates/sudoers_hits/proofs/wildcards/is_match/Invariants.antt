@@ -1,0 +1,10 @@
+use Rattle.std.proofs.Common.{◌+◌, length}
+use Rattle.sudoers_hits.specs.Folded.{read}
+use Rattle.sudoers_hits.specs.Run.{IsLeft}
+use Rattle.sudoers_hits.proofs.wildcards.is_match.Given as goal
+
+abbrev pub invariant-loop-behind : goal.invariant-loop-behind
+invariant-loop-behind l = IsLeft l.mode (read l.lower l.fn.pattern) (read l.lower l.fn.text) (read l.lower l.pattern) (read l.lower l.text)
+
+abbrev pub decreases-loop-behind : goal.decreases-loop-behind
+decreases-loop-behind l = length l.pattern + length l.text

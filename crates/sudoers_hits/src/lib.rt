@@ -1,0 +1,16 @@
+//! What matches a member of a list: names, numbers, networks, and patterns with wildcards.
+#![tactic(auto)]
+
+mod asked;
+mod class;
+mod hits;
+mod laws;
+mod network;
+mod set;
+mod wildcards;
+
+pub use asked::{CommandLine, Group, Person, Who};
+pub use hits::{command_hits, group_hits, host_hits, is_same_name, user_hits};
+pub use laws::{escaped_is, star_is};
+pub use network::{Interface, network_hits};
+pub use wildcards::{GlobMode, glob, glob_as_read};
