@@ -31,6 +31,7 @@ SECONDS = 120
 PROGRAMS = {
     "text": "cases_line",
     "line": "cases_line",
+    "hits": "cases_hits",
     "tree": "cases_edit",
     "check": "cases_edit",
     "edit": "cases_edit",

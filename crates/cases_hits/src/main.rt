@@ -1,0 +1,99 @@
+//! Answers cases: what `sudoers_hits` says of patterns and networks.
+//!
+//! The body of a case holds parts. Its answer is one line, as `{:?}` writes it.
+#![tactic(auto)]
+
+use case_frames::{Case, next_case, next_part, read_input};
+use std::alloc::{AllocError, Global};
+use std::io;
+use std::io::Write;
+use sudoers_hits::{GlobMode, Interface, glob, glob_as_read, network_hits};
+use sudoers_line::{Address, Mask};
+
+fn main(rt: HostRuntime) -> io::Result<()> {
+    let input = read_input(&rt)?;
+    let answers = answers_of(rt.alloc(), &input)?;
+    rt.stdout().write_all(answers.as_bytes())
+}
+
+/// Returns the answers of all cases, each a line.
+fn answers_of(alloc: Global, input: &[u8]) -> Result<String, AllocError> {
+    let mut answers = String::new(alloc);
+    let mut left = input;
+    for _ in 0..input.len() {
+        let Some((case, rest)) = next_case(left) else {
+            break;
+        };
+        answers.push_str(answer_of(alloc, case)?)?;
+        answers.push('\n')?;
+        left = rest;
+    }
+    Ok(answers)
+}
+
+/// Returns what is said of a case: `true`, `false`, or `unknown` if it has no such form.
+fn answer_of(alloc: Global, case: Case<'_>) -> Result<&'static str, AllocError> {
+    let Some((first, rest)) = next_part(case.body) else {
+        return Ok("unknown");
+    };
+    let Some((second, _)) = next_part(rest) else {
+        return Ok("unknown");
+    };
+    let is = match case.asked {
+        b'p' => glob(first, second, GlobMode::Path),
+        b'a' => glob(first, second, GlobMode::Args),
+        b'l' => glob_as_read(first, second, GlobMode::Args, true),
+        b'n' => return network_of_parts(alloc, first, second),
+        _ => return Ok("unknown"),
+    };
+    Ok(word(is))
+}
+
+fn word(is: bool) -> &'static str {
+    if is { "true" } else { "false" }
+}
+
+/// Returns the number that four bytes are, the first highest.
+fn number_at(bytes: &[u8], at: usize) -> u32 {
+    let mut number = 0u32;
+    for place in at..at.saturating_add(4) {
+        number = (number << 8) | u32::from(bytes.get(place).copied().unwrap_or(0));
+    }
+    number
+}
+
+/// Returns the mask that five bytes are: the number of bits, or 255 and a dotted mask.
+fn mask_at(bytes: &[u8], at: usize) -> Mask {
+    match bytes.get(at).copied().unwrap_or(0) {
+        255 => Mask::Dotted(Address {
+            number: number_at(bytes, at.saturating_add(1)),
+        }),
+        bits => Mask::Bits(bits),
+    }
+}
+
+/// Returns whether an address, with five bytes of a mask behind it if it has one, hits one of the interfaces of nine bytes each.
+fn network_of_parts(
+    alloc: Global,
+    network: &[u8],
+    listed: &[u8],
+) -> Result<&'static str, AllocError> {
+    let address = Address {
+        number: number_at(network, 0),
+    };
+    let mask = if network.len() > 4 {
+        Some(mask_at(network, 4))
+    } else {
+        None
+    };
+    let mut interfaces = Vec::new(alloc);
+    for piece in listed.chunks_exact(9) {
+        interfaces.push(Interface {
+            address: Address {
+                number: number_at(piece, 0),
+            },
+            mask: mask_at(piece, 4),
+        })?;
+    }
+    Ok(word(network_hits(address, mask, interfaces.as_slice())))
+}
