@@ -31,7 +31,8 @@ SECONDS = 120
 PROGRAMS = {
     "text": "cases_line",
     "line": "cases_line",
-    "hits": "cases_hits",
+    "hits": "cases_match",
+    "match": "cases_match",
     "tree": "cases_edit",
     "check": "cases_edit",
     "edit": "cases_edit",

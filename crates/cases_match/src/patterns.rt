@@ -1,38 +1,12 @@
-//! Answers cases: what `sudoers_hits` says of patterns and networks.
-//!
-//! The body of a case holds parts. Its answer is one line, as `{:?}` writes it.
-#![tactic(auto)]
+//! Patterns and networks.
 
-use case_frames::{Case, next_case, next_part, read_input};
+use case_frames::{Case, next_part};
 use std::alloc::{AllocError, Global};
-use std::io;
-use std::io::Write;
 use sudoers_hits::{GlobMode, Interface, glob, glob_as_read, network_hits};
 use sudoers_line::{Address, Mask};
 
-fn main(rt: HostRuntime) -> io::Result<()> {
-    let input = read_input(&rt)?;
-    let answers = answers_of(rt.alloc(), &input)?;
-    rt.stdout().write_all(answers.as_bytes())
-}
-
-/// Returns the answers of all cases, each a line.
-fn answers_of(alloc: Global, input: &[u8]) -> Result<String, AllocError> {
-    let mut answers = String::new(alloc);
-    let mut left = input;
-    for _ in 0..input.len() {
-        let Some((case, rest)) = next_case(left) else {
-            break;
-        };
-        answers.push_str(answer_of(alloc, case)?)?;
-        answers.push('\n')?;
-        left = rest;
-    }
-    Ok(answers)
-}
-
-/// Returns what is said of a case: `true`, `false`, or `unknown` if it has no such form.
-fn answer_of(alloc: Global, case: Case<'_>) -> Result<&'static str, AllocError> {
+/// Returns what is said of a pattern or a network: `true`, `false`, or `unknown` if it has no such form.
+pub fn answer_of(alloc: Global, case: Case<'_>) -> Result<&'static str, AllocError> {
     let Some((first, rest)) = next_part(case.body) else {
         return Ok("unknown");
     };
@@ -54,7 +28,7 @@ fn word(is: bool) -> &'static str {
 }
 
 /// Returns the number that four bytes are, the first highest.
-fn number_at(bytes: &[u8], at: usize) -> u32 {
+pub fn number_at(bytes: &[u8], at: usize) -> u32 {
     let mut number = 0u32;
     for place in at..at.saturating_add(4) {
         number = (number << 8) | u32::from(bytes.get(place).copied().unwrap_or(0));
@@ -72,7 +46,21 @@ fn mask_at(bytes: &[u8], at: usize) -> Mask {
     }
 }
 
-/// Returns whether an address, with five bytes of a mask behind it if it has one, hits one of the interfaces of nine bytes each.
+/// Returns the interfaces that are nine bytes each: an address and a mask.
+pub fn interfaces_of(alloc: Global, listed: &[u8]) -> Result<Vec<Interface>, AllocError> {
+    let mut interfaces = Vec::new(alloc);
+    for piece in listed.chunks_exact(9) {
+        interfaces.push(Interface {
+            address: Address {
+                number: number_at(piece, 0),
+            },
+            mask: mask_at(piece, 4),
+        })?;
+    }
+    Ok(interfaces)
+}
+
+/// Returns whether an address, with five bytes of a mask after it if it has one, hits one of the interfaces of nine bytes each.
 fn network_of_parts(
     alloc: Global,
     network: &[u8],
@@ -86,14 +74,6 @@ fn network_of_parts(
     } else {
         None
     };
-    let mut interfaces = Vec::new(alloc);
-    for piece in listed.chunks_exact(9) {
-        interfaces.push(Interface {
-            address: Address {
-                number: number_at(piece, 0),
-            },
-            mask: mask_at(piece, 4),
-        })?;
-    }
+    let interfaces = interfaces_of(alloc, listed)?;
     Ok(word(network_hits(address, mask, interfaces.as_slice())))
 }

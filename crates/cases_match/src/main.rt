@@ -1,0 +1,41 @@
+//! Answers cases: what `sudoers_hits` says of patterns and networks, and `sudoers_verdict` of lists.
+//!
+//! The body of a case holds parts. Its answer is one line.
+#![tactic(auto)]
+
+mod lists;
+mod patterns;
+
+use case_frames::{Case, next_case, read_input};
+use std::alloc::{AllocError, Global};
+use std::io;
+use std::io::Write;
+
+fn main(rt: HostRuntime) -> io::Result<()> {
+    let input = read_input(&rt)?;
+    let answers = answers_of(rt.alloc(), &input)?;
+    rt.stdout().write_all(answers.as_bytes())
+}
+
+/// Returns the answers of all cases, each a line.
+fn answers_of(alloc: Global, input: &[u8]) -> Result<String, AllocError> {
+    let mut answers = String::new(alloc);
+    let mut left = input;
+    for _ in 0..input.len() {
+        let Some((case, rest)) = next_case(left) else {
+            break;
+        };
+        answers.push_str(answer_of(alloc, case)?)?;
+        answers.push('\n')?;
+        left = rest;
+    }
+    Ok(answers)
+}
+
+/// Returns the answer of a case: `unknown` if it has no such form.
+fn answer_of(alloc: Global, case: Case<'_>) -> Result<&'static str, AllocError> {
+    match case.asked {
+        b'p' | b'a' | b'l' | b'n' => patterns::answer_of(alloc, case),
+        _ => lists::answer_of(alloc, case),
+    }
+}

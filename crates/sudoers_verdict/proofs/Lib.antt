@@ -1,0 +1,12 @@
+pub mod Places
+pub mod Numbered
+pub mod Flats
+pub mod Cycles
+pub mod Named
+pub mod Fuel
+pub mod Walking
+pub mod Steps
+pub mod Whole
+pub mod Unique
+pub mod Exists
+pub mod Said

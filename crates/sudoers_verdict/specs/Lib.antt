@@ -1,0 +1,3 @@
+pub mod Flat
+pub mod Cycle
+pub mod Search
