@@ -16,6 +16,11 @@ are texts, or lists of interfaces: those with `+` match, those with `-` do not.
 
 A row without a sign is a policy. The rows below it are what is asked: A allows those with `+`, denies those with `-`,
 and says nothing of those with `?`. Those with `!` have no answer, because of a cyclic alias.
+
+    host groups     where a user has rules on a host
+
+A row that does not begin with `? ` is a policy. A row `? USER GROUPS @ HOST => PLACES` below it asks of a user and a
+host as above. The places are pairs of numbers from 0, that of the user specification and that of its host group.
 """
 
 import struct
@@ -67,6 +72,21 @@ def parts_asked(asked, row):
     return [part for one in [words[0], *groups] for part in numbered(one)]
 
 
+def cases_of_places(group):
+    """The cases of a group of host groups."""
+    policy = None
+    for number, row in group.rows:
+        if row[:2] != "? ":
+            policy = row
+            continue
+        asked, arrow, wanted = row[2:].partition(" => ")
+        user, at, host = asked.partition(" @ ")
+        if policy is None or not (arrow and at):
+            raise group.error(number, "a question without a policy, a host or an answer")
+        parts = [text_of(policy), *parts_asked(b"H", host), *parts_asked(b"U", user)]
+        yield Case(f"{group.where}:{number}: {group.title}: {policy}: {row}", frame(b"K", *parts), wanted, str)
+
+
 def cases_of_lists(group):
     """The cases of a group of lists."""
     asked, policy = LISTS[group.words[1]], None
@@ -84,6 +104,9 @@ def cases_of_group(group):
     """The cases of a group."""
     if group.words[0] == "decide" and group.words[1:] and group.words[1] in LISTS:
         yield from cases_of_lists(group)
+        return
+    if group.words == ("host", "groups"):
+        yield from cases_of_places(group)
         return
     if group.words not in ASKED:
         raise NoRow(f"{' '.join(group.words)}: {group.title}: this is not known")

@@ -22,7 +22,7 @@ pub fn answer_of(alloc: Global, case: Case<'_>) -> Result<&'static str, AllocErr
         b'U' => said::<Users>(alloc, &policy, Kind::User, &person_of(alloc, rest)?),
         b'R' => said::<Users>(alloc, &policy, Kind::Runas, &person_of(alloc, rest)?),
         b'G' => said::<Groups>(alloc, &policy, Kind::Runas, &group_of(alloc, rest)?.0),
-        b'H' => said::<Hosts>(alloc, &policy, Kind::Host, &host_of(alloc, rest)?),
+        b'H' => said::<Hosts>(alloc, &policy, Kind::Host, &host_of(alloc, rest)?.0),
         b'C' => said::<Commands>(alloc, &policy, Kind::Cmnd, &command_of(alloc, rest)?),
         _ => Ok("unknown"),
     }
@@ -65,7 +65,7 @@ fn group_of(alloc: Global, bytes: &[u8]) -> Result<(Group, &[u8]), AllocError> {
 }
 
 /// Returns the user that the parts are: a name, a number of four bytes, and groups.
-fn person_of(alloc: Global, bytes: &[u8]) -> Result<Person, AllocError> {
+pub fn person_of(alloc: Global, bytes: &[u8]) -> Result<Person, AllocError> {
     let (name, rest) = part_of(bytes);
     let (number, mut rest) = part_of(rest);
     let mut groups = Vec::new(alloc);
@@ -84,17 +84,18 @@ fn person_of(alloc: Global, bytes: &[u8]) -> Result<Person, AllocError> {
     })
 }
 
-/// Returns a user on the host that three parts are: its short name, its long name, and its interfaces.
-fn host_of(alloc: Global, bytes: &[u8]) -> Result<Who, AllocError> {
+/// Returns nobody on the host that three parts are, its short name, its long name and its interfaces, and the bytes after them.
+pub fn host_of(alloc: Global, bytes: &[u8]) -> Result<(Who, &[u8]), AllocError> {
     let (short, rest) = part_of(bytes);
     let (long, rest) = part_of(rest);
-    let (interfaces, _) = part_of(rest);
-    Ok(Who {
+    let (interfaces, rest) = part_of(rest);
+    let who = Who {
         user: person_of(alloc, b"")?,
         long_host: Items::from_slice(alloc, long)?,
         short_host: Items::from_slice(alloc, short)?,
         interfaces: Items::from_vec(interfaces_of(alloc, interfaces)?),
-    })
+    };
+    Ok((who, rest))
 }
 
 /// Returns the command that two parts are: its path and its arguments.

@@ -1,10 +1,12 @@
-//! Answers cases: what `sudoers_hits` says of patterns and networks, and `sudoers_verdict` of lists.
+//! Answers cases: what `sudoers_hits` says of patterns and networks, `sudoers_verdict` of lists,
+//! and `sudoers_match` of policies.
 //!
 //! The body of a case holds parts. Its answer is one line.
 #![tactic(auto)]
 
 mod lists;
 mod patterns;
+mod places;
 
 use case_frames::{Case, next_case, read_input};
 use std::alloc::{AllocError, Global};
@@ -25,17 +27,18 @@ fn answers_of(alloc: Global, input: &[u8]) -> Result<String, AllocError> {
         let Some((case, rest)) = next_case(left) else {
             break;
         };
-        answers.push_str(answer_of(alloc, case)?)?;
+        push_answer(alloc, case, &mut answers)?;
         answers.push('\n')?;
         left = rest;
     }
     Ok(answers)
 }
 
-/// Returns the answer of a case: `unknown` if it has no such form.
-fn answer_of(alloc: Global, case: Case<'_>) -> Result<&'static str, AllocError> {
+/// Adds the answer of a case: `unknown` if it has no such form.
+fn push_answer(alloc: Global, case: Case<'_>, answers: &mut String) -> Result<(), AllocError> {
     match case.asked {
-        b'p' | b'a' | b'l' | b'n' => patterns::answer_of(alloc, case),
-        _ => lists::answer_of(alloc, case),
+        b'p' | b'a' | b'l' | b'n' => answers.push_str(patterns::answer_of(alloc, case)?),
+        b'K' => places::push_answer(alloc, case, answers),
+        _ => answers.push_str(lists::answer_of(alloc, case)?),
     }
 }

@@ -1,5 +1,4 @@
--- A device of the proof, which no public contract cites: a walk through aliases that decides each of them once. An alias is the
--- number of its definition.
+-- A walk through aliases that decides each of them once, by the number of its definition. Only the contracts of `Verdicts` cite it.
 use Rattle.std.specs.Prelude.{◌≡◌, ◌≢◌, ◌<◌, ◌≤◌, ◌+◌, ◌-◌, ℕ, Bool, List, [], ◌∷◌, ◌++◌, length, take, Option, Some, None, slice_get, slice_set}
 use Rattle.sudoers_line.specs.declared.node.Kind.{Kind}
 use Rattle.sudoers_line.specs.declared.node.Atom.{Atom}

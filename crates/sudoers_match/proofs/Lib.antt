@@ -1,0 +1,4 @@
+pub mod Gathered
+pub mod Said
+pub mod Reached
+pub mod Passed

@@ -1,0 +1,102 @@
+-- One line more.
+use Rattle.std.proofs.Common.{◌≡◌, ◌⊎◌, inl, inr, ℕ, ◌+◌, ◌<◌, ◌≤◌, List, [], ◌∷◌, ◌++◌, length, map, drop, get_or, slice_get, Some, None, refl, sym, ap, subst, ◌∙◌, append_assoc, append-nil}
+use Rattle.std.specs.List.{cons_option}
+use Rattle.std.proofs.lemmas.List.{drop_more, drop_all}
+use Rattle.sudoers_line.specs.declared.node.Kind.TheVariants.{User}
+use Rattle.sudoers_line.specs.declared.node.Node.TheVariants as node
+use Rattle.sudoers_reader.specs.declared.list.Rows.{Rows}
+use Rattle.sudoers_reader.specs.declared.rows.MemberRow.{MemberRow}
+use Rattle.sudoers_reader.specs.declared.rows.GroupRow.{GroupRow}
+use Rattle.sudoers_reader.specs.declared.rows.Tables.{Tables}
+use Rattle.sudoers_reader.specs.declared.view.Node.{Node as NodeView}
+use Rattle.sudoers_reader.specs.declared.view.Node.TheVariants as view
+use Rattle.sudoers_reader.specs.Tables.{node_in}
+use Rattle.sudoers_reader.specs.View.{members_shown, groups_shown, node_shown}
+use Rattle.sudoers_tree.specs.Line.{Line, line_in}
+use Rattle.sudoers_tree.specs.declared.line.LineRow.{LineRow}
+use Rattle.sudoers_check.specs.Chains.{HasReachableCycle}
+use Rattle.sudoers_hits.specs.declared.asked.Who.{Who}
+use Rattle.sudoers_verdict.specs.declared.verdict.AskFault.{AskFault}
+use Rattle.sudoers_verdict.specs.declared.verdict.AskFault.TheVariants.{Cycle, NoMemory}
+use Rattle.sudoers_verdict.specs.Cycle.{LeadsToCycle}
+use Rattle.sudoers_match.specs.declared.groups.GroupPlace.{GroupPlace}
+use Rattle.sudoers_match.specs.Specs.{Spec, spec_in, specs_of, AreJoined}
+use Rattle.sudoers_match.specs.Groups.{SpecPlaces}
+use Rattle.sudoers_match.specs.Asked.{HostsLeadToCycle}
+use Rattle.sudoers_match.proofs.Gathered.{at_map, joined_more}
+use Rattle.sudoers_match.proofs.Reached.{has_at, users_reach, hosts_reach}
+
+no_spec : (n : NodeView) → ((users : Rows MemberRow) (groups : Rows GroupRow) → n ≡ view.Spec users groups → ⊥) → spec_in (node_shown n) ≡ None
+no_spec (view.Spec users groups) other = absurd (other users groups refl)
+no_spec view.Blank other = refl
+no_spec view.Comment other = refl
+no_spec (view.Include dir path) other = refl
+no_spec (view.Defaults scope params) other = refl
+no_spec (view.Alias kind defs) other = refl
+
+module _ (t : Tables) (rows : List LineRow) (i : ℕ) (d : LineRow) (within : i < length rows) (n : NodeView) (is : node_shown n ≡ node_in t (get_or rows i d).node) where
+  abbrev pub line : Line
+  line = line_in t (get_or rows i d)
+
+  abbrev pub Specs : ℕ → List Spec
+  Specs from = specs_of (map (line_in t) (drop from rows))
+
+  left_specs : Specs i ≡ cons_option (spec_in (node_shown n)) (Specs (i + 1))
+  left_specs = ap (λ rest. specs_of (map (line_in t) rest)) (drop_more rows i d within) ∙ ap (λ m. cons_option (spec_in m) (Specs (i + 1))) (sym is)
+
+  module _ (users : Rows MemberRow) (groups : Rows GroupRow) (it : n ≡ view.Spec users groups) where
+    abbrev pub spec : Spec
+    spec = record { users = members_shown users; groups = groups_shown groups }
+
+    says : line.node ≡ node.Spec (members_shown users) (groups_shown groups)
+    says = sym is ∙ ap node_shown it
+
+    -- a user specification more
+    pub spec_more : (who : Who) (lines : List Line) (Goal : List GroupPlace → Type 0) (s : ℕ) (places new more : List GroupPlace)
+        → ((rest : List GroupPlace) → AreJoined (SpecPlaces lines who) s (Specs i) rest → Goal (places ++ rest))
+        → new ≡ places ++ more → SpecPlaces lines who s spec more
+        → (rest : List GroupPlace) → AreJoined (SpecPlaces lines who) (s + 1) (Specs (i + 1)) rest → Goal (new ++ rest)
+    spec_more who lines Goal s places new more so_far e p rest j =
+        let left : Specs i ≡ spec ∷ Specs (i + 1) = left_specs ∙ ap (λ m. cons_option (spec_in (node_shown m)) (Specs (i + 1))) it in
+        subst Goal (sym (ap (λ ys. ys ++ rest) e ∙ append_assoc places more rest))
+        (so_far (more ++ rest) (subst (λ xs. AreJoined (SpecPlaces lines who) s xs (more ++ rest)) (sym left)
+        (joined_more (SpecPlaces lines who) s spec (Specs (i + 1)) more rest p j)))
+
+    module _ (policy lines : List Line) (shown : map (line_in t) rows ≡ policy) (same : lines ≡ policy) (fault : AskFault) where
+      stands : slice_get (map (line_in t) rows) i ≡ Some line
+      stands = at_map (line_in t) rows i d within line refl
+
+      pub users_fault : (fault ≡ NoMemory) ⊎ ((fault ≡ Cycle) × LeadsToCycle User lines (members_shown users)) → (fault ≡ NoMemory) ⊎ ((fault ≡ Cycle) × HasReachableCycle policy)
+      users_fault (inl e) = inl e
+      users_fault (inr l) = inr (
+        l.0,
+        users_reach policy line (members_shown users) (groups_shown groups)
+            (has_at policy i line (ap (λ ls. slice_get ls i) (sym shown) ∙ stands)) says
+            (subst (λ ls. LeadsToCycle User ls (members_shown users)) same l.1),
+      )
+
+      pub hosts_fault : (fault ≡ NoMemory) ⊎ ((fault ≡ Cycle) × HostsLeadToCycle lines (groups_shown groups)) → (fault ≡ NoMemory) ⊎ ((fault ≡ Cycle) × HasReachableCycle policy)
+      hosts_fault (inl e) = inl e
+      hosts_fault (inr l) = inr (
+        l.0,
+        hosts_reach policy line (members_shown users) (groups_shown groups)
+            (has_at policy i line (ap (λ ls. slice_get ls i) (sym shown) ∙ stands)) says
+            (subst (λ ls. HostsLeadToCycle ls (groups_shown groups)) same l.1),
+      )
+
+  -- another line more
+  pub none_more : ((users : Rows MemberRow) (groups : Rows GroupRow) → n ≡ view.Spec users groups → ⊥)
+      → (Part : ℕ → Spec → List GroupPlace → Type 0) (s : ℕ) (rest : List GroupPlace) → AreJoined Part s (Specs (i + 1)) rest → AreJoined Part s (Specs i) rest
+  none_more other Part s rest j =
+      subst (λ xs. AreJoined Part s xs rest) (sym (left_specs ∙ ap (λ o. cons_option o (Specs (i + 1))) (no_spec n other))) j
+
+-- all lines
+pub all_lines : (t : Tables) (rows : List LineRow) (who : Who) (policy lines : List Line) → map (line_in t) rows ≡ policy → lines ≡ policy
+    → (i s : ℕ) (places : List GroupPlace) → length rows ≤ i
+    → ((rest : List GroupPlace) → AreJoined (SpecPlaces lines who) s (specs_of (map (line_in t) (drop i rows))) rest → AreJoined (SpecPlaces lines who) 0 (specs_of (map (line_in t) rows)) (places ++ rest))
+    → AreJoined (SpecPlaces policy who) 0 (specs_of policy) places
+all_lines t rows who policy lines shown same i s places end so_far =
+    subst (λ ls. AreJoined (SpecPlaces ls who) 0 (specs_of policy) places) same
+    (subst (λ ls. AreJoined (SpecPlaces lines who) 0 (specs_of ls) places) shown
+    (subst (AreJoined (SpecPlaces lines who) 0 (specs_of (map (line_in t) rows))) (append-nil places)
+    (so_far [] (subst (λ xs. AreJoined (SpecPlaces lines who) s (specs_of (map (line_in t) xs)) []) (sym (drop_all i rows end)) refl))))

@@ -1,0 +1,56 @@
+use Rattle.std.proofs.Common.{◌≡◌, ◌⊎◌, inl, inr, ◌∷◌, [], Err, IfErr, refl, sym, ap, subst, ◌∙◌, arith, append-nil, rules, Vec, Global}
+use Rattle.std.proofs.lemmas.List.{length-map}
+use Rattle.sudoers_line.specs.declared.node.Kind.TheVariants.{Host}
+use Rattle.sudoers_hits.specs.Hits.{host_hits}
+use Rattle.sudoers_reader.specs.Tables.{group_in}
+use Rattle.sudoers_reader.specs.View.{groups_shown, group_shown}
+use Rattle.sudoers_verdict.specs.declared.verdict.AskFault.TheVariants.{Cycle, NoMemory}
+use Rattle.sudoers_match.specs.Allows.{Permits}
+use Rattle.sudoers_match.specs.declared.groups.GroupPlace.{GroupPlace}
+use Rattle.sudoers_match.specs.Groups.{GroupPlaces, place_of}
+use Rattle.sudoers_match.specs.Asked.{HostsLeadToCycle}
+use Rattle.sudoers_match.proofs.Gathered.{one_added, all_added, at_map}
+use Rattle.sudoers_match.proofs.Reached.{led_by_hosts}
+use Rattle.sudoers_match.proofs.groups.add_groups.Goals as goal
+use Rattle.sudoers_match.proofs.groups.add_groups.Goals.{then-branch+in_ok-push_place, else-branch}
+
+pub returns-in_err-allows-clause-fault : goal.returns-in_err-allows-clause-fault
+returns-in_err-allows-clause-fault c =
+    let lines = c.args.numbers.now.policy.now in
+    let groups = c.args.groups.now in
+    let fault = c.in_err-allows.field-0.0 in
+    let same : c.from_residual.result ≡ Err fault = search rules in
+    subst (λ r. IfErr r (λ f. (f ≡ NoMemory) ⊎ ((f ≡ Cycle) × HostsLeadToCycle lines (groups_shown groups)))) (sym same)
+    (led_by_hosts lines (groups_shown groups) c.loop-host_group.host_group (group_shown c.group-group.result)
+    (at_map (group_in groups.tables.now) groups.rows.now c.loop-host_group.host_group _ c.loop-host_group-test.true (group_shown c.group-group.result) c.group-group.ensures)
+    fault c.in_err-allows.ensures.fault)
+
+pub loop-host_group-preserved : goal.loop-host_group-preserved
+loop-host_group-preserved c =
+    let lines = c.args.numbers.now.policy.now in
+    let who = c.args.who.now in
+    let groups = c.args.groups.now in
+    let i = c.loop-host_group.host_group in
+    let g = group_shown c.group-group.result in
+    let Part = GroupPlaces lines who c.args.spec in
+    let at = at_map (group_in groups.tables.now) groups.rows.now i _ c.loop-host_group-test.true g c.group-group.ensures in
+    let so_far = c.loop-host_group.invariant.added in
+    let says = c.in_ok-allows.ensures.allowed in
+    elim c.if-branch.branch [
+      | then-branch+in_ok-push_place w ↦ record {
+        verdicts = c.in_ok-allows.ensures.kept;
+        added = one_added Part (groups_shown groups) i g c.args.places.now.items c.loop-host_group.places.items c.if-branch.places.items (place_of c.args.spec i ∷ []) at so_far
+            (ap (λ (v : Vec GroupPlace Global). v.items) w.places-is ∙ w.in_ok-push_place.ensures) (inl (subst (Permits Host lines (host_hits who) g.hosts) w.if-branch.true says, refl));
+      }
+      | else-branch w ↦ record {
+        verdicts = c.in_ok-allows.ensures.kept;
+        added = one_added Part (groups_shown groups) i g c.args.places.now.items c.loop-host_group.places.items c.if-branch.places.items [] at so_far
+            (ap (λ (v : Vec GroupPlace Global). v.items) w.places-is ∙ sym (append-nil c.loop-host_group.places.items)) (inr (subst (Permits Host lines (host_hits who) g.hosts) w.if-branch.false says, refl));
+      }
+    ]
+
+pub returns-clause-added : goal.returns-clause-added
+returns-clause-added c =
+    let groups = c.args.groups.now in
+    all_added (GroupPlaces c.args.numbers.now.policy.now c.args.who.now c.args.spec) (groups_shown groups) c.loop-host_group.host_group c.args.places.now.items c.loop-host_group.places.items
+    (omega (arith, c.loop-host_group-test.false, length-map groups.rows.now (group_in groups.tables.now))) c.loop-host_group.invariant.added

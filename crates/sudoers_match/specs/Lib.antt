@@ -1,0 +1,4 @@
+pub mod Specs
+pub mod Allows
+pub mod Groups
+pub mod Asked

@@ -1,0 +1,89 @@
+//! Where a user has rules.
+
+ghost use Rattle.std.specs.Prelude.{◌≡◌, ◌⊎◌, ◌≤◌, ◌<◌, ◌+◌, ◌^◌, ◌++◌, ◌∷◌, [], IfOk, IfErr, OnOk};
+ghost use Rattle.sudoers_line.specs.declared.node.Kind.TheVariants.{Host as OfHosts};
+ghost use Rattle.sudoers_reader.specs.View.{groups_shown};
+ghost use Rattle.sudoers_hits.specs.Hits.{host_hits};
+ghost use Rattle.sudoers_check.specs.Chains.{HasReachableCycle};
+ghost use Rattle.sudoers_verdict.specs.declared.verdict.AskFault.TheVariants.{Cycle, NoMemory};
+ghost use Rattle.sudoers_verdict.specs.Search.{Remembers};
+ghost use Rattle.sudoers_match.specs.Groups.{AreHostGroups, GroupPlaces};
+ghost use Rattle.sudoers_match.specs.Asked.{IsAllAdded, HostsLeadToCycle};
+
+use crate::allowing::allows;
+use std::alloc::{AllocError, Global};
+use sudoers_check::{Numbers, reachable_cycle};
+use sudoers_hits::Who;
+use sudoers_tree::{GroupRow, Kind, Node, Policy, Rows};
+use sudoers_verdict::{AskFault, Hosts, Users, Verdicts};
+
+/// Where a host group stands (sudoers(5), User specification).
+#[derive(Clone, Copy, Debug, PartialEq, Eq)]
+pub struct GroupPlace {
+    /// The number of the user specification among all of them, from 0.
+    pub spec: usize,
+    /// The number of the host group in the user specification, from 0.
+    pub host_group: usize,
+}
+
+/// Returns the places of the host groups, in file order, whose users and whose hosts match `who`.
+///
+/// # Errors
+///
+/// `Cycle`: a reachable alias is cyclic. `NoMemory`: memory ran out.
+pub fn host_groups(alloc: Global, policy: &Policy, who: &Who) -> Result<Vec<GroupPlace>, AskFault>
+    ensures groups { IfOk result (λ places. AreHostGroups policy.now who.now places.items) }
+    ensures straight { IfOk result (λ _. HasReachableCycle policy.now → ⊥) }
+    ensures fault { IfErr result (λ fault. (fault ≡ NoMemory) ⊎ ((fault ≡ Cycle) × HasReachableCycle policy.now)) }
+{
+    if reachable_cycle(alloc, policy)? {
+        return Err(AskFault::Cycle);
+    }
+    let numbers = Numbers::new(alloc, policy)?;
+    let mut users_said = Verdicts::new::<Users>(alloc, &numbers, Kind::User, &who.user)?;
+    let mut hosts_said = Verdicts::new::<Hosts>(alloc, &numbers, Kind::Host, who)?;
+    let mut places = Vec::new(alloc);
+    let mut spec = 0;
+    let lines = policy.lines();
+    for row in lines.rows {
+        if let Node::Spec { users, groups } = lines.tables.node(&row.node) {
+            if allows::<Users>(&mut users_said, &numbers, Kind::User, &users, &who.user)? {
+                add_groups(&mut places, &mut hosts_said, &numbers, who, spec, &groups)?;
+            }
+            spec += 1;
+        }
+    }
+    Ok(places)
+}
+
+/// Adds the places of the host groups of a user specification whose hosts match.
+fn add_groups<'a>(
+    places: &mut Vec<GroupPlace>,
+    verdicts: &mut Verdicts<'a>,
+    numbers: &Numbers<'a>,
+    who: &Who,
+    spec: usize,
+    groups: &Rows<'_, GroupRow>,
+) -> Result<(), AskFault>
+    requires { Remembers OfHosts numbers.now.policy.now (host_hits who.now) verdicts.old }
+    ensures kept { IfOk result (λ _. Remembers OfHosts numbers.now.policy.now (host_hits who.now) verdicts.new) }
+    ensures added { IfOk result (λ _. IsAllAdded (GroupPlaces numbers.now.policy.now who.now spec) (groups_shown groups.now) places.old.items places.new.items) }
+    ensures fault { IfErr result (λ fault. (fault ≡ NoMemory) ⊎ ((fault ≡ Cycle) × HostsLeadToCycle numbers.now.policy.now (groups_shown groups.now))) }
+{
+    let tables = groups.tables;
+    for (host_group, row) in groups.rows.iter().enumerate() {
+        let group = tables.group(row);
+        if allows::<Hosts>(verdicts, numbers, Kind::Host, &group.hosts, who)? {
+            push_place(places, GroupPlace { spec, host_group })?;
+        }
+    }
+    Ok(())
+}
+
+/// Adds `place` after `places`.
+fn push_place(places: &mut Vec<GroupPlace>, place: GroupPlace) -> Result<(), AllocError>
+    ensures { OnOk result (places.new.items ≡ places.old.items ++ place ∷ []) }
+{
+    places.push(place)?;
+    Ok(())
+}

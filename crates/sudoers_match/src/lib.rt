@@ -1,0 +1,9 @@
+//! Who may run what, and where.
+#![tactic(auto)]
+
+mod allowing;
+mod groups;
+
+pub use groups::{GroupPlace, host_groups};
+pub use sudoers_hits::{Group, Interface, Person, Who};
+pub use sudoers_verdict::AskFault;
