@@ -18,8 +18,9 @@ A row without a sign is a policy. The rows below it are what is asked: A allows 
 and says nothing of those with `?`. Those with `!` have no answer, because of a cyclic alias.
 
     host groups     where a user has rules on a host
+    runas default   as whom a command runs for a user on a host where nothing else is said: a name, or `empty`
 
-A row that does not begin with `? ` is a policy. A row `? USER GROUPS @ HOST => PLACES` below it asks of a user and a
+A row that does not begin with `? ` is a policy. A row `? USER GROUPS @ HOST => ANSWER` below it asks of a user and a
 host as above. The places are pairs of numbers from 0, that of the user specification and that of its host group.
 """
 
@@ -30,6 +31,7 @@ from tables import Case, NoRow, frame, run_tables, text_of, unrolled
 ASKED = {("glob", "path"): b"p", ("glob", "args"): b"a", ("glob", "host"): b"l", ("network",): b"n"}
 SIGNS = {"+ ": "true", "- ": "false"}
 LISTS = {"user": b"U", "runas": b"R", "group": b"G", "host": b"H", "command": b"C"}
+POLICIES = {("host", "groups"): b"K", ("runas", "default"): b"D"}
 VERDICTS = {"+ ": "Allow", "- ": "Deny", "? ": "Unsaid", "! ": "Cycle"}
 
 
@@ -72,9 +74,9 @@ def parts_asked(asked, row):
     return [part for one in [words[0], *groups] for part in numbered(one)]
 
 
-def cases_of_places(group):
-    """The cases of a group of host groups."""
-    policy = None
+def cases_of_policies(group):
+    """The cases of a group of questions of a user on a host."""
+    asked_of, policy = POLICIES[group.words], None
     for number, row in group.rows:
         if row[:2] != "? ":
             policy = row
@@ -84,7 +86,7 @@ def cases_of_places(group):
         if policy is None or not (arrow and at):
             raise group.error(number, "a question without a policy, a host or an answer")
         parts = [text_of(policy), *parts_asked(b"H", host), *parts_asked(b"U", user)]
-        yield Case(f"{group.where}:{number}: {group.title}: {policy}: {row}", frame(b"K", *parts), wanted, str)
+        yield Case(f"{group.where}:{number}: {group.title}: {policy}: {row}", frame(asked_of, *parts), wanted, str)
 
 
 def cases_of_lists(group):
@@ -105,8 +107,8 @@ def cases_of_group(group):
     if group.words[0] == "decide" and group.words[1:] and group.words[1] in LISTS:
         yield from cases_of_lists(group)
         return
-    if group.words == ("host", "groups"):
-        yield from cases_of_places(group)
+    if group.words in POLICIES:
+        yield from cases_of_policies(group)
         return
     if group.words not in ASKED:
         raise NoRow(f"{' '.join(group.words)}: {group.title}: this is not known")

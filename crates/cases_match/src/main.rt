@@ -6,7 +6,7 @@
 
 mod lists;
 mod patterns;
-mod places;
+mod policies;
 
 use case_frames::{Case, next_case, read_input};
 use std::alloc::{AllocError, Global};
@@ -38,7 +38,7 @@ fn answers_of(alloc: Global, input: &[u8]) -> Result<String, AllocError> {
 fn push_answer(alloc: Global, case: Case<'_>, answers: &mut String) -> Result<(), AllocError> {
     match case.asked {
         b'p' | b'a' | b'l' | b'n' => answers.push_str(patterns::answer_of(alloc, case)?),
-        b'K' => places::push_answer(alloc, case, answers),
+        b'K' | b'D' => policies::push_answer(alloc, case, answers),
         _ => answers.push_str(lists::answer_of(alloc, case)?),
     }
 }

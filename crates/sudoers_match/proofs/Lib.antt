@@ -2,3 +2,5 @@ pub mod Gathered
 pub mod Said
 pub mod Reached
 pub mod Passed
+pub mod Lasts
+pub mod Settings

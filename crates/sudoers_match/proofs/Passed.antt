@@ -1,5 +1,5 @@
 -- One line more.
-use Rattle.std.proofs.Common.{◌≡◌, ◌⊎◌, inl, inr, ℕ, ◌+◌, ◌<◌, ◌≤◌, List, [], ◌∷◌, ◌++◌, length, map, drop, get_or, slice_get, Some, None, refl, sym, ap, subst, ◌∙◌, append_assoc, append-nil}
+use Rattle.std.proofs.Common.{◌≡◌, ◌⊎◌, inl, inr, ℕ, ◌+◌, ◌<◌, ◌≤◌, List, [], ◌∷◌, ◌++◌, length, map, drop, get_or, slice_get, Some, None, refl, sym, ap, subst, ◌∙◌, append_assoc, append-nil, Option}
 use Rattle.std.specs.List.{cons_option}
 use Rattle.std.proofs.lemmas.List.{drop_more, drop_all}
 use Rattle.sudoers_line.specs.declared.node.Kind.TheVariants.{User}
@@ -8,10 +8,14 @@ use Rattle.sudoers_reader.specs.declared.list.Rows.{Rows}
 use Rattle.sudoers_reader.specs.declared.rows.MemberRow.{MemberRow}
 use Rattle.sudoers_reader.specs.declared.rows.GroupRow.{GroupRow}
 use Rattle.sudoers_reader.specs.declared.rows.Tables.{Tables}
+use Rattle.std.specs.Option.{option_map}
+use Rattle.sudoers_reader.specs.declared.rows.ParamRow.{ParamRow}
+use Rattle.sudoers_reader.specs.declared.view.Scope.{Scope as ScopeView}
+use Rattle.sudoers_match.specs.Default.{defaults_in}
 use Rattle.sudoers_reader.specs.declared.view.Node.{Node as NodeView}
 use Rattle.sudoers_reader.specs.declared.view.Node.TheVariants as view
 use Rattle.sudoers_reader.specs.Tables.{node_in}
-use Rattle.sudoers_reader.specs.View.{members_shown, groups_shown, node_shown}
+use Rattle.sudoers_reader.specs.View.{members_shown, groups_shown, params_shown, scope_shown, node_shown}
 use Rattle.sudoers_tree.specs.Line.{Line, line_in}
 use Rattle.sudoers_tree.specs.declared.line.LineRow.{LineRow}
 use Rattle.sudoers_check.specs.Chains.{HasReachableCycle}
@@ -22,9 +26,9 @@ use Rattle.sudoers_verdict.specs.Cycle.{LeadsToCycle}
 use Rattle.sudoers_match.specs.declared.groups.GroupPlace.{GroupPlace}
 use Rattle.sudoers_match.specs.Specs.{Spec, spec_in, specs_of, AreJoined}
 use Rattle.sudoers_match.specs.Groups.{SpecPlaces}
-use Rattle.sudoers_match.specs.Asked.{HostsLeadToCycle}
+use Rattle.sudoers_match.specs.Asked.{HostsLeadToCycle, ScopeLeadsToCycle}
 use Rattle.sudoers_match.proofs.Gathered.{at_map, joined_more}
-use Rattle.sudoers_match.proofs.Reached.{has_at, users_reach, hosts_reach}
+use Rattle.sudoers_match.proofs.Reached.{has_at, users_reach, hosts_reach, scope_reach}
 
 no_spec : (n : NodeView) → ((users : Rows MemberRow) (groups : Rows GroupRow) → n ≡ view.Spec users groups → ⊥) → spec_in (node_shown n) ≡ None
 no_spec (view.Spec users groups) other = absurd (other users groups refl)
@@ -34,9 +38,20 @@ no_spec (view.Include dir path) other = refl
 no_spec (view.Defaults scope params) other = refl
 no_spec (view.Alias kind defs) other = refl
 
+no_default : (n : NodeView) → ((scope : Option ScopeView) (params : Rows ParamRow) → n ≡ view.Defaults scope params → ⊥) → defaults_in (node_shown n) ≡ []
+no_default (view.Defaults scope params) other = absurd (other scope params refl)
+no_default view.Blank other = refl
+no_default view.Comment other = refl
+no_default (view.Include dir path) other = refl
+no_default (view.Spec users groups) other = refl
+no_default (view.Alias kind defs) other = refl
+
 module _ (t : Tables) (rows : List LineRow) (i : ℕ) (d : LineRow) (within : i < length rows) (n : NodeView) (is : node_shown n ≡ node_in t (get_or rows i d).node) where
   abbrev pub line : Line
   line = line_in t (get_or rows i d)
+
+  pub line_at : slice_get (map (line_in t) rows) i ≡ Some line
+  line_at = at_map (line_in t) rows i d within line refl
 
   abbrev pub Specs : ℕ → List Spec
   Specs from = specs_of (map (line_in t) (drop from rows))
@@ -63,15 +78,12 @@ module _ (t : Tables) (rows : List LineRow) (i : ℕ) (d : LineRow) (within : i 
         (joined_more (SpecPlaces lines who) s spec (Specs (i + 1)) more rest p j)))
 
     module _ (policy lines : List Line) (shown : map (line_in t) rows ≡ policy) (same : lines ≡ policy) (fault : AskFault) where
-      stands : slice_get (map (line_in t) rows) i ≡ Some line
-      stands = at_map (line_in t) rows i d within line refl
-
       pub users_fault : (fault ≡ NoMemory) ⊎ ((fault ≡ Cycle) × LeadsToCycle User lines (members_shown users)) → (fault ≡ NoMemory) ⊎ ((fault ≡ Cycle) × HasReachableCycle policy)
       users_fault (inl e) = inl e
       users_fault (inr l) = inr (
         l.0,
         users_reach policy line (members_shown users) (groups_shown groups)
-            (has_at policy i line (ap (λ ls. slice_get ls i) (sym shown) ∙ stands)) says
+            (has_at policy i line (ap (λ ls. slice_get ls i) (sym shown) ∙ line_at)) says
             (subst (λ ls. LeadsToCycle User ls (members_shown users)) same l.1),
       )
 
@@ -80,9 +92,26 @@ module _ (t : Tables) (rows : List LineRow) (i : ℕ) (d : LineRow) (within : i 
       hosts_fault (inr l) = inr (
         l.0,
         hosts_reach policy line (members_shown users) (groups_shown groups)
-            (has_at policy i line (ap (λ ls. slice_get ls i) (sym shown) ∙ stands)) says
+            (has_at policy i line (ap (λ ls. slice_get ls i) (sym shown) ∙ line_at)) says
             (subst (λ ls. HostsLeadToCycle ls (groups_shown groups)) same l.1),
       )
+
+  module _ (scope : Option ScopeView) (params : Rows ParamRow) (it : n ≡ view.Defaults scope params) where
+    pub says_defaults : line.node ≡ node.Defaults (option_map scope_shown scope) (params_shown params)
+    says_defaults = sym is ∙ ap node_shown it
+
+    pub scope_fault : (policy lines : List Line) → map (line_in t) rows ≡ policy → lines ≡ policy → (fault : AskFault)
+        → (fault ≡ NoMemory) ⊎ ((fault ≡ Cycle) × ScopeLeadsToCycle lines (option_map scope_shown scope)) → (fault ≡ NoMemory) ⊎ ((fault ≡ Cycle) × HasReachableCycle policy)
+    scope_fault policy lines shown same fault (inl e) = inl e
+    scope_fault policy lines shown same fault (inr l) = inr (
+      l.0,
+      scope_reach policy line (option_map scope_shown scope) (params_shown params)
+          (has_at policy i line (ap (λ ls. slice_get ls i) (sym shown) ∙ line_at)) says_defaults
+          (subst (λ ls. ScopeLeadsToCycle ls (option_map scope_shown scope)) same l.1),
+    )
+
+  pub no_default_in : ((scope : Option ScopeView) (params : Rows ParamRow) → n ≡ view.Defaults scope params → ⊥) → defaults_in line.node ≡ []
+  no_default_in other = ap defaults_in (sym is) ∙ no_default n other
 
   -- another line more
   pub none_more : ((users : Rows MemberRow) (groups : Rows GroupRow) → n ≡ view.Spec users groups → ⊥)

@@ -1,20 +1,22 @@
 -- Lists of user specifications that lead to cyclic aliases.
-use Rattle.std.proofs.Common.{◌≡◌, ◌⊎◌, inl, inr, ℕ, zero, suc, List, [], ◌∷◌, ◌++◌, slice_get, Some, sym, subst}
+use Rattle.std.proofs.Common.{refl, ◌≡◌, ◌⊎◌, inl, inr, ℕ, zero, suc, List, [], ◌∷◌, ◌++◌, slice_get, Some, sym, subst, true, Option, None, if◌then◌else◌}
 use Rattle.std.specs.List.{flat_map}
 use Rattle.sudoers_line.specs.declared.node.Kind.{Kind}
-use Rattle.sudoers_line.specs.declared.node.Kind.TheVariants.{User, Host}
+use Rattle.sudoers_line.specs.declared.node.Kind.TheVariants.{User, Runas, Host, Cmnd}
 use Rattle.sudoers_line.specs.declared.node.Member.{Member}
 use Rattle.sudoers_line.specs.declared.node.HostGroup.{HostGroup}
+use Rattle.sudoers_line.specs.declared.node.Scope.{Scope}
+use Rattle.sudoers_line.specs.declared.node.Param.{Param}
 use Rattle.sudoers_line.specs.declared.node.Node.TheVariants as node
 use Rattle.sudoers_tree.specs.Line.{Line}
-use Rattle.sudoers_tree.specs.Definition.{definitions}
+use Rattle.sudoers_tree.specs.Definition.{definitions, is_kind}
 use Rattle.sudoers_tree.specs.Mention.{in_group}
 use Rattle.sudoers_check.specs.Chain.{Has, Chain, here, onward}
 use Rattle.sudoers_check.specs.Chains.{name_in, names_in, Joins, roots_in, roots, HasReachableCycle}
 use Rattle.sudoers_verdict.specs.declared.verdict.AskFault.{AskFault}
 use Rattle.sudoers_verdict.specs.declared.verdict.AskFault.TheVariants.{Cycle, NoMemory}
 use Rattle.sudoers_verdict.specs.Cycle.{LeadsToCycle}
-use Rattle.sudoers_match.specs.Asked.{HostsLeadToCycle}
+use Rattle.sudoers_match.specs.Asked.{HostsLeadToCycle, ScopeLeadsToCycle}
 
 module _ {X : Type 0} where
   pub has_at : (xs : List X) (i : ℕ) (x : X) → slice_get xs i ≡ Some x → Has xs x
@@ -62,6 +64,12 @@ from_more : {X : Type 0} {Step : X → X → Type 0} (P Q : X → Type 0) → ((
 from_more P Q wider x (here y p) = here y (wider y p)
 from_more P Q wider x (onward y z c s) = onward y z (from_more P Q wider y c) s
 
+same_kind : (k : Kind) → is_kind k k ≡ true
+same_kind User = refl
+same_kind Runas = refl
+same_kind Host = refl
+same_kind Cmnd = refl
+
 module _ (lines : List Line) where
   -- a list whose names are among those of a line
   reaches : (k : Kind) (line : Line) (ms : List Member) → Has lines line → ((name : List ℕ) → Has (names_in ms) name → Has (roots_in k line.node) name)
@@ -88,3 +96,11 @@ module _ (lines : List Line) where
       → (fault : AskFault) → (fault ≡ NoMemory) ⊎ ((fault ≡ Cycle) × LeadsToCycle Host lines g.hosts) → (fault ≡ NoMemory) ⊎ ((fault ≡ Cycle) × HostsLeadToCycle lines groups)
   led_by_hosts groups i g at fault (inl e) = inl e
   led_by_hosts groups i g at fault (inr l) = inr (l.0, record { group = g; stands = has_at groups i g at; cycle = l.1 })
+
+  pub scope_reach : (line : Line) (scope : Option Scope) (params : List Param) → Has lines line → line.node ≡ node.Defaults scope params
+      → ScopeLeadsToCycle lines scope → HasReachableCycle lines
+  scope_reach line None params stands e l = absurd l
+  scope_reach line (Some s) params stands e l =
+      reaches s.kind line s.members stands
+      (λ name h. subst (λ n. Has (roots_in s.kind n) name) (sym e)
+      (subst (λ b. Has (names_in (if b then s.members else [])) name) (sym (same_kind s.kind)) h)) l

@@ -1,5 +1,11 @@
 -- A device of the proof, which no public contract cites: what is gathered of things one after another.
-use Rattle.std.specs.Prelude.{◌≡◌, ℕ, List, ◌++◌, drop}
+use Rattle.std.specs.Prelude.{◌≡◌, ℕ, Bool, true, false, List, ◌++◌, drop, take, map, Option, Some, None}
+use Rattle.sudoers_line.specs.declared.node.Scope.{Scope}
+use Rattle.sudoers_hits.specs.declared.asked.Who.{Who}
+use Rattle.sudoers_match.specs.Default.{IsFor, with_scope, settings_in, defaults_of, name_or_root}
+use Rattle.sudoers_match.specs.Last.{IsLast}
+use Rattle.std.specs.Option.{option_map}
+use Rattle.sudoers_line.specs.declared.node.Param.{Param}
 use Rattle.sudoers_line.specs.declared.node.Kind.TheVariants.{Host}
 use Rattle.sudoers_line.specs.declared.node.HostGroup.{HostGroup}
 use Rattle.sudoers_tree.specs.Line.{Line}
@@ -24,3 +30,24 @@ pub record HostsLeadToCycle (lines : List Line) (groups : List HostGroup) : Type
   pub group : HostGroup
   pub stands : Has groups group
   pub cycle : LeadsToCycle Host lines group.hosts
+
+-- The scope allows, or it does not.
+abbrev pub Counts : List Line → Who → Option Scope → Bool → Type 0
+Counts lines who scope true = IsFor lines who scope
+Counts lines who scope false = IsFor lines who scope → ⊥
+
+-- The members of the scope lead to a cyclic alias.
+abbrev pub ScopeLeadsToCycle : List Line → Option Scope → Type 0
+ScopeLeadsToCycle lines None = ⊥
+ScopeLeadsToCycle lines (Some scope) = LeadsToCycle scope.kind lines scope.members
+
+-- It is the last setting of runas_default in a Defaults line, if the line is for this user on this host.
+abbrev pub IsLatestDefault : List Line → Who → Option Scope → List Param → Option (List ℕ) → Type 0
+IsLatestDefault lines who scope params latest =
+    IsLast (λ (setting : Option Scope × List ℕ). IsFor lines who setting.0) (map (with_scope scope) (settings_in params)) (option_map (with_scope scope) latest)
+
+-- The name is that of the last setting that counts in the lines before this one.
+pub record IsNameSoFar (lines : List Line) (who : Who) (all : List Line) (i : ℕ) (name : List ℕ) : Type 0 where
+  pub last : Option (Option Scope × List ℕ)
+  pub is_last : IsLast (λ (setting : Option Scope × List ℕ). IsFor lines who setting.0) (defaults_of (take i all)) last
+  pub says : name ≡ name_or_root last

@@ -2,8 +2,10 @@
 #![tactic(auto)]
 
 mod allowing;
+mod defaults;
 mod groups;
 
+pub use defaults::runas_default;
 pub use groups::{GroupPlace, host_groups};
 pub use sudoers_hits::{Group, Interface, Person, Who};
 pub use sudoers_verdict::AskFault;

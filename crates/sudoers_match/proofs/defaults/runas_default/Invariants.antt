@@ -1,0 +1,14 @@
+use Rattle.std.proofs.Common.{map}
+use Rattle.sudoers_line.specs.declared.node.Kind.TheVariants.{User, Host}
+use Rattle.sudoers_hits.specs.Hits.{user_hits, host_hits}
+use Rattle.sudoers_tree.specs.Line.{line_in}
+use Rattle.sudoers_verdict.specs.Search.{Remembers}
+use Rattle.sudoers_match.specs.Asked.{IsNameSoFar}
+use Rattle.sudoers_match.proofs.defaults.runas_default.Given as goal
+
+abbrev pub invariant-loop-row : goal.invariant-loop-row
+invariant-loop-row l = record {
+  users : Remembers User l.numbers.policy.now (user_hits l.who.user) l.users_said;
+  hosts : Remembers Host l.numbers.policy.now (host_hits l.who) l.hosts_said;
+  name : IsNameSoFar l.numbers.policy.now l.who (map (line_in l.lines.tables.now) l.lines.rows.now) l.row-index l.name;
+}

@@ -1,0 +1,140 @@
+//! As whom a command runs where nothing else is said.
+
+ghost use Rattle.std.specs.Prelude.{◌≡◌, ◌⊎◌, ℕ, List, IfOk, IfErr};
+ghost use Rattle.std.specs.Option.{option_map};
+ghost use Rattle.std.specs.Borrow.{Bor};
+ghost use Rattle.sudoers_line.specs.declared.node.Kind.TheVariants.{User as OfUsers, Host as OfHosts};
+ghost use Rattle.sudoers_reader.specs.View.{param_shown, params_shown, scope_shown};
+ghost use Rattle.sudoers_hits.specs.Hits.{user_hits, host_hits};
+ghost use Rattle.sudoers_check.specs.Chains.{HasReachableCycle};
+ghost use Rattle.sudoers_verdict.specs.declared.verdict.AskFault.TheVariants.{Cycle, NoMemory};
+ghost use Rattle.sudoers_verdict.specs.Search.{Remembers};
+ghost use Rattle.sudoers_match.specs.Last.{last_of};
+ghost use Rattle.sudoers_match.specs.Default.{IsRunasDefault, default_in, settings_in};
+ghost use Rattle.sudoers_match.specs.Asked.{Counts, IsLatestDefault, ScopeLeadsToCycle};
+
+use crate::allowing::allows;
+use std::alloc::Global;
+use sudoers_check::{Numbers, reachable_cycle};
+use sudoers_hits::Who;
+use sudoers_tree::{Kind, Node, Operator, Param, ParamRow, Policy, Rows, Scope, Setting};
+use sudoers_verdict::{AskFault, Hosts, Users, Verdicts};
+
+/// Returns the value to which `param` sets runas_default, if it sets it.
+fn default_of<'a>(param: &Param<'a>) -> Option<&'a [u8]>
+    ensures { option_map (λ (name : Bor (List ℕ)). name.now) result ≡ default_in (param_shown param.now) }
+{
+    if param.name != b"runas_default".as_slice() {
+        return None;
+    }
+    if param.negated {
+        return Some(b"root");
+    }
+    match param.setting {
+        Some(
+            Setting {
+                operator: Operator::Set,
+                value,
+            },
+        ) => Some(value),
+        _ => None,
+    }
+}
+
+/// Returns the value of the last setting of runas_default.
+fn last_default<'a>(params: &Rows<'a, ParamRow>) -> Option<&'a [u8]>
+    ensures { option_map (λ (name : Bor (List ℕ)). name.now) result ≡ last_of (settings_in (params_shown params.now)) }
+{
+    let mut latest = None;
+    let tables = params.tables;
+    for row in params.rows {
+        latest = default_of(&tables.param(row)).or(latest);
+    }
+    latest
+}
+
+/// Returns the name of the user as whom a command runs for `who` where nothing else is said: the last setting of runas_default
+/// that is for this user and host, or `root` (sudoers(5), runas_default).
+///
+/// # Errors
+///
+/// `Cycle`: a reachable alias is cyclic. `NoMemory`: memory ran out.
+pub fn runas_default<'a>(alloc: Global, policy: &'a Policy, who: &Who) -> Result<&'a [u8], AskFault>
+    ensures name { IfOk result (λ name. IsRunasDefault policy.now who.now name.now) }
+    ensures straight { IfOk result (λ _. HasReachableCycle policy.now → ⊥) }
+    ensures fault { IfErr result (λ fault. (fault ≡ NoMemory) ⊎ ((fault ≡ Cycle) × HasReachableCycle policy.now)) }
+{
+    if reachable_cycle(alloc, policy)? {
+        return Err(AskFault::Cycle);
+    }
+    let numbers = Numbers::new(alloc, policy)?;
+    let mut users_said = Verdicts::new::<Users>(alloc, &numbers, Kind::User, &who.user)?;
+    let mut hosts_said = Verdicts::new::<Hosts>(alloc, &numbers, Kind::Host, who)?;
+    let mut name: &[u8] = b"root";
+    let lines = policy.lines();
+    for row in lines.rows {
+        if let Node::Defaults { scope, params } = lines.tables.node(&row.node) {
+            let latest = default_for(
+                &mut users_said,
+                &mut hosts_said,
+                &numbers,
+                who,
+                &scope,
+                &params,
+            )?;
+            name = latest.unwrap_or(name);
+        }
+    }
+    Ok(name)
+}
+
+/// Returns the value of the last setting of runas_default in a Defaults line, if the line is for `who`.
+fn default_for<'a>(
+    users: &mut Verdicts<'a>,
+    hosts: &mut Verdicts<'a>,
+    numbers: &Numbers<'a>,
+    who: &Who,
+    scope: &Option<Scope<'_>>,
+    params: &Rows<'a, ParamRow>,
+) -> Result<Option<&'a [u8]>, AskFault>
+    requires users { Remembers OfUsers numbers.now.policy.now (user_hits who.now.user) users.old }
+    requires hosts { Remembers OfHosts numbers.now.policy.now (host_hits who.now) hosts.old }
+    ensures users { IfOk result (λ _. Remembers OfUsers numbers.now.policy.now (user_hits who.now.user) users.new) }
+    ensures hosts { IfOk result (λ _. Remembers OfHosts numbers.now.policy.now (host_hits who.now) hosts.new) }
+    ensures latest { IfOk result (λ latest. IsLatestDefault numbers.now.policy.now who.now (option_map scope_shown scope.now) (params_shown params.now) (option_map (λ (name : Bor (List ℕ)). name.now) latest)) }
+    ensures fault { IfErr result (λ fault. (fault ≡ NoMemory) ⊎ ((fault ≡ Cycle) × ScopeLeadsToCycle numbers.now.policy.now (option_map scope_shown scope.now))) }
+{
+    let Some(name) = last_default(params) else {
+        return Ok(None);
+    };
+    if counts(users, hosts, numbers, who, scope)? {
+        Ok(Some(name))
+    } else {
+        Ok(None)
+    }
+}
+
+/// Returns whether a setting with this scope counts for `who`.
+fn counts<'a>(
+    users: &mut Verdicts<'a>,
+    hosts: &mut Verdicts<'a>,
+    numbers: &Numbers<'a>,
+    who: &Who,
+    scope: &Option<Scope<'_>>,
+) -> Result<bool, AskFault>
+    requires users { Remembers OfUsers numbers.now.policy.now (user_hits who.now.user) users.old }
+    requires hosts { Remembers OfHosts numbers.now.policy.now (host_hits who.now) hosts.old }
+    ensures users { IfOk result (λ _. Remembers OfUsers numbers.now.policy.now (user_hits who.now.user) users.new) }
+    ensures hosts { IfOk result (λ _. Remembers OfHosts numbers.now.policy.now (host_hits who.now) hosts.new) }
+    ensures counted { IfOk result (λ counted. Counts numbers.now.policy.now who.now (option_map scope_shown scope.now) counted) }
+    ensures fault { IfErr result (λ fault. (fault ≡ NoMemory) ⊎ ((fault ≡ Cycle) × ScopeLeadsToCycle numbers.now.policy.now (option_map scope_shown scope.now))) }
+{
+    let Some(scope) = scope else {
+        return Ok(true);
+    };
+    match scope.kind {
+        Kind::User => allows::<Users>(users, numbers, Kind::User, &scope.members, &who.user),
+        Kind::Host => allows::<Hosts>(hosts, numbers, Kind::Host, &scope.members, who),
+        Kind::Runas | Kind::Cmnd => Ok(false),
+    }
+}
