@@ -4,3 +4,5 @@ pub mod Reached
 pub mod Passed
 pub mod Lasts
 pub mod Settings
+pub mod Tagged
+pub mod Valued

@@ -3,4 +3,7 @@ pub mod Allows
 pub mod Groups
 pub mod Last
 pub mod Default
+pub mod Heads
+pub mod Values
+pub mod IsHead
 pub mod Asked
