@@ -37,7 +37,7 @@ const CLASSES: [Class; 12] = [
 ];
 
 impl Class {
-    /// How a set names it.
+    /// Returns the name of the class in a set.
     pub fn name(self) -> &'static [u8]
         ensures { result.now ≡ name_of self }
     {
@@ -57,7 +57,7 @@ impl Class {
         }
     }
 
-    /// Whether the byte is of it.
+    /// Returns whether the class has `byte`.
     pub fn has(self, byte: u8) -> bool
         ensures { result ≡ is_of_class self byte }
     {
@@ -84,7 +84,7 @@ fn is_alnum(byte: u8) -> bool
     matches!(byte, b'0'..=b'9' | b'A'..=b'Z' | b'a'..=b'z')
 }
 
-/// The byte, in lower case if that is wanted.
+/// Returns `byte`, in lower case if `lower`.
 #[tactic(auto, unfolding(crate::specs::Folded::folded))]
 pub fn fold(lower: bool, byte: u8) -> u8
     ensures { result ≡ folded lower byte }
@@ -96,7 +96,7 @@ pub fn fold(lower: bool, byte: u8) -> u8
     }
 }
 
-/// Whether the bytes begin with the name.
+/// Returns whether `bytes` begin with `name`.
 fn begins(bytes: &[u8], name: &[u8], lower: bool) -> bool
     ensures { result ≡ begins_with (read lower bytes.now) name.now }
 {
@@ -108,7 +108,7 @@ fn begins(bytes: &[u8], name: &[u8], lower: bool) -> bool
     true
 }
 
-/// The class whose name begins the bytes.
+/// Returns the class whose name begins `bytes`.
 pub fn class_at(bytes: &[u8], lower: bool) -> Option<Class>
     ensures { result ≡ class_at (read lower bytes.now) }
 {

@@ -15,7 +15,7 @@ pub enum SetItem {
 }
 
 impl SetItem {
-    /// Whether the byte is of it.
+    /// Returns whether the item has `byte`.
     pub fn has(self, byte: u8) -> bool
         ensures { result ≡ has_byte byte self }
     {
@@ -26,7 +26,7 @@ impl SetItem {
     }
 }
 
-/// What an end of a range is, with its length.
+/// Returns the end of a range that begins `bytes`, and its length.
 fn bound(bytes: &[u8], lower: bool) -> Option<(u8, usize)>
     ensures { result ≡ bound_at (read lower bytes.now) }
 {
@@ -42,7 +42,7 @@ fn bound(bytes: &[u8], lower: bool) -> Option<(u8, usize)>
     }
 }
 
-/// The upper end of a range, from its `-` on.
+/// Returns the upper end of a range, and its length. `bytes` begin with its `-`.
 fn upper_bound(bytes: &[u8], lower: bool) -> Option<(u8, usize)>
     ensures { result ≡ behind_dash (read lower bytes.now) }
 {
@@ -61,7 +61,7 @@ fn upper_bound(bytes: &[u8], lower: bool) -> Option<(u8, usize)>
     bound(rest, lower)
 }
 
-/// The item that begins the bytes, and its length.
+/// Returns the item that begins `bytes`, and its length.
 fn item_at(bytes: &[u8], lower: bool) -> (SetItem, usize)
     requires { bytes.now ≢ [] }
     ensures item { result ≡ set_item (read lower bytes.now) }
@@ -80,7 +80,7 @@ fn item_at(bytes: &[u8], lower: bool) -> (SetItem, usize)
     }
 }
 
-/// Where the set ends that begins behind a `[` or `[!`, and whether it has the byte.
+/// Returns where a set ends whose first item begins `bytes`, and whether it has the byte.
 pub fn set_has(bytes: &[u8], byte: u8, lower: bool) -> Option<(usize, bool)>
     ensures set { result ≡ seen_in byte 0 false (set_at (read lower bytes.now)) }
     ensures within { IfSome result (λ set. set.0 < length bytes.now) }

@@ -18,7 +18,7 @@ pub enum GlobMode {
 }
 
 impl GlobMode {
-    /// Whether a wildcard may take the byte.
+    /// Returns whether a wildcard may take the byte.
     fn may_take(self, byte: u8) -> bool
         ensures { result ≡ may_take self byte }
     {

@@ -23,7 +23,7 @@ assigned operator.Set value = Some value
 assigned operator.Add value = None
 assigned operator.Remove value = None
 
--- what a parameter sets it to: `!` sets it to root, and the other forms without a value set nothing
+-- what a parameter sets it to: `=` sets it to the value, an odd number of `!` to root; every other form sets nothing
 abbrev pub set_to : Bool → Option Setting → Option (List ℕ)
 set_to true setting = Some (codes "root")
 set_to false None = None

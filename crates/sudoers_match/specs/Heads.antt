@@ -11,7 +11,7 @@ use Rattle.sudoers_line.specs.declared.node.Tag.TheVariants as tag
 use Rattle.sudoers_line.specs.declared.node.Member.{Member}
 use Rattle.sudoers_match.specs.declared.tags.Tags.{Tags}
 
--- As whom, and the options and tags of this command behind those of the commands before it.
+-- The Runas_Spec of a command, and the options and tags of the commands before it and of itself, in this order.
 pub record Head : Type 0 where
   pub runas : Option RunasSpec
   pub options : List (OptionName × List ℕ)
@@ -84,7 +84,7 @@ option_names =
 abbrev pub listed : (OptionName → Option (List ℕ)) → List (OptionName × List ℕ)
 listed value_of = filter_map (λ name. option_map (λ (value : List ℕ). (name, value)) (value_of name)) option_names
 
--- the tags with one more
+-- A device of the proof, which no public contract cites: the tags with one more.
 abbrev pub set_tag : Tag → Bool → Tags → Tags
 set_tag t on tags = record {
   exec = option_or (if tag_place tag.Exec == tag_place t then Some on else None) tags.exec;

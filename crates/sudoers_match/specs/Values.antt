@@ -51,6 +51,7 @@ values_shown o = record {
   chroot = value_shown o.chroot;
 }
 
+-- A device of the proof, which no public contract cites: the values with one more.
 abbrev pub set_value : OptionName → List ℕ → Values → Values
 set_value name text values = record {
   role = option_or (if option_place option.Role == option_place name then Some text else None) values.role;

@@ -31,7 +31,7 @@ pub fn one_flat()
     ensures { (k : KindOf) (lines : List LineOf) (ms : List MemberOf) (fs others : List Signed) → IsFlat k lines ms fs → IsFlat k lines ms others → fs ≡ others }
 {}
 
-/// A list says nothing of which no atom matches.
+/// A list in which no atom matches says nothing.
 pub fn no_hit_is_unsaid()
     ensures { (k : KindOf) (lines : List LineOf) (test : AtomOf → Bool) (ms : List MemberOf) (fs : List Signed) → IsFlat k lines ms fs
         → ((s : Signed) → Has fs s → hit_of test s ≡ None) → IsVerdict k lines test ms Unsaid }

@@ -54,7 +54,7 @@ fn said<K: MemberKind>(member: &Member<'_>, asked: &K::Asked) -> Option<Hit>
 }
 
 impl<'a> Verdicts<'a> {
-    /// Returns the verdicts of which nothing is known.
+    /// Returns verdicts that hold no alias yet.
     ///
     /// # Errors
     ///
