@@ -22,16 +22,25 @@ and says nothing of those with `?`. Those with `!` have no answer, because of a 
 
 A row that does not begin with `? ` is a policy. A row `? USER GROUPS @ HOST => ANSWER` below it asks of a user and a
 host as above. The places are pairs of numbers from 0, that of the user specification and that of its host group.
+
+    answer          what the policy answers to a request
+
+The rows are as above, and a question is `? USER GROUPS @ HOST as TARGET GROUPS group GROUP at MOMENT runs COMMAND`.
+Without `as` the target is root, without `group` none is asked for, and `at` stands only where the moment matters. The
+answer is `allow` or `deny`, the place of the row (user specification, host group and command, from 0), and the tags
+and options that hold of the command; or `none`, `Cycle` or `TooLong`.
 """
 
+import re
 import struct
 
-from tables import Case, NoRow, frame, run_tables, text_of, unrolled
+from tables import Case, NoRow, frame, part, run_tables, text_of, unrolled
 
 ASKED = {("glob", "path"): b"p", ("glob", "args"): b"a", ("glob", "host"): b"l", ("network",): b"n"}
 SIGNS = {"+ ": "true", "- ": "false"}
 LISTS = {"user": b"U", "runas": b"R", "group": b"G", "host": b"H", "command": b"C"}
-POLICIES = {("host", "groups"): b"K", ("runas", "default"): b"D"}
+POLICIES = {("host", "groups"): b"K", ("runas", "default"): b"D", ("answer",): b"A"}
+REQUEST = re.compile("(?P<user>.+?) @ (?P<host>.+?)(?: as (?P<target>.+?))?(?: group (?P<group>.+?))?(?: at (?P<moment>[0-9]+))? runs (?P<command>.+)")
 VERDICTS = {"+ ": "Allow", "- ": "Deny", "? ": "Unsaid", "! ": "Cycle"}
 
 
@@ -74,19 +83,49 @@ def parts_asked(asked, row):
     return [part for one in [words[0], *groups] for part in numbered(one)]
 
 
+def joined(parts):
+    """Parts as one."""
+    return b"".join(map(part, parts))
+
+
+def parts_of_request(asked):
+    """The parts of a request: host, user, target, group, command, arguments and moment; `None` if it is none."""
+    found = REQUEST.fullmatch(asked)
+    if found is None:
+        return None
+    command, *args = unrolled(found["command"]).split(" ")
+    return [
+        joined(parts_asked(b"H", found["host"])),
+        joined(parts_asked(b"U", found["user"])),
+        joined(parts_asked(b"U", found["target"] or "root:0 root:0")),
+        joined(numbered(found["group"])) if found["group"] else b"",
+        text_of(command),
+        joined(map(text_of, args)),
+        struct.pack(">Q", int(found["moment"] or "20260101000000")),
+    ]
+
+
+def parts_of_user(asked):
+    """The parts of a user on a host; `None` if it is none."""
+    user, at, host = asked.partition(" @ ")
+    return [*parts_asked(b"H", host), *parts_asked(b"U", user)] if at else None
+
+
 def cases_of_policies(group):
-    """The cases of a group of questions of a user on a host."""
+    """The cases of a group of questions to a policy."""
     asked_of, policy = POLICIES[group.words], None
     for number, row in group.rows:
         if row[:2] != "? ":
             policy = row
             continue
         asked, arrow, wanted = row[2:].partition(" => ")
-        user, at, host = asked.partition(" @ ")
-        if policy is None or not (arrow and at):
-            raise group.error(number, "a question without a policy, a host or an answer")
-        parts = [text_of(policy), *parts_asked(b"H", host), *parts_asked(b"U", user)]
-        yield Case(f"{group.where}:{number}: {group.title}: {policy}: {row}", frame(asked_of, *parts), wanted, str)
+        if policy is None or not arrow:
+            raise group.error(number, "a question without a policy or an answer")
+        parts = parts_of_request(asked) if asked_of == b"A" else parts_of_user(asked)
+        if parts is None:
+            raise group.error(number, "this is no question")
+        name = f"{group.where}:{number}: {group.title}: {policy}: {row}"
+        yield Case(name, frame(asked_of, text_of(policy), *parts), wanted, str)
 
 
 def cases_of_lists(group):

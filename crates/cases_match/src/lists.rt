@@ -49,12 +49,12 @@ fn said<K: MemberKind>(
 }
 
 /// Returns the first part, empty if there is none, and the bytes after it.
-fn part_of(bytes: &[u8]) -> (&[u8], &[u8]) {
+pub fn part_of(bytes: &[u8]) -> (&[u8], &[u8]) {
     next_part(bytes).unwrap_or((b"", b""))
 }
 
 /// Returns the group that two parts are, a name and a number of four bytes, and the bytes after them.
-fn group_of(alloc: Global, bytes: &[u8]) -> Result<(Group, &[u8]), AllocError> {
+pub fn group_of(alloc: Global, bytes: &[u8]) -> Result<(Group, &[u8]), AllocError> {
     let (name, rest) = part_of(bytes);
     let (number, rest) = part_of(rest);
     let group = Group {

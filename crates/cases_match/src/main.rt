@@ -7,6 +7,7 @@
 mod lists;
 mod patterns;
 mod policies;
+mod requests;
 
 use case_frames::{Case, next_case, read_input};
 use std::alloc::{AllocError, Global};
@@ -39,6 +40,7 @@ fn push_answer(alloc: Global, case: Case<'_>, answers: &mut String) -> Result<()
     match case.asked {
         b'p' | b'a' | b'l' | b'n' => answers.push_str(patterns::answer_of(alloc, case)?),
         b'K' | b'D' => policies::push_answer(alloc, case, answers),
+        b'A' => requests::push_answer(alloc, case, answers),
         _ => answers.push_str(lists::answer_of(alloc, case)?),
     }
 }

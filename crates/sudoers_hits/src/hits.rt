@@ -28,7 +28,7 @@ fn belongs_to(groups: &[Group], name: &[u8]) -> bool
 }
 
 /// Returns whether one of the groups has this number.
-fn belongs_to_number(groups: &[Group], number: u32) -> bool
+pub fn belongs_to_number(groups: &[Group], number: u32) -> bool
     ensures { result ≡ belongs_to_number groups.now number }
 {
     groups.iter().any(|group| number == group.gid)

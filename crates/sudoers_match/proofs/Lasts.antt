@@ -1,9 +1,9 @@
 -- The last of lists.
-use Rattle.std.proofs.Common.{◌≡◌, ℕ, ◌+◌, ◌<◌, ◌≤◌, List, length, map, drop, get_or, Option, Some, None, refl, sym, ap, ◌∙◌}
-use Rattle.std.specs.List.{cons_option, filter_map}
+use Rattle.std.proofs.Common.{◌≡◌, ◌⊎◌, inl, inr, ℕ, ◌+◌, ◌<◌, ◌≤◌, List, [], ◌∷◌, ◌++◌, length, map, drop, get_or, Option, Some, None, refl, sym, ap, subst, ◌∙◌, append_assoc}
+use Rattle.std.specs.List.{AllByRecursion, cons_option, filter_map}
 use Rattle.std.specs.Option.{option_map, option_or}
 use Rattle.std.proofs.lemmas.List.{drop_more, drop_all}
-use Rattle.sudoers_match.specs.Last.{last_of}
+use Rattle.sudoers_match.specs.Last.{IsLast, last_of}
 
 pub or_none : {X : Type 0} (a : Option X) → option_or a None ≡ a
 or_none None = refl
@@ -31,3 +31,59 @@ module _ {R P V : Type 0} (f : R → P) (h : P → Option V) (rows : List R) whe
 
   pub last_all : (i : ℕ) (z : Option V) → length rows ≤ i → option_or (last_of (filter_map h (map f (drop i rows)))) z ≡ z
   last_all i z end = ap (λ rs. option_or (last_of (filter_map h (map f rs))) z) (drop_all i rows end)
+
+-- ---- the last of which something holds
+
+module _ {X : Type 0} (P : X → Type 0) where
+  pub all_append : (xs ys : List X) → AllByRecursion P xs → AllByRecursion P ys → AllByRecursion P (xs ++ ys)
+  all_append [] ys a b = b
+  all_append (x ∷ xs) ys a b = (a.0, all_append xs ys a.1 b)
+
+  all_within : (before : List X) (x : X) (after : List X) → AllByRecursion P (before ++ x ∷ after) → P x
+  all_within [] x after a = a.0
+  all_within (y ∷ before) x after a = all_within before x after a.1
+
+module _ {X : Type 0} (P : X → Type 0) where
+  abbrev Not : X → Type 0
+  Not x = P x → ⊥
+
+  pub last_then : (xs ys : List X) (a b : Option X) → IsLast P xs a → IsLast P ys b → IsLast P (xs ++ ys) (option_or b a)
+  last_then xs ys None None l m = all_append Not xs ys l m
+  last_then xs ys (Some x) None l m =
+      (l.0, l.1 ++ ys, ap (λ zs. zs ++ ys) l.2 ∙ append_assoc l.0 (x ∷ l.1) ys, l.3, all_append Not l.1 ys l.4 m)
+  last_then xs ys a (Some x) l m = (xs ++ m.0, m.1, ap (λ zs. xs ++ zs) m.2 ∙ sym (append_assoc xs m.0 (x ∷ m.1)), m.3, m.4)
+
+  none_of_some : (xs : List X) (x : X) → IsLast P xs (Some x) → AllByRecursion Not xs → ⊥
+  none_of_some xs x l none = all_within Not l.0 x l.1 (subst (AllByRecursion Not) l.2 none) l.3
+
+  -- the last of a list stands behind its first item, or it is that item
+  behind : (x : X) (xs : List X) (a : Option X) → IsLast P (x ∷ xs) a
+      → (IsLast P xs a × (Not x ⊎ ((y : X) × (a ≡ Some y)))) ⊎ ((a ≡ Some x) × P x × AllByRecursion Not xs)
+  behind x xs None l = inl (l.1, inl l.0)
+  behind x xs (Some y) ([], after, e, p, none) =
+      let first : x ≡ y = cc in
+      let rest : xs ≡ after = cc in
+      inr (ap Some (sym first), subst P (sym first) p, subst (AllByRecursion Not) (sym rest) none)
+  behind x xs (Some y) (b ∷ before, after, e, p, none) =
+      let rest : xs ≡ before ++ y ∷ after = cc in
+      inl ((before, after, rest, p, none), inr (y, refl))
+
+  -- there is one
+  pub last_one : (xs : List X) (a b : Option X) → IsLast P xs a → IsLast P xs b → a ≡ b
+  last_one [] None None l m = refl
+  last_one [] (Some x) b l m = absurd (none_of_some [] x l tt)
+  last_one [] None (Some y) l m = absurd (none_of_some [] y m tt)
+  last_one (x ∷ xs) a b l m = elim (behind x xs a l) [
+    | inl s ↦ elim (behind x xs b m) [
+      | inl t ↦ last_one xs a b s.0 t.0
+      | inr t ↦ absurd (clash s.0 s.1 t.1 t.2)
+    ]
+    | inr s ↦ elim (behind x xs b m) [
+      | inl t ↦ absurd (clash t.0 t.1 s.1 s.2)
+      | inr t ↦ s.0 ∙ sym t.0
+    ]
+  ]
+    where
+      clash : {o : Option X} → IsLast P xs o → Not x ⊎ ((y : X) × (o ≡ Some y)) → P x → AllByRecursion Not xs → ⊥
+      clash l (inl other) p none = other p
+      clash l (inr (y, e)) p none = none_of_some xs y (subst (IsLast P xs) e l) none

@@ -6,3 +6,7 @@ pub mod Lasts
 pub mod Settings
 pub mod Tagged
 pub mod Valued
+pub mod Rowed
+pub mod Existing
+pub mod Runases
+pub mod Stamps

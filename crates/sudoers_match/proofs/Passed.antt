@@ -1,8 +1,7 @@
 -- One line more.
-use Rattle.std.proofs.Common.{◌≡◌, ◌⊎◌, inl, inr, ℕ, ◌+◌, ◌<◌, ◌≤◌, List, [], ◌∷◌, ◌++◌, length, map, drop, get_or, slice_get, Some, None, refl, sym, ap, subst, ◌∙◌, append_assoc, append-nil, Option}
+use Rattle.std.proofs.Common.{◌≡◌, ℕ, ◌+◌, ◌<◌, ◌≤◌, List, [], ◌∷◌, ◌++◌, length, map, drop, get_or, slice_get, Some, None, refl, sym, ap, subst, ◌∙◌, append_assoc, append-nil, Option}
 use Rattle.std.specs.List.{cons_option}
 use Rattle.std.proofs.lemmas.List.{drop_more, drop_all}
-use Rattle.sudoers_line.specs.declared.node.Kind.TheVariants.{User}
 use Rattle.sudoers_line.specs.declared.node.Node.TheVariants as node
 use Rattle.sudoers_reader.specs.declared.list.Rows.{Rows}
 use Rattle.sudoers_reader.specs.declared.rows.MemberRow.{MemberRow}
@@ -18,17 +17,11 @@ use Rattle.sudoers_reader.specs.Tables.{node_in}
 use Rattle.sudoers_reader.specs.View.{members_shown, groups_shown, params_shown, scope_shown, node_shown}
 use Rattle.sudoers_tree.specs.Line.{Line, line_in}
 use Rattle.sudoers_tree.specs.declared.line.LineRow.{LineRow}
-use Rattle.sudoers_check.specs.Chains.{HasReachableCycle}
 use Rattle.sudoers_hits.specs.declared.asked.Who.{Who}
-use Rattle.sudoers_verdict.specs.declared.verdict.AskFault.{AskFault}
-use Rattle.sudoers_verdict.specs.declared.verdict.AskFault.TheVariants.{Cycle, NoMemory}
-use Rattle.sudoers_verdict.specs.Cycle.{LeadsToCycle}
 use Rattle.sudoers_match.specs.declared.groups.GroupPlace.{GroupPlace}
 use Rattle.sudoers_match.specs.Specs.{Spec, spec_in, specs_of, AreJoined}
 use Rattle.sudoers_match.specs.Groups.{SpecPlaces}
-use Rattle.sudoers_match.specs.Asked.{HostsLeadToCycle, ScopeLeadsToCycle}
 use Rattle.sudoers_match.proofs.Gathered.{at_map, joined_more}
-use Rattle.sudoers_match.proofs.Reached.{has_at, users_reach, hosts_reach, scope_reach}
 
 no_spec : (n : NodeView) → ((users : Rows MemberRow) (groups : Rows GroupRow) → n ≡ view.Spec users groups → ⊥) → spec_in (node_shown n) ≡ None
 no_spec (view.Spec users groups) other = absurd (other users groups refl)
@@ -63,8 +56,11 @@ module _ (t : Tables) (rows : List LineRow) (i : ℕ) (d : LineRow) (within : i 
     abbrev pub spec : Spec
     spec = record { users = members_shown users; groups = groups_shown groups }
 
-    says : line.node ≡ node.Spec (members_shown users) (groups_shown groups)
+    pub says : line.node ≡ node.Spec (members_shown users) (groups_shown groups)
     says = sym is ∙ ap node_shown it
+
+    pub left_spec : Specs i ≡ spec ∷ Specs (i + 1)
+    left_spec = left_specs ∙ ap (λ m. cons_option (spec_in (node_shown m)) (Specs (i + 1))) it
 
     -- a user specification more
     pub spec_more : (who : Who) (lines : List Line) (Goal : List GroupPlace → Type 0) (s : ℕ) (places new more : List GroupPlace)
@@ -72,52 +68,25 @@ module _ (t : Tables) (rows : List LineRow) (i : ℕ) (d : LineRow) (within : i 
         → new ≡ places ++ more → SpecPlaces lines who s spec more
         → (rest : List GroupPlace) → AreJoined (SpecPlaces lines who) (s + 1) (Specs (i + 1)) rest → Goal (new ++ rest)
     spec_more who lines Goal s places new more so_far e p rest j =
-        let left : Specs i ≡ spec ∷ Specs (i + 1) = left_specs ∙ ap (λ m. cons_option (spec_in (node_shown m)) (Specs (i + 1))) it in
         subst Goal (sym (ap (λ ys. ys ++ rest) e ∙ append_assoc places more rest))
-        (so_far (more ++ rest) (subst (λ xs. AreJoined (SpecPlaces lines who) s xs (more ++ rest)) (sym left)
+        (so_far (more ++ rest) (subst (λ xs. AreJoined (SpecPlaces lines who) s xs (more ++ rest)) (sym left_spec)
         (joined_more (SpecPlaces lines who) s spec (Specs (i + 1)) more rest p j)))
-
-    module _ (policy lines : List Line) (shown : map (line_in t) rows ≡ policy) (same : lines ≡ policy) (fault : AskFault) where
-      pub users_fault : (fault ≡ NoMemory) ⊎ ((fault ≡ Cycle) × LeadsToCycle User lines (members_shown users)) → (fault ≡ NoMemory) ⊎ ((fault ≡ Cycle) × HasReachableCycle policy)
-      users_fault (inl e) = inl e
-      users_fault (inr l) = inr (
-        l.0,
-        users_reach policy line (members_shown users) (groups_shown groups)
-            (has_at policy i line (ap (λ ls. slice_get ls i) (sym shown) ∙ line_at)) says
-            (subst (λ ls. LeadsToCycle User ls (members_shown users)) same l.1),
-      )
-
-      pub hosts_fault : (fault ≡ NoMemory) ⊎ ((fault ≡ Cycle) × HostsLeadToCycle lines (groups_shown groups)) → (fault ≡ NoMemory) ⊎ ((fault ≡ Cycle) × HasReachableCycle policy)
-      hosts_fault (inl e) = inl e
-      hosts_fault (inr l) = inr (
-        l.0,
-        hosts_reach policy line (members_shown users) (groups_shown groups)
-            (has_at policy i line (ap (λ ls. slice_get ls i) (sym shown) ∙ line_at)) says
-            (subst (λ ls. HostsLeadToCycle ls (groups_shown groups)) same l.1),
-      )
 
   module _ (scope : Option ScopeView) (params : Rows ParamRow) (it : n ≡ view.Defaults scope params) where
     pub says_defaults : line.node ≡ node.Defaults (option_map scope_shown scope) (params_shown params)
     says_defaults = sym is ∙ ap node_shown it
 
-    pub scope_fault : (policy lines : List Line) → map (line_in t) rows ≡ policy → lines ≡ policy → (fault : AskFault)
-        → (fault ≡ NoMemory) ⊎ ((fault ≡ Cycle) × ScopeLeadsToCycle lines (option_map scope_shown scope)) → (fault ≡ NoMemory) ⊎ ((fault ≡ Cycle) × HasReachableCycle policy)
-    scope_fault policy lines shown same fault (inl e) = inl e
-    scope_fault policy lines shown same fault (inr l) = inr (
-      l.0,
-      scope_reach policy line (option_map scope_shown scope) (params_shown params)
-          (has_at policy i line (ap (λ ls. slice_get ls i) (sym shown) ∙ line_at)) says_defaults
-          (subst (λ ls. ScopeLeadsToCycle ls (option_map scope_shown scope)) same l.1),
-    )
-
   pub no_default_in : ((scope : Option ScopeView) (params : Rows ParamRow) → n ≡ view.Defaults scope params → ⊥) → defaults_in line.node ≡ []
   no_default_in other = ap defaults_in (sym is) ∙ no_default n other
+
+  pub left_none : ((users : Rows MemberRow) (groups : Rows GroupRow) → n ≡ view.Spec users groups → ⊥) → Specs i ≡ Specs (i + 1)
+  left_none other = left_specs ∙ ap (λ o. cons_option o (Specs (i + 1))) (no_spec n other)
 
   -- another line more
   pub none_more : ((users : Rows MemberRow) (groups : Rows GroupRow) → n ≡ view.Spec users groups → ⊥)
       → (Part : ℕ → Spec → List GroupPlace → Type 0) (s : ℕ) (rest : List GroupPlace) → AreJoined Part s (Specs (i + 1)) rest → AreJoined Part s (Specs i) rest
   none_more other Part s rest j =
-      subst (λ xs. AreJoined Part s xs rest) (sym (left_specs ∙ ap (λ o. cons_option o (Specs (i + 1))) (no_spec n other))) j
+      subst (λ xs. AreJoined Part s xs rest) (sym (left_none other)) j
 
 -- all lines
 pub all_lines : (t : Tables) (rows : List LineRow) (who : Who) (policy lines : List Line) → map (line_in t) rows ≡ policy → lines ≡ policy

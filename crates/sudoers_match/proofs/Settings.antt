@@ -1,5 +1,5 @@
 -- The last setting of runas_default that counts.
-use Rattle.std.proofs.Common.{◌≡◌, ℕ, ◌+◌, ◌≤◌, true, false, List, [], ◌∷◌, ◌++◌, length, map, take, get_or, slice_get, Option, Some, None, refl, sym, ap, subst, ◌∙◌, append_assoc, append-nil}
+use Rattle.std.proofs.Common.{◌≡◌, ℕ, ◌+◌, ◌≤◌, true, false, List, [], ◌∷◌, ◌++◌, length, map, take, get_or, slice_get, Option, Some, None, refl, sym, ap, subst, ◌∙◌, append-nil}
 use Rattle.std.specs.List.{AllByRecursion}
 use Rattle.std.specs.Option.{option_or}
 use Rattle.std.proofs.lemmas.List.{take_more, take_all}
@@ -13,6 +13,7 @@ use Rattle.sudoers_hits.specs.declared.asked.Who.{Who}
 use Rattle.sudoers_match.specs.Last.{IsLast, last_of}
 use Rattle.sudoers_match.specs.Default.{IsFor, with_scope, settings_in, defaults_in, defaults_of, name_or_root, IsRunasDefault}
 use Rattle.sudoers_match.specs.Asked.{Counts, IsLatestDefault, IsNameSoFar}
+use Rattle.sudoers_match.proofs.Lasts.{last_then, last_one}
 
 module _ {X : Type 0} where
   none_last : (xs : List X) → last_of xs ≡ None → xs ≡ []
@@ -34,16 +35,6 @@ module _ {X : Type 0} where
           let same : z ≡ x = cc in
           let w = more x (is ∙ ap Some same) in
           (y ∷ w.0, ap (λ zs. y ∷ zs) w.1)
-
-  all_append : (P : X → Type 0) (xs ys : List X) → AllByRecursion P xs → AllByRecursion P ys → AllByRecursion P (xs ++ ys)
-  all_append P [] ys a b = b
-  all_append P (x ∷ xs) ys a b = (a.0, all_append P xs ys a.1 b)
-
-  last_then : (P : X → Type 0) (xs ys : List X) (a b : Option X) → IsLast P xs a → IsLast P ys b → IsLast P (xs ++ ys) (option_or b a)
-  last_then P xs ys None None l m = all_append (λ x. P x → ⊥) xs ys l m
-  last_then P xs ys (Some x) None l m =
-      (l.0, l.1 ++ ys, ap (λ zs. zs ++ ys) l.2 ∙ append_assoc l.0 (x ∷ l.1) ys, l.3, all_append (λ x. P x → ⊥) l.1 ys l.4 m)
-  last_then P xs ys a (Some x) l m = (xs ++ m.0, m.1, ap (λ zs. xs ++ zs) m.2 ∙ sym (append_assoc xs m.0 (x ∷ m.1)), m.3, m.4)
 
 map_append : {X Y : Type 0} (f : X → Y) (xs ys : List X) → map f (xs ++ ys) ≡ map f xs ++ map f ys
 map_append f [] ys = refl
@@ -109,3 +100,8 @@ module _ (lines : List Line) (who : Who) where
       is_last = subst (λ ls. IsLast Of (defaults_of ls) s.last) (take_all i all end ∙ same) s.is_last;
       says = s.says;
     }
+
+-- there is one such name
+pub one_default : (lines : List Line) (who : Who) (name other : List ℕ) → IsRunasDefault lines who name → IsRunasDefault lines who other → name ≡ other
+one_default lines who name other d e =
+    d.says ∙ ap name_or_root (last_one (λ (setting : Option Scope × List ℕ). IsFor lines who setting.0) (defaults_of lines) d.last e.last d.is_last e.is_last) ∙ sym e.says

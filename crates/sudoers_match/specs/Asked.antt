@@ -1,16 +1,12 @@
 -- A device of the proof, which no public contract cites: what is gathered of things one after another.
-use Rattle.std.specs.Prelude.{◌≡◌, ℕ, Bool, true, false, List, ◌++◌, drop, take, map, Option, Some, None}
+use Rattle.std.specs.Prelude.{◌≡◌, ℕ, Bool, true, false, List, ◌++◌, drop, take, map, Option}
 use Rattle.sudoers_line.specs.declared.node.Scope.{Scope}
 use Rattle.sudoers_hits.specs.declared.asked.Who.{Who}
 use Rattle.sudoers_match.specs.Default.{IsFor, with_scope, settings_in, defaults_of, name_or_root}
 use Rattle.sudoers_match.specs.Last.{IsLast}
 use Rattle.std.specs.Option.{option_map}
 use Rattle.sudoers_line.specs.declared.node.Param.{Param}
-use Rattle.sudoers_line.specs.declared.node.Kind.TheVariants.{Host}
-use Rattle.sudoers_line.specs.declared.node.HostGroup.{HostGroup}
 use Rattle.sudoers_tree.specs.Line.{Line}
-use Rattle.sudoers_check.specs.Chain.{Has}
-use Rattle.sudoers_verdict.specs.Cycle.{LeadsToCycle}
 use Rattle.sudoers_match.specs.Specs.{AreJoined}
 
 -- More was added, which is that of the things before this one.
@@ -25,21 +21,10 @@ pub record IsAllAdded {X Y : Type 0} (Part : ℕ → X → List Y → Type 0) (x
   pub are : new ≡ old ++ added
   pub joined : AreJoined Part 0 xs added
 
--- The hosts of one of these host groups lead to a cyclic alias.
-pub record HostsLeadToCycle (lines : List Line) (groups : List HostGroup) : Type 0 where
-  pub group : HostGroup
-  pub stands : Has groups group
-  pub cycle : LeadsToCycle Host lines group.hosts
-
 -- The scope allows, or it does not.
 abbrev pub Counts : List Line → Who → Option Scope → Bool → Type 0
 Counts lines who scope true = IsFor lines who scope
 Counts lines who scope false = IsFor lines who scope → ⊥
-
--- The members of the scope lead to a cyclic alias.
-abbrev pub ScopeLeadsToCycle : List Line → Option Scope → Type 0
-ScopeLeadsToCycle lines None = ⊥
-ScopeLeadsToCycle lines (Some scope) = LeadsToCycle scope.kind lines scope.members
 
 -- It is the last setting of runas_default in a Defaults line, if the line is for this user on this host.
 abbrev pub IsLatestDefault : List Line → Who → Option Scope → List Param → Option (List ℕ) → Type 0

@@ -7,3 +7,9 @@ pub mod Heads
 pub mod Values
 pub mod IsHead
 pub mod Asked
+pub mod Straight
+pub mod Moment
+pub mod Runas
+pub mod Rows
+pub mod Answer
+pub mod Question

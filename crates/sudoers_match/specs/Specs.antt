@@ -11,9 +11,12 @@ pub record Spec : Type 0 where
   pub users : List Member
   pub groups : List HostGroup
 
+abbrev pub spec_of : List Member → List HostGroup → Spec
+spec_of users groups = record { users = users; groups = groups }
+
 -- the user specification that a line is
 abbrev pub spec_in : Node → Option Spec
-spec_in (node.Spec users groups) = Some (record { users = users; groups = groups })
+spec_in (node.Spec users groups) = Some (spec_of users groups)
 spec_in (node.Defaults scope params) = None
 spec_in (node.Alias k defs) = None
 spec_in node.Blank = None

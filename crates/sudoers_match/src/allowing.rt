@@ -1,39 +1,61 @@
 //! Lists that allow what is asked.
 
-ghost use Rattle.std.specs.Prelude.{◌≡◌, ◌⊎◌, IfOk, IfErr};
+ghost use Rattle.std.specs.Prelude.{◌≡◌, IfOk};
 ghost use Rattle.sudoers_reader.specs.View.{members_shown};
-ghost use Rattle.sudoers_verdict.specs.declared.verdict.AskFault.TheVariants.{Cycle, NoMemory};
+ghost use Rattle.sudoers_verdict.specs.Flat.{IsLatest, IsVerdict};
 ghost use Rattle.sudoers_verdict.specs.Search.{Remembers};
-ghost use Rattle.sudoers_verdict.specs.Cycle.{LeadsToCycle};
 ghost use Rattle.sudoers_match.specs.Allows.{Permits};
+ghost use Rattle.sudoers_match.specs.Straight.{IsStraight};
 
+use std::alloc::AllocError;
 use sudoers_check::Numbers;
 use sudoers_tree::{Kind, MemberRow, Rows};
-use sudoers_verdict::{AskFault, Decision, MemberKind, Verdict, Verdicts, one_verdict};
+use sudoers_verdict::{Decision, Hit, MemberKind, Verdict, Verdicts, one_verdict};
 
-/// Returns whether the list `members` allows `asked`.
+/// Returns what the list `members` says of `asked`. The list leads to no cyclic alias.
 ///
 /// # Errors
 ///
-/// `Cycle`: the list leads to a cyclic alias. `NoMemory`: memory ran out.
+/// Memory ran out.
+pub fn last_hit<'a, K: MemberKind>(
+    verdicts: &mut Verdicts<'a>,
+    numbers: &Numbers<'a>,
+    kind: Kind,
+    members: &Rows<'_, MemberRow>,
+    asked: &K::Asked,
+) -> Result<Option<Hit>, AllocError>
+    requires verdicts { Remembers kind numbers.now.policy.now (K.test asked.now) verdicts.old }
+    requires straight { IsStraight kind numbers.now.policy.now (members_shown members.now) }
+    ensures kept { IfOk result (λ _. Remembers kind numbers.now.policy.now (K.test asked.now) verdicts.new) }
+    ensures hit { IfOk result (λ hit. IsLatest kind numbers.now.policy.now (K.test asked.now) (members_shown members.now) hit) }
+{
+    match verdicts.latest::<K>(numbers, kind, members, asked)? {
+        Decision::Latest(hit) => Ok(hit),
+        Decision::Cyclic => unreachable!(),
+    }
+}
+
+/// Returns whether the list `members` allows `asked`. The list leads to no cyclic alias.
+///
+/// # Errors
+///
+/// Memory ran out.
 pub fn allows<'a, K: MemberKind>(
     verdicts: &mut Verdicts<'a>,
     numbers: &Numbers<'a>,
     kind: Kind,
     members: &Rows<'_, MemberRow>,
     asked: &K::Asked,
-) -> Result<bool, AskFault>
-    requires { Remembers kind numbers.now.policy.now (K.test asked.now) verdicts.old }
+) -> Result<bool, AllocError>
+    requires verdicts { Remembers kind numbers.now.policy.now (K.test asked.now) verdicts.old }
+    requires straight { IsStraight kind numbers.now.policy.now (members_shown members.now) }
     ensures kept { IfOk result (λ _. Remembers kind numbers.now.policy.now (K.test asked.now) verdicts.new) }
     ensures allowed { IfOk result (λ allowed. Permits kind numbers.now.policy.now (K.test asked.now) (members_shown members.now) allowed) }
-    ensures fault { IfErr result (λ fault. (fault ≡ NoMemory) ⊎ ((fault ≡ Cycle) × LeadsToCycle kind numbers.now.policy.now (members_shown members.now))) }
 {
     one_verdict();
-    match verdicts.latest::<K>(numbers, kind, members, asked)? {
-        Decision::Latest(hit) => match Verdict::of(hit) {
-            Verdict::Allow => Ok(true),
-            _ => Ok(false),
-        },
-        Decision::Cyclic => Err(AskFault::Cycle),
+    let hit = last_hit::<K>(verdicts, numbers, kind, members, asked)?;
+    match Verdict::of(hit) {
+        Verdict::Allow => Ok(true),
+        _ => Ok(false),
     }
 }

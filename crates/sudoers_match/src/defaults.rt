@@ -11,11 +11,13 @@ ghost use Rattle.sudoers_verdict.specs.declared.verdict.AskFault.TheVariants.{Cy
 ghost use Rattle.sudoers_verdict.specs.Search.{Remembers};
 ghost use Rattle.sudoers_match.specs.Last.{last_of};
 ghost use Rattle.sudoers_match.specs.Default.{IsRunasDefault, default_in, settings_in};
-ghost use Rattle.sudoers_match.specs.Asked.{Counts, IsLatestDefault, ScopeLeadsToCycle};
+ghost use Rattle.sudoers_match.specs.Asked.{Counts, IsLatestDefault};
+ghost use Rattle.sudoers_match.specs.Straight.{ScopeIsStraight};
 
 use crate::allowing::allows;
-use std::alloc::Global;
-use sudoers_check::{Numbers, reachable_cycle};
+use crate::straight::number_straight;
+use std::alloc::{AllocError, Global};
+use sudoers_check::Numbers;
 use sudoers_hits::Who;
 use sudoers_tree::{Kind, Node, Operator, Param, ParamRow, Policy, Rows, Scope, Setting};
 use sudoers_verdict::{AskFault, Hosts, Users, Verdicts};
@@ -64,24 +66,35 @@ pub fn runas_default<'a>(alloc: Global, policy: &'a Policy, who: &Who) -> Result
     ensures straight { IfOk result (λ _. HasReachableCycle policy.now → ⊥) }
     ensures fault { IfErr result (λ fault. (fault ≡ NoMemory) ⊎ ((fault ≡ Cycle) × HasReachableCycle policy.now)) }
 {
-    if reachable_cycle(alloc, policy)? {
-        return Err(AskFault::Cycle);
-    }
-    let numbers = Numbers::new(alloc, policy)?;
-    let mut users_said = Verdicts::new::<Users>(alloc, &numbers, Kind::User, &who.user)?;
-    let mut hosts_said = Verdicts::new::<Hosts>(alloc, &numbers, Kind::Host, who)?;
+    let numbers = number_straight(alloc, policy)?;
+    let mut users_said = Verdicts::new(alloc, &numbers)?;
+    let mut hosts_said = Verdicts::new(alloc, &numbers)?;
+    Ok(find_default(&mut users_said, &mut hosts_said, &numbers, who)?)
+}
+
+/// Returns the same in a policy none of whose reachable aliases is cyclic.
+///
+/// # Errors
+///
+/// Memory ran out.
+pub fn find_default<'a>(
+    users: &mut Verdicts<'a>,
+    hosts: &mut Verdicts<'a>,
+    numbers: &Numbers<'a>,
+    who: &Who,
+) -> Result<&'a [u8], AllocError>
+    requires users { Remembers OfUsers numbers.now.policy.now (user_hits who.now.user) users.old }
+    requires hosts { Remembers OfHosts numbers.now.policy.now (host_hits who.now) hosts.old }
+    requires straight { HasReachableCycle numbers.now.policy.now → ⊥ }
+    ensures users { IfOk result (λ _. Remembers OfUsers numbers.now.policy.now (user_hits who.now.user) users.new) }
+    ensures hosts { IfOk result (λ _. Remembers OfHosts numbers.now.policy.now (host_hits who.now) hosts.new) }
+    ensures name { IfOk result (λ name. IsRunasDefault numbers.now.policy.now who.now name.now) }
+{
     let mut name: &[u8] = b"root";
-    let lines = policy.lines();
+    let lines = numbers.policy.lines();
     for row in lines.rows {
         if let Node::Defaults { scope, params } = lines.tables.node(&row.node) {
-            let latest = default_for(
-                &mut users_said,
-                &mut hosts_said,
-                &numbers,
-                who,
-                &scope,
-                &params,
-            )?;
+            let latest = default_for(users, hosts, numbers, who, &scope, &params)?;
             name = latest.unwrap_or(name);
         }
     }
@@ -96,13 +109,13 @@ fn default_for<'a>(
     who: &Who,
     scope: &Option<Scope<'_>>,
     params: &Rows<'a, ParamRow>,
-) -> Result<Option<&'a [u8]>, AskFault>
+) -> Result<Option<&'a [u8]>, AllocError>
     requires users { Remembers OfUsers numbers.now.policy.now (user_hits who.now.user) users.old }
     requires hosts { Remembers OfHosts numbers.now.policy.now (host_hits who.now) hosts.old }
+    requires straight { ScopeIsStraight numbers.now.policy.now (option_map scope_shown scope.now) }
     ensures users { IfOk result (λ _. Remembers OfUsers numbers.now.policy.now (user_hits who.now.user) users.new) }
     ensures hosts { IfOk result (λ _. Remembers OfHosts numbers.now.policy.now (host_hits who.now) hosts.new) }
     ensures latest { IfOk result (λ latest. IsLatestDefault numbers.now.policy.now who.now (option_map scope_shown scope.now) (params_shown params.now) (option_map (λ (name : Bor (List ℕ)). name.now) latest)) }
-    ensures fault { IfErr result (λ fault. (fault ≡ NoMemory) ⊎ ((fault ≡ Cycle) × ScopeLeadsToCycle numbers.now.policy.now (option_map scope_shown scope.now))) }
 {
     let Some(name) = last_default(params) else {
         return Ok(None);
@@ -121,13 +134,13 @@ fn counts<'a>(
     numbers: &Numbers<'a>,
     who: &Who,
     scope: &Option<Scope<'_>>,
-) -> Result<bool, AskFault>
+) -> Result<bool, AllocError>
     requires users { Remembers OfUsers numbers.now.policy.now (user_hits who.now.user) users.old }
     requires hosts { Remembers OfHosts numbers.now.policy.now (host_hits who.now) hosts.old }
+    requires straight { ScopeIsStraight numbers.now.policy.now (option_map scope_shown scope.now) }
     ensures users { IfOk result (λ _. Remembers OfUsers numbers.now.policy.now (user_hits who.now.user) users.new) }
     ensures hosts { IfOk result (λ _. Remembers OfHosts numbers.now.policy.now (host_hits who.now) hosts.new) }
     ensures counted { IfOk result (λ counted. Counts numbers.now.policy.now who.now (option_map scope_shown scope.now) counted) }
-    ensures fault { IfErr result (λ fault. (fault ≡ NoMemory) ⊎ ((fault ≡ Cycle) × ScopeLeadsToCycle numbers.now.policy.now (option_map scope_shown scope.now))) }
 {
     let Some(scope) = scope else {
         return Ok(true);

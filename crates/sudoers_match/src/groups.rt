@@ -1,6 +1,6 @@
 //! Where a user has rules.
 
-ghost use Rattle.std.specs.Prelude.{◌≡◌, ◌⊎◌, ◌≤◌, ◌<◌, ◌+◌, ◌^◌, ◌++◌, ◌∷◌, [], IfOk, IfErr, OnOk};
+ghost use Rattle.std.specs.Prelude.{◌≡◌, ◌⊎◌, ◌++◌, ◌∷◌, [], IfOk, IfErr, OnOk};
 ghost use Rattle.sudoers_line.specs.declared.node.Kind.TheVariants.{Host as OfHosts};
 ghost use Rattle.sudoers_reader.specs.View.{groups_shown};
 ghost use Rattle.sudoers_hits.specs.Hits.{host_hits};
@@ -8,11 +8,13 @@ ghost use Rattle.sudoers_check.specs.Chains.{HasReachableCycle};
 ghost use Rattle.sudoers_verdict.specs.declared.verdict.AskFault.TheVariants.{Cycle, NoMemory};
 ghost use Rattle.sudoers_verdict.specs.Search.{Remembers};
 ghost use Rattle.sudoers_match.specs.Groups.{AreHostGroups, GroupPlaces};
-ghost use Rattle.sudoers_match.specs.Asked.{IsAllAdded, HostsLeadToCycle};
+ghost use Rattle.sudoers_match.specs.Asked.{IsAllAdded};
+ghost use Rattle.sudoers_match.specs.Straight.{GroupsAreStraight};
 
 use crate::allowing::allows;
+use crate::straight::number_straight;
 use std::alloc::{AllocError, Global};
-use sudoers_check::{Numbers, reachable_cycle};
+use sudoers_check::Numbers;
 use sudoers_hits::Who;
 use sudoers_tree::{GroupRow, Kind, Node, Policy, Rows};
 use sudoers_verdict::{AskFault, Hosts, Users, Verdicts};
@@ -36,12 +38,9 @@ pub fn host_groups(alloc: Global, policy: &Policy, who: &Who) -> Result<Vec<Grou
     ensures straight { IfOk result (λ _. HasReachableCycle policy.now → ⊥) }
     ensures fault { IfErr result (λ fault. (fault ≡ NoMemory) ⊎ ((fault ≡ Cycle) × HasReachableCycle policy.now)) }
 {
-    if reachable_cycle(alloc, policy)? {
-        return Err(AskFault::Cycle);
-    }
-    let numbers = Numbers::new(alloc, policy)?;
-    let mut users_said = Verdicts::new::<Users>(alloc, &numbers, Kind::User, &who.user)?;
-    let mut hosts_said = Verdicts::new::<Hosts>(alloc, &numbers, Kind::Host, who)?;
+    let numbers = number_straight(alloc, policy)?;
+    let mut users_said = Verdicts::new(alloc, &numbers)?;
+    let mut hosts_said = Verdicts::new(alloc, &numbers)?;
     let mut places = Vec::new(alloc);
     let mut spec = 0;
     let lines = policy.lines();
@@ -64,11 +63,11 @@ fn add_groups<'a>(
     who: &Who,
     spec: usize,
     groups: &Rows<'_, GroupRow>,
-) -> Result<(), AskFault>
-    requires { Remembers OfHosts numbers.now.policy.now (host_hits who.now) verdicts.old }
+) -> Result<(), AllocError>
+    requires verdicts { Remembers OfHosts numbers.now.policy.now (host_hits who.now) verdicts.old }
+    requires straight { GroupsAreStraight numbers.now.policy.now (groups_shown groups.now) }
     ensures kept { IfOk result (λ _. Remembers OfHosts numbers.now.policy.now (host_hits who.now) verdicts.new) }
     ensures added { IfOk result (λ _. IsAllAdded (GroupPlaces numbers.now.policy.now who.now spec) (groups_shown groups.now) places.old.items places.new.items) }
-    ensures fault { IfErr result (λ fault. (fault ≡ NoMemory) ⊎ ((fault ≡ Cycle) × HostsLeadToCycle numbers.now.policy.now (groups_shown groups.now))) }
 {
     let tables = groups.tables;
     for (host_group, row) in groups.rows.iter().enumerate() {

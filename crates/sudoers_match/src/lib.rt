@@ -2,16 +2,24 @@
 #![tactic(auto)]
 
 mod allowing;
+mod answering;
 mod defaults;
 mod groups;
 mod head;
+mod moment;
 mod options;
+mod question;
+mod request;
+mod rules;
+mod straight;
 mod tags;
 
+pub use answering::answer;
 pub use defaults::runas_default;
 pub use groups::{GroupPlace, host_groups};
-pub use head::Head;
 pub use options::Options;
+pub use request::Request;
+pub use rules::Answer;
 pub use sudoers_hits::{Group, Interface, Person, Who};
 pub use sudoers_verdict::AskFault;
 pub use tags::Tags;

@@ -38,7 +38,7 @@ pub fn decide<K: MemberKind>(
         return Err(AskFault::Cycle);
     }
     let numbers = Numbers::new(alloc, policy)?;
-    let mut verdicts = Verdicts::new::<K>(alloc, &numbers, kind, asked)?;
+    let mut verdicts = Verdicts::new(alloc, &numbers)?;
     match verdicts.latest::<K>(&numbers, kind, members, asked)? {
         Decision::Latest(hit) => Ok(Verdict::of(hit)),
         Decision::Cyclic => Err(AskFault::Cycle),

@@ -1,6 +1,8 @@
 //! What lists say, each alias decided once.
 
-ghost use Rattle.std.specs.Prelude.{◌≡◌, ◌<◌, ◌+◌, ◌^◌, ◌++◌, ◌∷◌, [], true, false, None, length, IfOk, OnOk};
+ghost use Rattle.std.specs.Prelude.{◌≡◌, ◌<◌, ◌+◌, ◌^◌, ◌++◌, ◌∷◌, [], Bool, true, false, None, length, IfOk, OnOk};
+ghost use Rattle.sudoers_line.specs.declared.node.Kind.{Kind as KindOf};
+ghost use Rattle.sudoers_line.specs.declared.node.Atom.{Atom as AtomOf};
 ghost use Rattle.sudoers_reader.specs.View.{member_shown, members_shown};
 ghost use Rattle.sudoers_tree.specs.Definition.{definitions};
 ghost use Rattle.sudoers_verdict.specs.Flat.{hit_of, signed, later, turned};
@@ -54,21 +56,14 @@ fn said<K: MemberKind>(member: &Member<'_>, asked: &K::Asked) -> Option<Hit>
 }
 
 impl<'a> Verdicts<'a> {
-    /// Returns verdicts that hold no alias yet.
+    /// Returns verdicts that hold no alias yet. They serve for lists of any kind, whatever is asked of these.
     ///
     /// # Errors
     ///
     /// Memory ran out.
-    pub fn new<K: MemberKind>(
-        alloc: Global,
-        numbers: &Numbers<'a>,
-        kind: Kind,
-        asked: &K::Asked,
-    ) -> Result<Verdicts<'a>, AllocError>
-        ensures { IfOk result (λ verdicts. Remembers kind numbers.now.policy.now (K.test asked.now) verdicts) }
+    pub fn new(alloc: Global, numbers: &Numbers<'a>) -> Result<Verdicts<'a>, AllocError>
+        ensures { IfOk result (λ verdicts. (kind : KindOf) (test : AtomOf → Bool) → Remembers kind numbers.now.policy.now test verdicts) }
     {
-        let _ = kind;
-        let _ = asked;
         Ok(Verdicts {
             standings: Vec::from_elem(alloc, Standing::New, numbers.len())?,
             way: Vec::new(alloc),

@@ -1,6 +1,4 @@
-use Rattle.std.proofs.Common.{subst}
 use Rattle.sudoers_reader.specs.View.{members_shown}
-use Rattle.sudoers_verdict.specs.Search.{Judges}
 use Rattle.sudoers_match.proofs.Said.{not_allowed}
 use Rattle.sudoers_match.proofs.allowing.allows.Goals as goal
 
@@ -10,9 +8,7 @@ returns-in_default g c =
     let lines = c.args.numbers.now.policy.now in
     let test = g.K.MemberKind.test c.args.asked.now in
     let ms = members_shown c.args.members.now in
-    let judged = subst (Judges kd lines test ms c.latest.new.self) c.in-Latest.is c.in_ok-hit.ensures in
     record {
-      kept = judged.0;
-      allowed = not_allowed kd lines test ms (c.one_verdict.ensures kd lines test ms) c.in-Latest.hit c.of.result judged.1 c.of.ensures c.in_default.not-Allow;
-      fault = tt;
+      kept = c.in_ok-hit.ensures.kept;
+      allowed = not_allowed kd lines test ms (c.one_verdict.ensures kd lines test ms) c.in_ok-hit.hit c.of.result c.in_ok-hit.ensures.hit c.of.ensures c.in_default.not-Allow;
     }

@@ -1,29 +1,23 @@
-use Rattle.std.proofs.Common.{◌≡◌, ◌⊎◌, inl, inr, ◌∷◌, [], Err, IfErr, refl, sym, ap, subst, ◌∙◌, arith, append-nil, rules, Vec, Global}
+use Rattle.std.proofs.Common.{inl, inr, ◌∷◌, [], refl, sym, ap, subst, ◌∙◌, arith, append-nil, Vec, Global}
 use Rattle.std.proofs.lemmas.List.{length-map}
 use Rattle.sudoers_line.specs.declared.node.Kind.TheVariants.{Host}
 use Rattle.sudoers_hits.specs.Hits.{host_hits}
 use Rattle.sudoers_reader.specs.Tables.{group_in}
 use Rattle.sudoers_reader.specs.View.{groups_shown, group_shown}
-use Rattle.sudoers_verdict.specs.declared.verdict.AskFault.TheVariants.{Cycle, NoMemory}
 use Rattle.sudoers_match.specs.Allows.{Permits}
 use Rattle.sudoers_match.specs.declared.groups.GroupPlace.{GroupPlace}
 use Rattle.sudoers_match.specs.Groups.{GroupPlaces, place_of}
-use Rattle.sudoers_match.specs.Asked.{HostsLeadToCycle}
 use Rattle.sudoers_match.proofs.Gathered.{one_added, all_added, at_map}
-use Rattle.sudoers_match.proofs.Reached.{led_by_hosts}
+use Rattle.sudoers_match.proofs.Reached.{has_at}
 use Rattle.sudoers_match.proofs.groups.add_groups.Goals as goal
 use Rattle.sudoers_match.proofs.groups.add_groups.Goals.{then-branch+in_ok-push_place, else-branch}
 
-pub returns-in_err-allows-clause-fault : goal.returns-in_err-allows-clause-fault
-returns-in_err-allows-clause-fault c =
-    let lines = c.args.numbers.now.policy.now in
+pub allows-requires-clause-straight : goal.allows-requires-clause-straight
+allows-requires-clause-straight c =
     let groups = c.args.groups.now in
-    let fault = c.in_err-allows.field-0.0 in
-    let same : c.from_residual.result ≡ Err fault = search rules in
-    subst (λ r. IfErr r (λ f. (f ≡ NoMemory) ⊎ ((f ≡ Cycle) × HostsLeadToCycle lines (groups_shown groups)))) (sym same)
-    (led_by_hosts lines (groups_shown groups) c.loop-host_group.host_group (group_shown c.group-group.result)
-    (at_map (group_in groups.tables.now) groups.rows.now c.loop-host_group.host_group _ c.loop-host_group-test.true (group_shown c.group-group.result) c.group-group.ensures)
-    fault c.in_err-allows.ensures.fault)
+    let g = group_shown c.group-group.result in
+    (c.requires.straight g (has_at (groups_shown groups) c.loop-host_group.host_group g
+    (at_map (group_in groups.tables.now) groups.rows.now c.loop-host_group.host_group _ c.loop-host_group-test.true g c.group-group.ensures))).hosts
 
 pub loop-host_group-preserved : goal.loop-host_group-preserved
 loop-host_group-preserved c =

@@ -4,11 +4,11 @@ use Rattle.sudoers_hits.specs.Hits.{user_hits, host_hits}
 use Rattle.sudoers_tree.specs.Line.{line_in}
 use Rattle.sudoers_verdict.specs.Search.{Remembers}
 use Rattle.sudoers_match.specs.Asked.{IsNameSoFar}
-use Rattle.sudoers_match.proofs.defaults.runas_default.Given as goal
+use Rattle.sudoers_match.proofs.defaults.find_default.Given as goal
 
 abbrev pub invariant-loop-row : goal.invariant-loop-row
 invariant-loop-row l = record {
-  users : Remembers User l.numbers.policy.now (user_hits l.who.user) l.users_said;
-  hosts : Remembers Host l.numbers.policy.now (host_hits l.who) l.hosts_said;
+  users : Remembers User l.numbers.policy.now (user_hits l.who.user) l.users;
+  hosts : Remembers Host l.numbers.policy.now (host_hits l.who) l.hosts;
   name : IsNameSoFar l.numbers.policy.now l.who (map (line_in l.lines.tables.now) l.lines.rows.now) l.row-index l.name;
 }

@@ -1,0 +1,103 @@
+use Rattle.std.proofs.Common.{◌+◌, ◌∷◌, [], true, map, sym, subst, ap, ◌∙◌, arith}
+use Rattle.std.specs.Option.{option_map}
+use Rattle.std.proofs.lemmas.List.{length-map}
+use Rattle.sudoers_line.specs.declared.node.Kind.TheVariants.{Host, Cmnd}
+use Rattle.sudoers_line.specs.declared.node.CmdSpec.{CmdSpec}
+use Rattle.sudoers_reader.specs.Tables.{command_in, member_in}
+use Rattle.sudoers_reader.specs.View.{command_shown, commands_shown, group_shown, members_shown}
+use Rattle.sudoers_hits.specs.Hits.{host_hits}
+use Rattle.sudoers_match.specs.Allows.{Permits}
+use Rattle.sudoers_match.specs.Answer.{answer_shown}
+use Rattle.sudoers_match.specs.Heads.{inherit}
+use Rattle.sudoers_match.specs.Question.{IsListSoFar}
+use Rattle.sudoers_match.specs.Straight.{RunasIsStraight, CommandIsStraight, IsStraight}
+use Rattle.sudoers_match.proofs.Gathered.{at_map}
+use Rattle.sudoers_match.proofs.Lasts.{map_or}
+use Rattle.sudoers_match.proofs.Reached.{has_at}
+use Rattle.sudoers_match.proofs.Rowed.{no_host, inherit_straight, list_none, list_more, list_all}
+use Rattle.sudoers_match.proofs.answering.answer_in_group.Goals as goal
+
+pub returns-then-not-branch-clause-answer : goal.returns-then-not-branch-clause-answer
+returns-then-not-branch-clause-answer c users user rows p =
+    let lines = c.args.asked.now.numbers.now.policy.now in
+    let r = c.args.asked.now.request.now in
+    let g = group_shown c.args.group.now in
+    let says = c.in_ok-allows.ensures.allowed in
+    let one = c.if-not-branch.true in
+    no_host lines r c.args.spec c.args.host_group users g rows
+    (subst (Permits Host lines (host_hits r.who) g.hosts) one says) p
+
+pub loop-command-init : goal.loop-command-init
+loop-command-init c =
+    let was = c.requires.question in
+    let g = c.args.group.now in
+    record {
+      question = record {
+        default = was.default;
+        users = was.users;
+        hosts = c.in_ok-allows.ensures.kept;
+        targets = was.targets;
+        groups = was.groups;
+        commands = was.commands;
+      };
+      so_far = list_none c.args.asked.now.numbers.now.policy.now c.args.asked.now.request.now c.args.spec c.args.host_group (members_shown g.hosts)
+          (map (command_in g.commands.tables.now) g.commands.rows.now) c.none-head.result c.none-head.ensures;
+    }
+
+pub answer_of_command-requires-clause-runas : goal.answer_of_command-requires-clause-runas
+answer_of_command-requires-clause-runas c =
+    let lines = c.args.asked.now.numbers.now.policy.now in
+    let r = c.args.asked.now.request.now in
+    let g = c.args.group.now in
+    let k = c.loop-command.command in
+    let cmd : CmdSpec = command_shown c.command.result in
+    let s = c.loop-command.invariant.so_far in
+    let at = at_map (command_in g.commands.tables.now) g.commands.rows.now k _ c.loop-command-test.true cmd c.command.ensures in
+    let straight : CommandIsStraight lines cmd = c.requires.straight.commands cmd (has_at (commands_shown g.commands) k cmd at) in
+    subst (RunasIsStraight lines) (sym (c.inherit.ensures s.head s.is_head).runas) (inherit_straight lines r s.head cmd s.straight straight.runas)
+
+pub answer_of_command-requires-clause-member : goal.answer_of_command-requires-clause-member
+answer_of_command-requires-clause-member c =
+    let lines = c.args.asked.now.numbers.now.policy.now in
+    let g = c.args.group.now in
+    let t = g.commands.tables.now in
+    let k = c.loop-command.command in
+    let cmd : CmdSpec = command_shown c.command.result in
+    let at = at_map (command_in t) g.commands.rows.now k _ c.loop-command-test.true cmd c.command.ensures in
+    let straight : CommandIsStraight lines cmd = c.requires.straight.commands cmd (has_at (commands_shown g.commands) k cmd at) in
+    subst (IsStraight Cmnd lines) (sym (ap (map (member_in t)) c.from_ref.ensures.value ∙ ap (λ (x : CmdSpec). x.member ∷ []) (sym c.command.ensures))) straight.member
+
+pub loop-command-preserved : goal.loop-command-preserved
+loop-command-preserved c =
+    let lines = c.args.asked.now.numbers.now.policy.now in
+    let r = c.args.asked.now.request.now in
+    let g = c.args.group.now in
+    let t = g.commands.tables.now in
+    let cs = map (command_in t) g.commands.rows.now in
+    let hosts = members_shown g.hosts in
+    let k = c.loop-command.command in
+    let cmd : CmdSpec = command_shown c.command.result in
+    let s = c.loop-command.invariant.so_far in
+    let at = at_map (command_in t) g.commands.rows.now k _ c.loop-command-test.true cmd c.command.ensures in
+    let straight : CommandIsStraight lines cmd = c.requires.straight.commands cmd (has_at (commands_shown g.commands) k cmd at) in
+    let shown = ap (map (member_in t)) c.from_ref.ensures.value ∙ ap (λ (x : CmdSpec). x.member ∷ []) (sym c.command.ensures) in
+    let is = c.inherit.ensures s.head s.is_head in
+    let host : Permits Host lines (host_hits r.who) hosts true =
+    subst (Permits Host lines (host_hits r.who) hosts) c.if-not-branch.false c.in_ok-allows.ensures.allowed in
+    let old = option_map answer_shown c.loop-command.latest in
+    let new = option_map answer_shown c.in_ok-answer.answer in
+    record {
+      question = c.in_ok-answer.ensures.kept;
+      so_far = subst (IsListSoFar lines r c.args.spec c.args.host_group hosts cs (k + 1) c.inherit.new.self)
+          (sym (ap (option_map answer_shown) c.or-latest.ensures ∙ map_or answer_shown c.in_ok-answer.answer c.loop-command.latest))
+          (list_more lines r c.args.spec c.args.host_group hosts cs k cmd at c.loop-command.head c.inherit.new.self old new s is straight.runas
+          (λ users user rows p. c.in_ok-answer.ensures.answer users hosts user host (inherit s.head cmd) is cmd.member shown rows p));
+    }
+
+pub returns-clause-answer : goal.returns-clause-answer
+returns-clause-answer c users user rows p =
+    let g = c.args.group.now in
+    let t = g.commands.tables.now in
+    list_all c.args.asked.now.numbers.now.policy.now c.args.asked.now.request.now c.args.spec c.args.host_group (members_shown g.hosts) (map (command_in t) g.commands.rows.now)
+    c.loop-command.command c.loop-command.head (option_map answer_shown c.loop-command.latest)
+    (omega (arith, c.loop-command-test.false, length-map g.commands.rows.now (command_in t))) c.loop-command.invariant.so_far users user rows p

@@ -1,0 +1,15 @@
+use Rattle.std.proofs.Common.{drop, map}
+use Rattle.std.specs.Option.{option_map}
+use Rattle.sudoers_reader.specs.View.{members_shown}
+use Rattle.sudoers_reader.specs.Tables.{group_in}
+use Rattle.sudoers_match.specs.Answer.{answer_shown}
+use Rattle.sudoers_match.specs.Question.{IsQuestion, IsSoFar}
+use Rattle.sudoers_match.specs.Rows.{GroupRows}
+use Rattle.sudoers_match.proofs.answering.answer_in_spec.Given as goal
+
+abbrev pub invariant-loop-host_group : goal.invariant-loop-host_group
+invariant-loop-host_group l = record {
+  question : IsQuestion l.asked.numbers.now.policy.now l.asked.request.now l.question;
+  so_far : IsSoFar (GroupRows l.asked.numbers.now.policy.now l.spec (members_shown l.users)) l.asked.numbers.now.policy.now l.asked.request.now
+      (map (group_in l.groups.tables.now) l.groups.rows.now) l.host_group (drop l.host_group (map (group_in l.groups.tables.now) l.groups.rows.now)) (option_map answer_shown l.latest);
+}

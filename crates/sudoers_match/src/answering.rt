@@ -1,0 +1,212 @@
+//! The answer to a request: forward through the rows, keeping the latest that fits.
+
+ghost use Rattle.std.specs.Prelude.{◌≡◌, ◌⊎◌, ◌<◌, ◌≤◌, ◌∷◌, [], List, length, IfOk, IfErr};
+ghost use Rattle.std.specs.Option.{option_map};
+ghost use Rattle.sudoers_line.specs.declared.node.Kind.TheVariants.{User as OfUsers, Host as OfHosts, Cmnd as OfCommands};
+ghost use Rattle.sudoers_line.specs.declared.node.Member.{Member as MemberOf};
+ghost use Rattle.sudoers_reader.specs.View.{group_shown, groups_shown, members_shown, runas_shown};
+ghost use Rattle.sudoers_hits.specs.Hits.{user_hits, host_hits};
+ghost use Rattle.sudoers_check.specs.Chains.{HasReachableCycle};
+ghost use Rattle.sudoers_verdict.specs.declared.verdict.AskFault.TheVariants.{Cycle, TooLong, NoMemory};
+ghost use Rattle.sudoers_match.specs.Allows.{Allows};
+ghost use Rattle.sudoers_match.specs.Answer.{Answers, IsAnswer, answer_shown, argument_limit, joined};
+ghost use Rattle.sudoers_match.specs.Heads.{Head as HeadOf};
+ghost use Rattle.sudoers_match.specs.IsHead.{IsHead};
+ghost use Rattle.sudoers_match.specs.Question.{IsQuestion};
+ghost use Rattle.sudoers_match.specs.Rows.{Row, CommandRows, GroupRows, SpecRows};
+ghost use Rattle.sudoers_match.specs.Specs.{spec_of};
+ghost use Rattle.sudoers_match.specs.Straight.{IsStraight, RunasIsStraight, GroupIsStraight, GroupsAreStraight};
+
+use crate::allowing::{allows, last_hit};
+use crate::defaults::find_default;
+use crate::head::Head;
+use crate::moment::is_in_time;
+use crate::question::{Asked, Question};
+use crate::request::{Request, join_words};
+use crate::rules::{Answer, Place, tell};
+use crate::straight::number_straight;
+use std::alloc::{AllocError, Global};
+use sudoers_hits::CommandLine;
+use sudoers_line::Items;
+use sudoers_reader::HostGroup;
+use sudoers_tree::{GroupRow, Kind, MemberRow, Node, Policy, Rows};
+use sudoers_verdict::{AskFault, Commands, Hosts, Users, Verdicts, flat_or_cycle, one_flat};
+
+/// The greatest length of the arguments of a request, joined by single spaces.
+const ARGUMENT_LIMIT: usize = 65_536;
+
+/// Returns the answer of `policy` to `request`, if a row fits: that of the last row whose users, hosts, Runas_Spec, moment and command
+/// match (sudoers(5): where several entries match, the last match is used).
+///
+/// # Errors
+///
+/// `Cycle`: a reachable alias is cyclic. `TooLong`: the arguments, joined by single spaces, are longer than 65,536 bytes. `NoMemory`:
+/// memory ran out.
+pub fn answer<'a>(
+    alloc: Global,
+    policy: &'a Policy,
+    request: &Request,
+) -> Result<Option<Answer<'a>>, AskFault>
+    ensures answer { IfOk result (λ answer. IsAnswer policy.now request.now (option_map answer_shown answer)) }
+    ensures straight { IfOk result (λ _. HasReachableCycle policy.now → ⊥) }
+    ensures short { IfOk result (λ _. length (joined request.now.args) ≤ argument_limit) }
+    ensures fault { IfErr result (λ fault. (fault ≡ NoMemory) ⊎ (((fault ≡ Cycle) × HasReachableCycle policy.now)
+        ⊎ ((fault ≡ TooLong) × (HasReachableCycle policy.now → ⊥) × (argument_limit < length (joined request.now.args))))) }
+{
+    let numbers = number_straight(alloc, policy)?;
+    let args = join_words(alloc, request.args.as_slice())?;
+    if args.len() > ARGUMENT_LIMIT {
+        return Err(AskFault::TooLong);
+    }
+    let command = CommandLine {
+        path: Items::from_slice(alloc, request.command.as_slice())?,
+        args: Items::from_vec(args),
+    };
+    let mut users = Verdicts::new(alloc, &numbers)?;
+    let mut hosts = Verdicts::new(alloc, &numbers)?;
+    let default = find_default(&mut users, &mut hosts, &numbers, &request.who)?;
+    let mut question = Question::new(alloc, &numbers, default, users, hosts)?;
+    let asked = Asked {
+        numbers: &numbers,
+        request,
+        command: &command,
+    };
+    Ok(last_answer(&mut question, &asked)?)
+}
+
+/// Returns the answer of the last row that fits.
+fn last_answer<'a>(
+    question: &mut Question<'a>,
+    asked: &Asked<'a, '_>,
+) -> Result<Option<Answer<'a>>, AllocError>
+    requires question { IsQuestion asked.now.numbers.now.policy.now asked.now.request.now question.old }
+    requires straight { HasReachableCycle asked.now.numbers.now.policy.now → ⊥ }
+    ensures { IfOk result (λ answer. IsAnswer asked.now.numbers.now.policy.now asked.now.request.now (option_map answer_shown answer)) }
+{
+    flat_or_cycle();
+    let mut latest = None;
+    let mut spec = 0;
+    let lines = asked.numbers.policy.lines();
+    for row in lines.rows {
+        if let Node::Spec { users, groups } = lines.tables.node(&row.node) {
+            let found = answer_in_spec(question, asked, spec, &users, &groups)?;
+            latest = found.or(latest);
+            spec += 1;
+        }
+    }
+    Ok(latest)
+}
+
+/// Returns the answer of the last row of a user specification that fits.
+fn answer_in_spec<'a>(
+    question: &mut Question<'a>,
+    asked: &Asked<'a, '_>,
+    spec: usize,
+    users: &Rows<'_, MemberRow>,
+    groups: &Rows<'a, GroupRow>,
+) -> Result<Option<Answer<'a>>, AllocError>
+    requires question { IsQuestion asked.now.numbers.now.policy.now asked.now.request.now question.old }
+    requires users { IsStraight OfUsers asked.now.numbers.now.policy.now (members_shown users.now) }
+    requires groups { GroupsAreStraight asked.now.numbers.now.policy.now (groups_shown groups.now) }
+    ensures kept { IfOk result (λ _. IsQuestion asked.now.numbers.now.policy.now asked.now.request.now question.new) }
+    ensures answer { IfOk result (λ answer. (rows : List Row)
+        → SpecRows asked.now.numbers.now.policy.now spec (spec_of (members_shown users.now) (groups_shown groups.now)) rows
+        → Answers asked.now.numbers.now.policy.now asked.now.request.now rows (option_map answer_shown answer)) }
+{
+    let user = &asked.request.who.user;
+    if !allows::<Users>(&mut question.users, asked.numbers, Kind::User, users, user)? {
+        return Ok(None);
+    }
+    let mut latest = None;
+    let tables = groups.tables;
+    for (host_group, row) in groups.rows.iter().enumerate() {
+        let answer = answer_in_group(question, asked, spec, host_group, &tables.group(row))?;
+        latest = answer.or(latest);
+    }
+    Ok(latest)
+}
+
+/// Returns the answer of the last row of a host group that fits, where the users allow.
+fn answer_in_group<'a>(
+    question: &mut Question<'a>,
+    asked: &Asked<'a, '_>,
+    spec: usize,
+    host_group: usize,
+    group: &HostGroup<'a>,
+) -> Result<Option<Answer<'a>>, AllocError>
+    requires question { IsQuestion asked.now.numbers.now.policy.now asked.now.request.now question.old }
+    requires straight { GroupIsStraight asked.now.numbers.now.policy.now (group_shown group.now) }
+    ensures kept { IfOk result (λ _. IsQuestion asked.now.numbers.now.policy.now asked.now.request.now question.new) }
+    ensures answer { IfOk result (λ answer. (users : List MemberOf)
+        → Allows OfUsers asked.now.numbers.now.policy.now (user_hits asked.now.request.now.who.user) users
+        → (rows : List Row) → GroupRows asked.now.numbers.now.policy.now spec users host_group (group_shown group.now) rows
+        → Answers asked.now.numbers.now.policy.now asked.now.request.now rows (option_map answer_shown answer)) }
+{
+    let who = &asked.request.who;
+    if !allows::<Hosts>(
+        &mut question.hosts,
+        asked.numbers,
+        Kind::Host,
+        &group.hosts,
+        who,
+    )? {
+        return Ok(None);
+    }
+    let mut head = Head::none();
+    let mut latest = None;
+    let tables = group.commands.tables;
+    for (command, row) in group.commands.rows.iter().enumerate() {
+        head.inherit(&tables.command(row));
+        let member = Rows {
+            tables,
+            rows: std::slice::from_ref(&row.member),
+        };
+        let place = Place {
+            spec,
+            host_group,
+            command,
+        };
+        let answer = answer_of_command(question, asked, place, &head, &member)?;
+        latest = answer.or(latest);
+    }
+    Ok(latest)
+}
+
+/// Returns the answer of the last row of a command that fits, where the users and the hosts allow. `member` is the command alone.
+fn answer_of_command<'a>(
+    question: &mut Question<'a>,
+    asked: &Asked<'a, '_>,
+    place: Place,
+    head: &Head<'a>,
+    member: &Rows<'_, MemberRow>,
+) -> Result<Option<Answer<'a>>, AllocError>
+    requires question { IsQuestion asked.now.numbers.now.policy.now asked.now.request.now question.old }
+    requires runas { RunasIsStraight asked.now.numbers.now.policy.now (option_map runas_shown head.now.runas) }
+    requires member { IsStraight OfCommands asked.now.numbers.now.policy.now (members_shown member.now) }
+    ensures kept { IfOk result (λ _. IsQuestion asked.now.numbers.now.policy.now asked.now.request.now question.new) }
+    ensures answer { IfOk result (λ answer. (users hosts : List MemberOf)
+        → Allows OfUsers asked.now.numbers.now.policy.now (user_hits asked.now.request.now.who.user) users
+        → Allows OfHosts asked.now.numbers.now.policy.now (host_hits asked.now.request.now.who) hosts
+        → (h : HeadOf) → IsHead head.now h → (m : MemberOf) → members_shown member.now ≡ m ∷ []
+        → (rows : List Row) → CommandRows asked.now.numbers.now.policy.now place.spec place.host_group users hosts place.command (h, m) rows
+        → Answers asked.now.numbers.now.policy.now asked.now.request.now rows (option_map answer_shown answer)) }
+{
+    one_flat();
+    if !is_in_time(asked.request.moment, &head.options) {
+        return Ok(None);
+    }
+    if !question.allows_runas(asked, &head.runas)? {
+        return Ok(None);
+    }
+    let hit = last_hit::<Commands>(
+        &mut question.commands,
+        asked.numbers,
+        Kind::Cmnd,
+        member,
+        asked.command,
+    )?;
+    match hit {
+        Some(hit) => Ok(Some(tell(place, head, hit))),
+        None => Ok(None),
+    }
+}

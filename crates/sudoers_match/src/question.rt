@@ -1,0 +1,174 @@
+//! What is known of the aliases for one request.
+
+ghost use Rattle.std.specs.Prelude.{◌≡◌, IfOk};
+ghost use Rattle.sudoers_line.specs.declared.node.Kind.TheVariants.{User as OfUsers, Runas as OfRunas, Host as OfHosts};
+ghost use Rattle.sudoers_reader.specs.View.{members_shown, runas_shown};
+ghost use Rattle.std.specs.Option.{option_map};
+ghost use Rattle.sudoers_hits.specs.Hits.{user_hits, host_hits};
+ghost use Rattle.sudoers_verdict.specs.Search.{Remembers};
+ghost use Rattle.sudoers_match.specs.Allows.{Permits};
+ghost use Rattle.sudoers_match.specs.Answer.{command_line};
+ghost use Rattle.sudoers_match.specs.declared.request.Request.{Request as RequestOf};
+ghost use Rattle.sudoers_match.specs.Default.{IsRunasDefault};
+ghost use Rattle.sudoers_match.specs.Question.{IsQuestion, GroupPermits, RunasPermits};
+ghost use Rattle.sudoers_match.specs.Runas.{is_among};
+ghost use Rattle.sudoers_match.specs.Straight.{IsStraight, RunasIsStraight};
+
+use crate::allowing::{allows, last_hit};
+use crate::request::Request;
+use std::alloc::{AllocError, Global};
+use sudoers_check::Numbers;
+use sudoers_hits::{CommandLine, Group, belongs_to_number, is_same_name};
+use sudoers_reader::RunasSpec;
+use sudoers_tree::{Kind, MemberRow, Rows};
+use sudoers_verdict::{Groups, Users, Verdict, Verdicts, one_verdict};
+
+/// A request to a policy.
+#[derive(Clone, Copy)]
+pub struct Asked<'a, 'b> {
+    pub numbers: &'b Numbers<'a>,
+    pub request: &'b Request,
+    /// The command with its arguments, joined.
+    pub command: &'b CommandLine,
+    ghost command_is: { command.now ≡ command_line request.now },
+}
+
+/// What is known for one request: the verdicts on its user, on its host, on the user and the group as whom the command is to run, and
+/// on the command.
+#[derive(Drop)]
+pub struct Question<'a> {
+    /// As whom a command runs without a Runas_Spec.
+    pub default: &'a [u8],
+    pub users: Verdicts<'a>,
+    pub hosts: Verdicts<'a>,
+    pub targets: Verdicts<'a>,
+    pub groups: Verdicts<'a>,
+    pub commands: Verdicts<'a>,
+}
+
+impl<'a> Question<'a> {
+    /// Returns a question of which the verdicts on users and hosts are there already.
+    ///
+    /// # Errors
+    ///
+    /// Memory ran out.
+    pub fn new(
+        alloc: Global,
+        numbers: &Numbers<'a>,
+        default: &'a [u8],
+        users: Verdicts<'a>,
+        hosts: Verdicts<'a>,
+    ) -> Result<Question<'a>, AllocError>
+        ensures { IfOk result (λ question. (r : RequestOf) → IsRunasDefault numbers.now.policy.now r.who default.now
+            → Remembers OfUsers numbers.now.policy.now (user_hits r.who.user) users.entry
+            → Remembers OfHosts numbers.now.policy.now (host_hits r.who) hosts.entry → IsQuestion numbers.now.policy.now r question) }
+    {
+        let targets = Verdicts::new(alloc, numbers)?;
+        let groups = Verdicts::new(alloc, numbers)?;
+        let commands = Verdicts::new(alloc, numbers)?;
+        Ok(Question {
+            default,
+            users,
+            hosts,
+            targets,
+            groups,
+            commands,
+        })
+    }
+
+    /// Returns whether the command may run as the user and the group that are asked for, by its Runas_Spec.
+    ///
+    /// # Errors
+    ///
+    /// Memory ran out.
+    pub fn allows_runas(
+        &mut self,
+        asked: &Asked<'a, '_>,
+        runas: &Option<RunasSpec<'_>>,
+    ) -> Result<bool, AllocError>
+        requires question { IsQuestion asked.now.numbers.now.policy.now asked.now.request.now self.old }
+        requires straight { RunasIsStraight asked.now.numbers.now.policy.now (option_map runas_shown runas.now) }
+        ensures kept { IfOk result (λ _. IsQuestion asked.now.numbers.now.policy.now asked.now.request.now self.new) }
+        ensures permits { IfOk result (λ allowed. RunasPermits asked.now.numbers.now.policy.now asked.now.request.now.who asked.now.request.now.target asked.now.request.now.target_group (option_map runas_shown runas.now) allowed) }
+    {
+        let request = asked.request;
+        let own = is_among(request.target.groups.as_slice(), &request.target_group);
+        let Some(runas) = runas else {
+            return Ok(own && is_same_name(self.default, request.target.name.as_slice()));
+        };
+        if runas.users.rows.is_empty() {
+            let user = &request.who.user;
+            if request.target.uid != user.uid {
+                Ok(false)
+            } else if runas.groups.rows.is_empty() {
+                Ok(is_among(user.groups.as_slice(), &request.target_group))
+            } else {
+                self.allows_group(asked, &runas.groups)
+            }
+        } else if !self.allows_target(asked, &runas.users)? {
+            Ok(false)
+        } else if runas.groups.rows.is_empty() {
+            Ok(own)
+        } else {
+            self.allows_group(asked, &runas.groups)
+        }
+    }
+
+    /// Returns whether the list `users` of a Runas_Spec allows the user who is asked for.
+    fn allows_target(
+        &mut self,
+        asked: &Asked<'a, '_>,
+        users: &Rows<'_, MemberRow>,
+    ) -> Result<bool, AllocError>
+        requires question { IsQuestion asked.now.numbers.now.policy.now asked.now.request.now self.old }
+        requires straight { IsStraight OfRunas asked.now.numbers.now.policy.now (members_shown users.now) }
+        ensures kept { IfOk result (λ _. IsQuestion asked.now.numbers.now.policy.now asked.now.request.now self.new) }
+        ensures permits { IfOk result (λ allowed. Permits OfRunas asked.now.numbers.now.policy.now (user_hits asked.now.request.now.target) (members_shown users.now) allowed) }
+    {
+        allows::<Users>(
+            &mut self.targets,
+            asked.numbers,
+            Kind::Runas,
+            users,
+            &asked.request.target,
+        )
+    }
+
+    /// Returns whether the list `groups` of a Runas_Spec allows the group that is asked for, if one is. Where the list says nothing,
+    /// the group has to be one of the target's.
+    fn allows_group(
+        &mut self,
+        asked: &Asked<'a, '_>,
+        groups: &Rows<'_, MemberRow>,
+    ) -> Result<bool, AllocError>
+        requires question { IsQuestion asked.now.numbers.now.policy.now asked.now.request.now self.old }
+        requires straight { IsStraight OfRunas asked.now.numbers.now.policy.now (members_shown groups.now) }
+        ensures kept { IfOk result (λ _. IsQuestion asked.now.numbers.now.policy.now asked.now.request.now self.new) }
+        ensures permits { IfOk result (λ allowed. GroupPermits asked.now.numbers.now.policy.now asked.now.request.now.target asked.now.request.now.target_group (members_shown groups.now) allowed) }
+    {
+        one_verdict();
+        let request = asked.request;
+        let Some(group) = &request.target_group else {
+            return Ok(true);
+        };
+        let hit = last_hit::<Groups>(&mut self.groups, asked.numbers, Kind::Runas, groups, group)?;
+        match Verdict::of(hit) {
+            Verdict::Allow => Ok(true),
+            Verdict::Deny => Ok(false),
+            Verdict::Unsaid => Ok(is_among(
+                request.target.groups.as_slice(),
+                &request.target_group,
+            )),
+        }
+    }
+}
+
+/// Returns whether no group is asked for, or it is one of `groups`.
+fn is_among(groups: &[Group], group: &Option<Group>) -> bool
+    ensures { result ≡ is_among groups.now group.now }
+{
+    match group {
+        Some(group) => belongs_to_number(groups, group.gid),
+        None => true,
+    }
+}

@@ -1,0 +1,55 @@
+//! What a rule says of a command.
+
+ghost use Rattle.std.specs.Prelude.{◌≡◌};
+ghost use Rattle.sudoers_match.specs.Answer.{answer_shown};
+ghost use Rattle.sudoers_match.specs.Heads.{Head as HeadOf};
+ghost use Rattle.sudoers_match.specs.IsHead.{IsHead};
+ghost use Rattle.sudoers_match.specs.Question.{told_by};
+
+use crate::head::Head;
+use crate::options::Options;
+use crate::tags::Tags;
+use sudoers_verdict::Hit;
+
+/// The row that answers a request: where it stands, and what it says of the command.
+#[derive(Clone, Copy, Debug)]
+pub struct Answer<'a> {
+    /// Whether the command may run.
+    pub allow: bool,
+    /// The number of the user specification among all of them, from 0.
+    pub spec: usize,
+    /// The number of the host group in the user specification, from 0.
+    pub host_group: usize,
+    /// The number of the command among those that are written in the host group, from 0.
+    pub command: usize,
+    /// The tags that hold of the command.
+    pub tags: Tags,
+    /// The options that hold of the command.
+    pub options: Options<'a>,
+}
+
+/// Where a command stands.
+#[derive(Clone, Copy)]
+pub struct Place {
+    pub spec: usize,
+    pub host_group: usize,
+    pub command: usize,
+}
+
+/// Returns the answer of a row whose atom says `hit`.
+pub fn tell<'a>(place: Place, head: &Head<'a>, hit: Hit) -> Answer<'a>
+    ensures { (h : HeadOf) → IsHead head.now h → answer_shown result ≡ told_by place h hit }
+{
+    let mut tags = head.tags;
+    if hit.by_all {
+        tags.setenv = tags.setenv.or(Some(true));
+    }
+    Answer {
+        allow: hit.allow,
+        spec: place.spec,
+        host_group: place.host_group,
+        command: place.command,
+        tags,
+        options: head.options,
+    }
+}
