@@ -83,7 +83,11 @@ fn moment_of(bytes: &[u8]) -> u64 {
 /// Adds what a row says.
 fn push_row(answer: &Answer<'_>, answers: &mut String) -> Result<(), AllocError> {
     answers.push_str(if answer.allow { "allow" } else { "deny" })?;
-    write!(answers, " {}.{}.{}", answer.spec, answer.host_group, answer.command)?;
+    write!(
+        answers,
+        " {}.{}.{}",
+        answer.spec, answer.host_group, answer.command
+    )?;
     push_tags(&answer.tags, answers)?;
     push_options(&answer.options, answers)
 }
@@ -125,7 +129,12 @@ fn push_options(options: &Options<'_>, answers: &mut String) -> Result<(), Alloc
     ];
     for (set, name) in all.iter() {
         if let Some(value) = set {
-            write!(answers, " {}={}", name, from_utf8(value).unwrap_or("no text"))?;
+            write!(
+                answers,
+                " {}={}",
+                name,
+                from_utf8(value).unwrap_or("no text")
+            )?;
         }
     }
     Ok(())

@@ -10,9 +10,7 @@ mod set;
 mod wildcards;
 
 pub use asked::{CommandLine, Group, Person, Who};
-pub use hits::{
-    belongs_to_number, command_hits, group_hits, host_hits, is_same_name, user_hits,
-};
+pub use hits::{belongs_to_number, command_hits, group_hits, host_hits, is_same_name, user_hits};
 pub use laws::{escaped_is, star_is};
 pub use network::{Interface, network_hits};
 pub use wildcards::{GlobMode, glob, glob_as_read};

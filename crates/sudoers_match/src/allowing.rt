@@ -17,7 +17,7 @@ use sudoers_verdict::{Decision, Hit, MemberKind, Verdict, Verdicts, one_verdict}
 /// # Errors
 ///
 /// Memory ran out.
-pub fn last_hit<'a, K: MemberKind>(
+pub fn find_hit<'a, K: MemberKind>(
     verdicts: &mut Verdicts<'a>,
     numbers: &Numbers<'a>,
     kind: Kind,
@@ -53,7 +53,7 @@ pub fn allows<'a, K: MemberKind>(
     ensures allowed { IfOk result (λ allowed. Permits kind numbers.now.policy.now (K.test asked.now) (members_shown members.now) allowed) }
 {
     one_verdict();
-    let hit = last_hit::<K>(verdicts, numbers, kind, members, asked)?;
+    let hit = find_hit::<K>(verdicts, numbers, kind, members, asked)?;
     match Verdict::of(hit) {
         Verdict::Allow => Ok(true),
         _ => Ok(false),

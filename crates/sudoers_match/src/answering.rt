@@ -17,7 +17,7 @@ ghost use Rattle.sudoers_match.specs.Rows.{Row, CommandRows, GroupRows, SpecRows
 ghost use Rattle.sudoers_match.specs.Specs.{spec_of};
 ghost use Rattle.sudoers_match.specs.Straight.{IsStraight, RunasIsStraight, GroupIsStraight, GroupsAreStraight};
 
-use crate::allowing::{allows, last_hit};
+use crate::allowing::{allows, find_hit};
 use crate::defaults::find_default;
 use crate::head::Head;
 use crate::moment::is_in_time;
@@ -71,11 +71,11 @@ pub fn answer<'a>(
         request,
         command: &command,
     };
-    Ok(last_answer(&mut question, &asked)?)
+    Ok(find_answer(&mut question, &asked)?)
 }
 
 /// Returns the answer of the last row that fits.
-fn last_answer<'a>(
+fn find_answer<'a>(
     question: &mut Question<'a>,
     asked: &Asked<'a, '_>,
 ) -> Result<Option<Answer<'a>>, AllocError>
@@ -198,7 +198,7 @@ fn answer_of_command<'a>(
     if !question.allows_runas(asked, &head.runas)? {
         return Ok(None);
     }
-    let hit = last_hit::<Commands>(
+    let hit = find_hit::<Commands>(
         &mut question.commands,
         asked.numbers,
         Kind::Cmnd,

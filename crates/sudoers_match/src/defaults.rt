@@ -23,7 +23,7 @@ use sudoers_tree::{Kind, Node, Operator, Param, ParamRow, Policy, Rows, Scope, S
 use sudoers_verdict::{AskFault, Hosts, Users, Verdicts};
 
 /// Returns the value to which `param` sets runas_default, if it sets it.
-fn default_of<'a>(param: &Param<'a>) -> Option<&'a [u8]>
+fn read_setting<'a>(param: &Param<'a>) -> Option<&'a [u8]>
     ensures { option_map (λ (name : Bor (List ℕ)). name.now) result ≡ default_in (param_shown param.now) }
 {
     if param.name != b"runas_default".as_slice() {
@@ -44,13 +44,13 @@ fn default_of<'a>(param: &Param<'a>) -> Option<&'a [u8]>
 }
 
 /// Returns the value of the last setting of runas_default.
-fn last_default<'a>(params: &Rows<'a, ParamRow>) -> Option<&'a [u8]>
+fn find_setting<'a>(params: &Rows<'a, ParamRow>) -> Option<&'a [u8]>
     ensures { option_map (λ (name : Bor (List ℕ)). name.now) result ≡ last_of (settings_in (params_shown params.now)) }
 {
     let mut latest = None;
     let tables = params.tables;
     for row in params.rows {
-        latest = default_of(&tables.param(row)).or(latest);
+        latest = read_setting(&tables.param(row)).or(latest);
     }
     latest
 }
@@ -94,7 +94,7 @@ pub fn find_default<'a>(
     let lines = numbers.policy.lines();
     for row in lines.rows {
         if let Node::Defaults { scope, params } = lines.tables.node(&row.node) {
-            let latest = default_for(users, hosts, numbers, who, &scope, &params)?;
+            let latest = find_setting_for(users, hosts, numbers, who, &scope, &params)?;
             name = latest.unwrap_or(name);
         }
     }
@@ -102,7 +102,7 @@ pub fn find_default<'a>(
 }
 
 /// Returns the value of the last setting of runas_default in a Defaults line, if the line is for `who`.
-fn default_for<'a>(
+fn find_setting_for<'a>(
     users: &mut Verdicts<'a>,
     hosts: &mut Verdicts<'a>,
     numbers: &Numbers<'a>,
@@ -117,18 +117,18 @@ fn default_for<'a>(
     ensures hosts { IfOk result (λ _. Remembers OfHosts numbers.now.policy.now (host_hits who.now) hosts.new) }
     ensures latest { IfOk result (λ latest. IsLatestDefault numbers.now.policy.now who.now (option_map scope_shown scope.now) (params_shown params.now) (option_map (λ (name : Bor (List ℕ)). name.now) latest)) }
 {
-    let Some(name) = last_default(params) else {
+    let Some(name) = find_setting(params) else {
         return Ok(None);
     };
-    if counts(users, hosts, numbers, who, scope)? {
+    if applies(users, hosts, numbers, who, scope)? {
         Ok(Some(name))
     } else {
         Ok(None)
     }
 }
 
-/// Returns whether a setting with this scope counts for `who`.
-fn counts<'a>(
+/// Returns whether a setting with this scope applies to `who`.
+fn applies<'a>(
     users: &mut Verdicts<'a>,
     hosts: &mut Verdicts<'a>,
     numbers: &Numbers<'a>,

@@ -14,7 +14,7 @@ ghost use Rattle.sudoers_match.specs.Question.{IsQuestion, GroupPermits, RunasPe
 ghost use Rattle.sudoers_match.specs.Runas.{is_among};
 ghost use Rattle.sudoers_match.specs.Straight.{IsStraight, RunasIsStraight};
 
-use crate::allowing::{allows, last_hit};
+use crate::allowing::{allows, find_hit};
 use crate::request::Request;
 use std::alloc::{AllocError, Global};
 use sudoers_check::Numbers;
@@ -151,7 +151,7 @@ impl<'a> Question<'a> {
         let Some(group) = &request.target_group else {
             return Ok(true);
         };
-        let hit = last_hit::<Groups>(&mut self.groups, asked.numbers, Kind::Runas, groups, group)?;
+        let hit = find_hit::<Groups>(&mut self.groups, asked.numbers, Kind::Runas, groups, group)?;
         match Verdict::of(hit) {
             Verdict::Allow => Ok(true),
             Verdict::Deny => Ok(false),

@@ -29,8 +29,8 @@ returns-then-not-branch-clause-answer c users hosts user host h is m shown rows 
     (subst (λ o. RunasPermits lines r.who r.target r.target_group o false) is.runas
     (subst (RunasPermits lines r.who r.target r.target_group (option_map runas_shown c.args.head.now.runas)) c.if-not-branch.true c.in_ok-allows_runas.ensures.permits)) p
 
-pub last_hit-requires-clause-verdicts : goal.last_hit-requires-clause-verdicts
-last_hit-requires-clause-verdicts c =
+pub find_hit-requires-clause-verdicts : goal.find_hit-requires-clause-verdicts
+find_hit-requires-clause-verdicts c =
     let lines = c.args.asked.now.numbers.now.policy.now in
     subst (λ (cl : CommandLine). Remembers Cmnd lines (command_hits cl) c.allows_runas.new.self.commands) (sym c.args.asked.now.command_is)
     c.in_ok-allows_runas.ensures.kept.commands
@@ -45,7 +45,7 @@ returns-in-Some-clause-kept c =
       hosts = kept.hosts;
       targets = kept.targets;
       groups = kept.groups;
-      commands = subst (λ (cl : CommandLine). Remembers Cmnd lines (command_hits cl) c.last_hit.new.verdicts) c.args.asked.now.command_is c.in_ok-hit.ensures.kept;
+      commands = subst (λ (cl : CommandLine). Remembers Cmnd lines (command_hits cl) c.find_hit.new.verdicts) c.args.asked.now.command_is c.in_ok-hit.ensures.kept;
     }
 
 pub returns-in-None-clause-kept : goal.returns-in-None-clause-kept
@@ -58,7 +58,7 @@ returns-in-None-clause-kept c =
       hosts = kept.hosts;
       targets = kept.targets;
       groups = kept.groups;
-      commands = subst (λ (cl : CommandLine). Remembers Cmnd lines (command_hits cl) c.last_hit.new.verdicts) c.args.asked.now.command_is c.in_ok-hit.ensures.kept;
+      commands = subst (λ (cl : CommandLine). Remembers Cmnd lines (command_hits cl) c.find_hit.new.verdicts) c.args.asked.now.command_is c.in_ok-hit.ensures.kept;
     }
 
 pub returns-in-Some-clause-answer : goal.returns-in-Some-clause-answer

@@ -14,8 +14,8 @@ use Rattle.sudoers_match.proofs.Settings.{none_so_far, defaults_more, other_more
 use Rattle.sudoers_match.proofs.defaults.find_default.Goals as goal
 use Rattle.sudoers_match.proofs.defaults.find_default.Goals.{in-Defaults+in_ok-latest, in_default}
 
-pub default_for-requires-clause-straight : goal.default_for-requires-clause-straight
-default_for-requires-clause-straight c =
+pub find_setting_for-requires-clause-straight : goal.find_setting_for-requires-clause-straight
+find_setting_for-requires-clause-straight c =
     let lines = c.args.numbers.now.policy.now in
     let t = c.lines-lines.result.tables.now in
     let rows = c.lines-lines.result.rows.now in

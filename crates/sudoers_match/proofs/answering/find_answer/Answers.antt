@@ -12,8 +12,8 @@ use Rattle.sudoers_match.proofs.Lasts.{map_or}
 use Rattle.sudoers_match.proofs.Passed.{line, line_at, says, spec, left_spec, left_none}
 use Rattle.sudoers_match.proofs.Reached.{has_at, users_straight, groups_straight}
 use Rattle.sudoers_match.proofs.Rowed.{so_far_more, so_far_all}
-use Rattle.sudoers_match.proofs.answering.last_answer.Goals as goal
-use Rattle.sudoers_match.proofs.answering.last_answer.Goals.{in-Spec+in_ok-found, in_default}
+use Rattle.sudoers_match.proofs.answering.find_answer.Goals as goal
+use Rattle.sudoers_match.proofs.answering.find_answer.Goals.{in-Spec+in_ok-found, in_default}
 
 pub answer_in_spec-requires-clause-users : goal.answer_in_spec-requires-clause-users
 answer_in_spec-requires-clause-users c =

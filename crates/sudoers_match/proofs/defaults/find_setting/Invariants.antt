@@ -4,7 +4,7 @@ use Rattle.std.specs.Borrow.{Bor}
 use Rattle.sudoers_reader.specs.Tables.{param_in}
 use Rattle.sudoers_match.specs.Last.{last_of}
 use Rattle.sudoers_match.specs.Default.{settings_in}
-use Rattle.sudoers_match.proofs.defaults.last_default.Given as goal
+use Rattle.sudoers_match.proofs.defaults.find_setting.Given as goal
 
 abbrev pub invariant-loop-row : goal.invariant-loop-row
 invariant-loop-row l =

@@ -5,7 +5,7 @@ use Rattle.sudoers_match.specs.Answer.{answer_shown}
 use Rattle.sudoers_match.specs.Question.{IsQuestion, IsSoFar}
 use Rattle.sudoers_match.specs.Rows.{SpecRows}
 use Rattle.sudoers_match.specs.Specs.{specs_of}
-use Rattle.sudoers_match.proofs.answering.last_answer.Given as goal
+use Rattle.sudoers_match.proofs.answering.find_answer.Given as goal
 
 abbrev pub invariant-loop-row : goal.invariant-loop-row
 invariant-loop-row l = record {
