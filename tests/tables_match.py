@@ -29,6 +29,10 @@ The rows are as above, and a question is `? USER GROUPS @ HOST as TARGET GROUPS 
 Without `as` the target is root, without `group` none is asked for, and `at` stands only where the moment matters. The
 answer is `allow` or `deny`, the place of the row (user specification, host group and command, from 0), and the tags
 and options that hold of the command; or `none`, `Cycle` or `TooLong`.
+
+    edited answer   what it answers after edits
+
+A row that begins with `+ ` is a script, which the requests below it are asked after. The answer may be `refused`.
 """
 
 import re
@@ -39,7 +43,7 @@ from tables import Case, NoRow, frame, part, run_tables, text_of, unrolled
 ASKED = {("glob", "path"): b"p", ("glob", "args"): b"a", ("glob", "host"): b"l", ("network",): b"n"}
 SIGNS = {"+ ": "true", "- ": "false"}
 LISTS = {"user": b"U", "runas": b"R", "group": b"G", "host": b"H", "command": b"C"}
-POLICIES = {("host", "groups"): b"K", ("runas", "default"): b"D", ("answer",): b"A"}
+POLICIES = {("host", "groups"): b"K", ("runas", "default"): b"D", ("answer",): b"A", ("edited", "answer"): b"E"}
 REQUEST = re.compile("(?P<user>.+?) @ (?P<host>.+?)(?: as (?P<target>.+?))?(?: group (?P<group>.+?))?(?: at (?P<moment>[0-9]+))? runs (?P<command>.+)")
 VERDICTS = {"+ ": "Allow", "- ": "Deny", "? ": "Unsaid", "! ": "Cycle"}
 
@@ -113,19 +117,23 @@ def parts_of_user(asked):
 
 def cases_of_policies(group):
     """The cases of a group of questions to a policy."""
-    asked_of, policy = POLICIES[group.words], None
+    asked_of, policy, script = POLICIES[group.words], None, None
     for number, row in group.rows:
+        if asked_of == b"E" and row[:2] == "+ ":
+            script = row[2:]
+            continue
         if row[:2] != "? ":
-            policy = row
+            policy, script = row, None
             continue
         asked, arrow, wanted = row[2:].partition(" => ")
-        if policy is None or not arrow:
-            raise group.error(number, "a question without a policy or an answer")
-        parts = parts_of_request(asked) if asked_of == b"A" else parts_of_user(asked)
+        if policy is None or not arrow or (asked_of == b"E" and script is None):
+            raise group.error(number, "a question without a policy, a script or an answer")
+        parts = parts_of_request(asked) if asked_of in b"AE" else parts_of_user(asked)
         if parts is None:
             raise group.error(number, "this is no question")
-        name = f"{group.where}:{number}: {group.title}: {policy}: {row}"
-        yield Case(name, frame(asked_of, text_of(policy), *parts), wanted, str)
+        scripts = [] if script is None else [text_of(script)]
+        name = f"{group.where}:{number}: {group.title}: {policy}: {script or ''}: {row}"
+        yield Case(name, frame(asked_of, text_of(policy), *scripts, *parts), wanted, str)
 
 
 def cases_of_lists(group):

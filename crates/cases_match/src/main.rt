@@ -1,9 +1,10 @@
 //! Answers cases: what `sudoers_hits` says of patterns and networks, `sudoers_verdict` of lists,
-//! and `sudoers_match` of policies.
+//! `sudoers_match` of policies, and of policies that `sudoers_edit` edited.
 //!
 //! The body of a case holds parts. Its answer is one line.
 #![tactic(auto)]
 
+mod edited;
 mod lists;
 mod patterns;
 mod policies;
@@ -41,6 +42,7 @@ fn push_answer(alloc: Global, case: Case<'_>, answers: &mut String) -> Result<()
         b'p' | b'a' | b'l' | b'n' => answers.push_str(patterns::answer_of(alloc, case)?),
         b'K' | b'D' => policies::push_answer(alloc, case, answers),
         b'A' => requests::push_answer(alloc, case, answers),
+        b'E' => edited::push_answer(alloc, case, answers),
         _ => answers.push_str(lists::answer_of(alloc, case)?),
     }
 }

@@ -19,7 +19,16 @@ pub fn push_answer(alloc: Global, case: Case<'_>, answers: &mut String) -> Resul
         Err(ReadFault::NoMemory) => return Err(AllocError),
         Err(_) => return answers.push_str("no policy"),
     };
-    match answer(alloc, &policy, &request_of(alloc, rest)?) {
+    let request = request_of(alloc, rest)?;
+    push_outcome(answer(alloc, &policy, &request), answers)
+}
+
+/// Adds an answer or a fault; an error if memory ran out.
+pub fn push_outcome(
+    outcome: Result<Option<Answer<'_>>, AskFault>,
+    answers: &mut String,
+) -> Result<(), AllocError> {
+    match outcome {
         Ok(Some(answer)) => push_row(&answer, answers),
         Ok(None) => answers.push_str("none"),
         Err(AskFault::Cycle) => answers.push_str("Cycle"),
@@ -29,7 +38,7 @@ pub fn push_answer(alloc: Global, case: Case<'_>, answers: &mut String) -> Resul
 }
 
 /// Returns the request that seven parts are: host, user, target, group, command, arguments and moment.
-fn request_of(alloc: Global, bytes: &[u8]) -> Result<Request, AllocError> {
+pub fn request_of(alloc: Global, bytes: &[u8]) -> Result<Request, AllocError> {
     let (host, rest) = part_of(bytes);
     let (user, rest) = part_of(rest);
     let (target, rest) = part_of(rest);

@@ -1,0 +1,86 @@
+//! What a policy answers to a request after edits.
+
+ghost use Rattle.std.specs.Prelude.{IfOk};
+ghost use Rattle.std.specs.Option.{option_map};
+ghost use Rattle.sudoers_match.specs.Answer.{answer_shown};
+ghost use Rattle.cases_match.specs.Edited.{AnswersAfter};
+
+use crate::lists::part_of;
+use crate::requests::{push_outcome, request_of};
+use case_frames::{Case, next_part};
+use std::alloc::{AllocError, Global};
+use sudoers_edit::{Edit, Editor, read_script};
+use sudoers_match::{Answer, AskFault, Request, answer};
+use sudoers_tree::{Policy, ReadFault};
+
+/// Why there is no answer after edits.
+enum EditedFault {
+    /// An edit is refused.
+    Refused,
+    Asked(AskFault),
+}
+
+/// Makes `edits` in order, and returns the answer to `request` of the policy to which they lead.
+fn answer_after<'a>(
+    alloc: Global,
+    editor: &'a mut Editor,
+    edits: &[Edit],
+    request: &Request,
+) -> Result<Option<Answer<'a>>, EditedFault>
+    ensures { IfOk result (λ answer. AnswersAfter edits.now editor.old.lines request.now (option_map answer_shown answer)) }
+{
+    if editor.apply_all(edits).is_err() {
+        return Err(EditedFault::Refused);
+    }
+    let policy = editor.policy();
+    policy.is_policy();
+    match answer(alloc, policy, request) {
+        Ok(answer) => Ok(answer),
+        Err(fault) => Err(EditedFault::Asked(fault)),
+    }
+}
+
+/// Adds what a policy answers to a request after the edits of a script; `unknown` if the case has no such form.
+pub fn push_answer(alloc: Global, case: Case<'_>, answers: &mut String) -> Result<(), AllocError> {
+    let Some((text, rest)) = next_part(case.body) else {
+        return answers.push_str("unknown");
+    };
+    match Policy::read(alloc, text) {
+        Ok(policy) => {
+            let mut editor = Editor::new(policy);
+            push_edited(alloc, &mut editor, rest, answers)
+        }
+        Err(ReadFault::NoMemory) => Err(AllocError),
+        Err(_) => answers.push_str("no policy"),
+    }
+}
+
+/// Adds what the editor's policy answers after the edits of a script, which is the first part; the others are the request.
+fn push_edited(
+    alloc: Global,
+    editor: &mut Editor,
+    parts: &[u8],
+    answers: &mut String,
+) -> Result<(), AllocError> {
+    let (script, rest) = part_of(parts);
+    let request = request_of(alloc, rest)?;
+    match read_script(alloc, script) {
+        Ok(edits) => push_after(alloc, editor, edits.as_slice(), &request, answers),
+        Err(_) => answers.push_str("no script"),
+    }
+}
+
+/// Adds what the editor's policy answers after edits.
+fn push_after(
+    alloc: Global,
+    editor: &mut Editor,
+    edits: &[Edit],
+    request: &Request,
+    answers: &mut String,
+) -> Result<(), AllocError> {
+    match answer_after(alloc, editor, edits, request) {
+        Ok(answer) => push_outcome(Ok(answer), answers),
+        Err(EditedFault::Asked(fault)) => push_outcome(Err(fault), answers),
+        Err(EditedFault::Refused) => answers.push_str("refused"),
+    }
+}
