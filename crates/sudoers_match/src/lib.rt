@@ -17,6 +17,7 @@ mod tags;
 pub use answering::answer;
 pub use defaults::runas_default;
 pub use groups::{GroupPlace, host_groups};
+pub use head::Head;
 pub use options::Options;
 pub use request::Request;
 pub use rules::Answer;

@@ -1,0 +1,3 @@
+pub mod Passing
+pub mod SaidWhole
+pub mod Limits

@@ -1,0 +1,85 @@
+-- Texts and lines that pass a limit.
+use Rattle.std.proofs.Common.{◌≡◌, ◌⊎◌, inl, inr, ℕ, zero, suc, ◌+◌, ◌<◌, ◌≤◌, List, [], ◌∷◌, ◌++◌, length, map, drop, get_or, slice_get, Some, None, refl, sym, ap, subst, ◌∙◌, append_assoc, arith}
+use Rattle.std.specs.List.{AllByRecursion}
+use Rattle.std.proofs.lemmas.List.{drop_more, length-append}
+use Rattle.std.proofs.lemmas.Grind.{flat_map-append}
+use Rattle.std.proofs.lemmas.Option.{slice_get-get_or}
+use Rattle.sudoers_text.specs.Fault.{text_limit, line_limit}
+use Rattle.sudoers_line.specs.declared.node.Node.{Node}
+use Rattle.sudoers_print.specs.Lines.{printed_line, printed_lines}
+use Rattle.sudoers_cvt.specs.declared.fault.CvtFault.{CvtFault}
+use Rattle.sudoers_cvt.specs.declared.fault.CvtFault.TheVariants.{Cycle, TooLarge, NotUtf8, NoMemory}
+use Rattle.sudoers_cvt.specs.Rules.{Rules, Fits, lines_of, printed}
+use Rattle.sudoers_cvt.specs.Long.{IsLong, IsTooLong, PassesLimit}
+
+-- what is next in a list, by what each row says
+pub next_at : {X Y : Type 0} (f : X → Y) (xs : List X) (i : ℕ) (d : X) → i < length xs → (y : Y) → y ≡ f (get_or xs i d)
+    → map f (drop i xs) ≡ y ∷ map f (drop (i + 1) xs)
+next_at f xs i d h y e = ap (map f) (drop_more xs i d h) ∙ ap (λ z. z ∷ map f (drop (i + 1) xs)) (sym e)
+
+-- A text that goes on is as long at least.
+pub longer : (a b : List ℕ) (fault : CvtFault) → length a ≤ length b → IsLong a fault → IsLong b fault
+longer a b TooLarge le h = omega arith
+longer a b NoMemory le h = tt
+longer a b Cycle le h = absurd h
+longer a b NotUtf8 le h = absurd h
+
+pub within : (out gap text more whole : List ℕ) → out ++ ((gap ++ text) ++ more) ≡ whole → length ((out ++ gap) ++ text) ≤ length whole
+within out gap text more whole e =
+    omega (arith, ap length e, length-append out ((gap ++ text) ++ more), length-append (gap ++ text) more, length-append gap text, length-append (out ++ gap) text, length-append out gap)
+
+abbrev pub FitsLine : Node → Type 0
+FitsLine n = length (printed_line n) ≤ line_limit
+
+all_at : (ns : List Node) (i : ℕ) (n : Node) → slice_get ns i ≡ Some n → AllByRecursion FitsLine ns → FitsLine n
+all_at [] i n e all = absurd (let clash : None ≡ Some n = e in cc)
+all_at (m ∷ ns) zero n e all = let same : m ≡ n = cc in subst FitsLine same all.0
+all_at (m ∷ ns) (suc i) n e all = all_at ns i n e all.1
+
+-- One line is too long.
+pub one_passes : (text : List ℕ) (ns : List Node) (i : ℕ) (n : Node) (fault : CvtFault) → slice_get ns i ≡ Some n → IsTooLong (printed_line n) fault → PassesLimit text ns fault
+one_passes text ns i n TooLarge e h = inr (λ all. let fits : FitsLine n = all_at ns i n e all in omega arith)
+one_passes text ns i n NoMemory e h = tt
+one_passes text ns i n Cycle e h = absurd h
+one_passes text ns i n NotUtf8 e h = absurd h
+
+pub all_append : (ns ms : List Node) → AllByRecursion FitsLine ns → AllByRecursion FitsLine ms → AllByRecursion FitsLine (ns ++ ms)
+all_append [] ms a b = b
+all_append (n ∷ ns) ms a b = (a.0, all_append ns ms a.1 b)
+
+all_first : (ns ms : List Node) → AllByRecursion FitsLine (ns ++ ms) → AllByRecursion FitsLine ns
+all_first [] ms a = tt
+all_first (n ∷ ns) ms a = (a.0, all_first ns ms a.1)
+
+all_second : (ns ms : List Node) → AllByRecursion FitsLine (ns ++ ms) → AllByRecursion FitsLine ms
+all_second [] ms a = a
+all_second (n ∷ ns) ms a = all_second ns ms a.1
+
+abbrev pub IsPrintFault : Rules → CvtFault → Type 0
+IsPrintFault r fault = (fault ≡ NoMemory) ⊎ ((fault ≡ TooLarge) × (Fits r → ⊥))
+
+-- Some of the lines pass a limit, so the rules do.
+pub some_pass : (r : Rules) (before ns after : List Node) (fault : CvtFault) → lines_of r ≡ before ++ (ns ++ after) → PassesLimit (printed_lines before) ns fault → IsPrintFault r fault
+some_pass r before ns after NoMemory e h = inl refl
+some_pass r before ns after Cycle e h = absurd h
+some_pass r before ns after NotUtf8 e h = absurd h
+some_pass r before ns after TooLarge e (inl long) = inr (
+  refl,
+  λ fits.
+      omega (
+        arith,
+        long,
+        fits.text,
+        ap (λ ls. length (printed_lines ls)) e,
+        ap length (flat_map-append printed_line before (ns ++ after)),
+        ap length (flat_map-append printed_line ns after),
+        length-append (printed_lines before) (printed_lines (ns ++ after)),
+        length-append (printed_lines ns) (printed_lines after),
+        length-append (printed_lines before) (printed_lines ns),
+      ),
+)
+some_pass r before ns after TooLarge e (inr bad) = inr (
+  refl,
+  λ fits.
+      bad (all_first ns after (all_second before (ns ++ after) (subst (AllByRecursion FitsLine) e fits.lines))),
+)

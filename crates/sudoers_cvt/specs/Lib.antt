@@ -1,0 +1,5 @@
+pub mod Effective
+pub mod Rules
+pub mod Said
+pub mod Long
+pub mod Rule

@@ -1,0 +1,43 @@
+//! Runas_Specs as they are printed (sudoers(5), Runas_Spec).
+
+ghost use Rattle.std.specs.Prelude.{◌≡◌, ◌++◌, codes, OnOk};
+ghost use Rattle.sudoers_reader.specs.View.{runas_shown, members_shown};
+ghost use Rattle.sudoers_print.specs.Commands.{printed_inside, printed_runas};
+
+use crate::lists::append_list;
+use std::alloc::{AllocError, Global};
+use sudoers_line::Kind;
+use sudoers_reader::RunasSpec;
+
+/// Appends what stands in the parentheses.
+fn append_inside(alloc: Global, out: &mut Vec<u8>, runas: &RunasSpec<'_>) -> Result<(), AllocError>
+    ensures { OnOk result (out.new.items ≡ out.old.items ++ printed_inside (members_shown runas.now.users) (members_shown runas.now.groups)) }
+{
+    append_list(alloc, out, false, Kind::Runas, &runas.users)?;
+    if runas.groups.rows.is_empty() {
+        return Ok(());
+    }
+    if runas.users.rows.is_empty() {
+        out.extend_from_slice(b": ")?;
+    } else {
+        out.extend_from_slice(b" : ")?;
+    }
+    append_list(alloc, out, false, Kind::Runas, &runas.groups)
+}
+
+/// Appends a Runas_Spec.
+///
+/// # Errors
+///
+/// Memory ran out.
+pub fn append_runas(
+    alloc: Global,
+    out: &mut Vec<u8>,
+    runas: &RunasSpec<'_>,
+) -> Result<(), AllocError>
+    ensures { OnOk result (out.new.items ≡ out.old.items ++ printed_runas (runas_shown runas.now)) }
+{
+    out.extend_from_slice(b"(")?;
+    append_inside(alloc, out, runas)?;
+    out.extend_from_slice(b")")
+}
