@@ -107,18 +107,18 @@ numbers_have k (n ∷ names) ds i h = elim (has_cons (number_of k n ds) (numbers
   | inr rest ↦ let r = numbers_have k names ds i rest in (r.0, inr r.1, r.2)
 ]
 
-have_numbers : (k : Kind) (names : List (List ℕ)) (ds : List Definition) (i : ℕ) (name : List ℕ) → Has names name → number_of k name ds ≡ Some i → Has (numbers_of k names ds) i
+pub have_numbers : (k : Kind) (names : List (List ℕ)) (ds : List Definition) (i : ℕ) (name : List ℕ) → Has names name → number_of k name ds ≡ Some i → Has (numbers_of k names ds) i
 have_numbers k [] ds i name h e = absurd h
 have_numbers k (n ∷ names) ds i name (inl same) e = cons_first (number_of k n ds) (numbers_of k names ds) i (ap (λ m. number_of k m ds) same ∙ e)
 have_numbers k (n ∷ names) ds i name (inr h) e = cons_has (number_of k n ds) (numbers_of k names ds) i (have_numbers k names ds i name h e)
 
-node_at : (ds others : List Definition) (i : ℕ) (d : Definition) → slice_get others i ≡ Some d → edges_of (nodes_of ds others) i ≡ numbers_of d.kind (names_in d.def.members) ds
+pub node_at : (ds others : List Definition) (i : ℕ) (d : Definition) → slice_get others i ≡ Some d → edges_of (nodes_of ds others) i ≡ numbers_of d.kind (names_in d.def.members) ds
 node_at ds [] i d e = absurd cc
 node_at ds (x ∷ others) zero d e = ap (λ (y : Definition). numbers_of y.kind (names_in y.def.members) ds) (some_is x d e)
 node_at ds (x ∷ others) (suc n) d e = node_at ds others n d e
 
 -- only nodes have edges
-leads_from : (ds others : List Definition) (i j : ℕ) → Has (edges_of (nodes_of ds others) i) j → (d : Definition) × (slice_get others i ≡ Some d)
+pub leads_from : (ds others : List Definition) (i j : ℕ) → Has (edges_of (nodes_of ds others) i) j → (d : Definition) × (slice_get others i ≡ Some d)
 leads_from ds [] i j h = absurd h
 leads_from ds (x ∷ others) zero j h = (x, refl)
 leads_from ds (x ∷ others) (suc n) j h = leads_from ds others n j h
@@ -229,7 +229,7 @@ roots_said ds n (line ∷ lines) i h =
         (x.kind, x.name, has_front (roots_in x.kind line.node) (roots x.kind lines) x.name (subst (λ names. Has names x.name) (rooting_names x.kind n line.node t) among), m.2)
     by false t g = absurd g
 
-said_roots : (ds : List Definition) (n : ℕ) (lines : List Line) (k : Kind) (name : List ℕ) (i : ℕ) → Has (roots k lines) name → number_of k name ds ≡ Some i
+pub said_roots : (ds : List Definition) (n : ℕ) (lines : List Line) (k : Kind) (name : List ℕ) (i : ℕ) → Has (roots k lines) name → number_of k name ds ≡ Some i
     → Has (roots_since ds n lines) i
 said_roots ds n [] k name i h e = absurd h
 said_roots ds n (line ∷ lines) k name i h e =
@@ -245,6 +245,21 @@ said_roots ds n (line ∷ lines) k name i h e =
         let is = picked_by k x name m.2 in
         have_among ds (mentioned_in n line.node) i x m.1 (ap (λ j. number_of j x.name ds) (sym is.0) ∙ ap (λ nm. number_of k nm ds) is.1 ∙ e)
     by false t g = subst (λ names. Has names name) (no_names k line.node t) g
+
+-- what is mentioned there is a root of its kind
+pub roots_begun : (lines : List Line) (i : ℕ) (d : Definition) → Has (roots_since (definitions lines) 0 lines) i → slice_get (definitions lines) i ≡ Some d → Has (roots d.kind lines) d.def.name
+roots_begun lines i d h at =
+    let said = roots_said (definitions lines) 0 lines i h in
+    let is = defines_is said.0 said.1 d (number_at said.0 said.1 (definitions lines) i d said.3 at) in
+    subst (λ name. Has (roots d.kind lines) name) (sym is.1) (subst (λ k. Has (roots k lines) said.1) (sym is.0) said.2)
+
+-- an edge leads to a definition whose name is mentioned
+pub edges_begun : (ds : List Definition) (i : ℕ) (d : Definition) → slice_get ds i ≡ Some d → (j : ℕ) (e : Definition) → Leads (graph_of ds) i j → slice_get ds j ≡ Some e
+    → Has (names_in d.def.members) e.def.name
+edges_begun ds i d at j e leads at_e =
+    let said = numbers_have d.kind (names_in d.def.members) ds j (subst (λ edges. Has edges j) (node_at ds ds i d at) leads) in
+    let is = defines_is d.kind said.0 e (number_at d.kind said.0 ds j e said.2 at_e) in
+    subst (λ name. Has (names_in d.def.members) name) (sym is.1) said.1
 
 -- ---- marks
 
@@ -289,16 +304,10 @@ pub used_marks : (lines : List Line) (marks : List Bool) → IsPolicy lines
 used_marks lines marks policy are =
     marks_are (is_used lines) marks (definitions lines) (are.size ∙ graph_length (definitions lines)) each
   where
-    begun : (i : ℕ) (d : Definition) → Has (roots_since (definitions lines) 0 lines) i → slice_get (definitions lines) i ≡ Some d → Has (roots d.kind lines) d.def.name
-    begun i d h at =
-        let said = roots_said (definitions lines) 0 lines i h in
-        let is = defines_is said.0 said.1 d (number_at said.0 said.1 (definitions lines) i d said.3 at) in
-        subst (λ name. Has (roots d.kind lines) name) (sym is.1) (subst (λ k. Has (roots k lines) said.1) (sym is.0) said.2)
-
     each : (i : ℕ) (d : Definition) (b : Bool) → slice_get (definitions lines) i ≡ Some d → slice_get marks i ≡ Some b → is_used lines d ≡ b
     each i d true at mark =
         ap not (refuted (is_unused lines d) (λ e. unused_is lines d (at_has (definitions lines) i d at) e
-        (names_led (definitions lines) (Has (roots_since (definitions lines) 0 lines)) (λ k. Has (roots k lines)) begun i (are.holds i mark) d at)))
+        (names_led (definitions lines) (Has (roots_since (definitions lines) 0 lines)) (λ k. Has (roots k lines)) (roots_begun lines) i (are.holds i mark) d at)))
     each i d false at mark =
         ap not (decided (is_unused lines d) (λ e. are.fails i mark
         (numbers_led (definitions lines) policy.once (Has (roots_since (definitions lines) 0 lines)) d.kind (Has (roots d.kind lines))
@@ -313,17 +322,10 @@ cyclic_marks lines marks policy are =
     edges_at : (i : ℕ) (d : Definition) → slice_get (definitions lines) i ≡ Some d → edges_of (graph_of (definitions lines)) i ≡ numbers_of d.kind (names_in d.def.members) (definitions lines)
     edges_at i d at = node_at (definitions lines) (definitions lines) i d at
 
-    begun : (i : ℕ) (d : Definition) → slice_get (definitions lines) i ≡ Some d → (j : ℕ) (e : Definition) → Leads (graph_of (definitions lines)) i j → slice_get (definitions lines) j ≡ Some e
-        → Has (names_in d.def.members) e.def.name
-    begun i d at j e leads at_e =
-        let said = numbers_have d.kind (names_in d.def.members) (definitions lines) j (subst (λ edges. Has edges j) (edges_at i d at) leads) in
-        let is = defines_is d.kind said.0 e (number_at d.kind said.0 (definitions lines) j e said.2 at_e) in
-        subst (λ name. Has (names_in d.def.members) name) (sym is.1) said.1
-
     each : (i : ℕ) (d : Definition) (b : Bool) → slice_get (definitions lines) i ≡ Some d → slice_get marks i ≡ Some b → is_cyclic lines d ≡ b
     each i d true at mark =
         decided (is_cyclic lines d) (λ e. straight_is lines d (at_has (definitions lines) i d at) e
-        (names_led (definitions lines) (Leads (graph_of (definitions lines)) i) (λ k. Has (names_in d.def.members)) (begun i d at) i (are.holds i mark) d at))
+        (names_led (definitions lines) (Leads (graph_of (definitions lines)) i) (λ k. Has (names_in d.def.members)) (edges_begun (definitions lines) i d at) i (are.holds i mark) d at))
     each i d false at mark =
         refuted (is_cyclic lines d) (λ e. are.fails i mark
         (numbers_led (definitions lines) policy.once (Leads (graph_of (definitions lines)) i) d.kind (Has (names_in d.def.members))

@@ -1,6 +1,8 @@
 -- The numbers of definitions, by their places.
-use Rattle.std.proofs.Common.{◌≡◌, ℕ, zero, suc, ◌+◌, ◌<◌, ◌≤◌, true, false, List, [], ◌∷◌, ◌++◌, length, refl, sym, ap, ap₂, subst, ◌∙◌, arith, if◌then◌else◌, Option, Some, None, option_map, slice_index_or}
+use Rattle.std.proofs.Common.{◌≡◌, ◌≢◌, inl, inr, ℕ, zero, suc, ◌+◌, ◌<◌, ◌≤◌, true, false, List, [], ◌∷◌, ◌++◌, length, get_or, slice_get, refl, sym, ap, ap₂, subst, ◌∙◌, arith, if◌then◌else◌, Option, Some, None, option_map}
+use Rattle.std.proofs.lemmas.Bool.{cases_lt, cases_eq}
 use Rattle.std.proofs.lemmas.List.{length-append}
+use Rattle.std.proofs.lemmas.Option.{slice_get_within, slice_get-get_or, get_or_from_slice_get}
 use Rattle.sudoers_line.specs.declared.node.Kind.{Kind}
 use Rattle.sudoers_line.specs.declared.node.Kind.TheVariants.{User, Runas, Host, Cmnd}
 use Rattle.sudoers_line.specs.declared.node.Def.{Def}
@@ -10,7 +12,11 @@ use Rattle.sudoers_tree.specs.Line.{Line}
 use Rattle.sudoers_tree.specs.declared.place.Place.{Place}
 use Rattle.sudoers_tree.specs.Definition.{Definition, is_kind, definitions_from, definitions_in, definitions_since, definitions, defines, defined, place_of}
 use Rattle.sudoers_tree.specs.Policy.{count_of, IsPolicy}
-use Rattle.sudoers_check.specs.Numbers.{count_in, firsts_since, number_of}
+use Rattle.sudoers_check.specs.Chain.{Has}
+use Rattle.sudoers_check.specs.Numbers.{count_in, first_of, firsts_since, number_of}
+use Rattle.sudoers_check.specs.declared.numbers.First.{First}
+use Rattle.sudoers_check.proofs.Lists.{place_of as Has_place}
+use Rattle.sudoers_check.proofs.Named.{has_back}
 
 -- HOW MANY
 
@@ -49,10 +55,6 @@ by_kinds : (ds : List Definition) → length ds ≡ count_of User ds + count_of 
 by_kinds [] = refl
 by_kinds (d ∷ ds) = one_more d.kind (length ds) (count_of User ds) (count_of Runas ds) (count_of Host ds) (count_of Cmnd ds) (by_kinds ds)
 
-pub firsts_length : (s : ℕ) (lines : List Line) → length (firsts_since s lines) ≡ length lines
-firsts_length s [] = refl
-firsts_length s (line ∷ lines) = ap suc (firsts_length (s + count_in line.node) lines)
-
 pub few_in_all : (lines : List Line) → IsPolicy lines → length (definitions lines) ≤ 16384
 few_in_all lines policy =
     omega (arith, by_kinds (definitions lines), policy.few User, policy.few Runas, policy.few Host, policy.few Cmnd)
@@ -64,11 +66,14 @@ few_total lines policy = omega (arith, few_in_all lines policy, since_length 0 l
 
 -- The definition at this place is the one with this number, where so many stand before these lines, the first of which has number n.
 pub record IsAt (s n : ℕ) (lines : List Line) (p : Place) (i : ℕ) : Type 0 where
-  pub line : ℕ
-  pub is : p.line ≡ n + line
-  pub within : line < length lines
-  pub first : slice_index_or (firsts_since s lines) line 0 + p.def ≡ s + i
+  pub number : ℕ
+  pub first : Has (firsts_since n s lines) (record { line = p.line; number = number })
+  pub sum : number + p.def ≡ s + i
   pub small : i < total lines
+
+first_stands : (n s many : ℕ) (rest : List First) → 0 < many → Has (first_of n s many ++ rest) (record { line = n; number = s })
+first_stands n s zero rest h = absurd (omega arith)
+first_stands n s (suc many) rest h = inl refl
 
 -- the definition that is found among those of a line
 record IsIn (line m : ℕ) (defs : List Def) (d : Definition) (i : ℕ) : Type 0 where
@@ -153,10 +158,10 @@ in_node k name s n line lines = by_node line.node refl
     by_node (node.Alias j defs) e =
         widen_same (IsIn n 0 defs) (λ d i. IsAt s n (line ∷ lines) d.place i) (defined k name (definitions_from j n 0 defs)) (number_of k name (definitions_from j n 0 defs))
         (λ d i is. let few : count_in line.node ≡ length defs = ap count_in e in record {
-          line = 0;
-          is = omega (arith, is.on);
-          within = omega arith;
-          first = omega (arith, is.at);
+          number = s;
+          first = subst (λ l. Has (firsts_since n s (line ∷ lines)) (record { line = l; number = s })) (sym is.on)
+              (first_stands n s (count_in line.node) (firsts_since (n + 1) (s + count_in line.node) lines) (omega (arith, is.within, few)));
+          sum = omega (arith, is.at);
           small = omega (arith, is.within, few);
         }) (in_line k name j n 0 defs)
     by_node node.Blank e = tt
@@ -174,10 +179,9 @@ numbered k name s n (line ∷ lines) =
     (number_of k name (definitions_in n line.node)) (number_of k name (definitions_since (n + 1) lines))
     (in_node k name s n line lines) (numbered k name (s + count_in line.node) (n + 1) lines) (λ d i is. is)
     (λ d i is. record {
-      line = suc is.line;
-      is = omega (arith, is.is);
-      within = omega (arith, is.within);
-      first = omega (arith, is.first, count);
+      number = is.number;
+      first = has_back (first_of n s (count_in line.node)) (firsts_since (n + 1) (s + count_in line.node) lines) (record { line = d.place.line; number = is.number }) is.first;
+      sum = omega (arith, is.sum, count);
       small = omega (arith, is.small, count);
     }) in
     subst (λ o. Found (λ d i. IsAt s n (line ∷ lines) d.place i) o (number_of k name (definitions_since n (line ∷ lines)))) (sym (defined_append k name (definitions_in n line.node) (definitions_since (n + 1) lines)))
@@ -211,20 +215,77 @@ its_number k name lines p e = by (defined k name (definitions lines)) (number_of
     by (Some d) None found e = absurd found
     by (Some d) (Some i) found e = (i, refl, subst (λ x. IsAt 0 0 lines x i) (some_same d.place p e) found)
 
-any_default : (xs : List ℕ) (n a b : ℕ) → n < length xs → slice_index_or xs n a ≡ slice_index_or xs n b
-any_default [] n a b l = absurd (omega arith)
-any_default (x ∷ xs) zero a b l = refl
-any_default (x ∷ xs) (suc n) a b l = any_default xs n a b (omega (arith, l))
+-- ---- lines in file order
+
+-- the lines stand in file order, each once, behind those before
+later_lines : (n s : ℕ) (lines : List Line) (k : ℕ) (x : First) → slice_get (firsts_since n s lines) k ≡ Some x → n ≤ x.line
+later_lines n s [] k x at = absurd cc
+later_lines n s (line ∷ lines) k x at = by (count_in line.node) (later_lines (n + 1) (s + count_in line.node) lines) k at
+  where
+    by : (many : ℕ) → ((j : ℕ) (y : First) → slice_get (firsts_since (n + 1) (s + count_in line.node) lines) j ≡ Some y → n + 1 ≤ y.line)
+        → (j : ℕ) → slice_get (first_of n s many ++ firsts_since (n + 1) (s + count_in line.node) lines) j ≡ Some x → n ≤ x.line
+    by zero rest j e = omega (arith, rest j x e)
+    by (suc many) rest zero e = let same : record { line = n; number = s } ≡ x = cc in omega (arith, ap (λ (y : First). y.line) same)
+    by (suc many) rest (suc j) e = omega (arith, rest j x e)
+
+pub lines_rise : (n s : ℕ) (lines : List Line) (i j : ℕ) (x y : First) → slice_get (firsts_since n s lines) i ≡ Some x → slice_get (firsts_since n s lines) j ≡ Some y → i < j → x.line < y.line
+lines_rise n s [] i j x y at to h = absurd cc
+lines_rise n s (line ∷ lines) i j x y at to h =
+    by (count_in line.node) (lines_rise (n + 1) (s + count_in line.node) lines) (later_lines (n + 1) (s + count_in line.node) lines) i j at to h
+  where
+    by : (many : ℕ)
+        → ((i j : ℕ) (x y : First) → slice_get (firsts_since (n + 1) (s + count_in line.node) lines) i ≡ Some x → slice_get (firsts_since (n + 1) (s + count_in line.node) lines) j ≡ Some y → i < j → x.line < y.line)
+        → ((j : ℕ) (y : First) → slice_get (firsts_since (n + 1) (s + count_in line.node) lines) j ≡ Some y → n + 1 ≤ y.line)
+        → (i j : ℕ) → slice_get (first_of n s many ++ firsts_since (n + 1) (s + count_in line.node) lines) i ≡ Some x
+        → slice_get (first_of n s many ++ firsts_since (n + 1) (s + count_in line.node) lines) j ≡ Some y → i < j → x.line < y.line
+    by zero rest later i j e f h = rest i j x y e f h
+    by (suc many) rest later i zero e f h = absurd (omega arith)
+    by (suc many) rest later zero (suc j) e f h = let same : record { line = n; number = s } ≡ x = cc in omega (arith, ap (λ (z : First). z.line) same, later j y f)
+    by (suc many) rest later (suc i) (suc j) e f h = rest i j x y e f (omega arith)
+
+pub lines_ascend : (lines : List Line) (firsts : List First) → firsts ≡ firsts_since 0 0 lines → (i j : ℕ) (d : First) → i ≤ j → j < length firsts
+    → (get_or firsts i d).line ≤ (get_or firsts j d).line
+lines_ascend lines firsts are i j d le h = elim (cases_lt i j) [
+  | inl l ↦
+      let x = slice_get-get_or firsts i d (omega (arith, l, h)) in
+      let y = slice_get-get_or firsts j d h in
+      omega (arith, lines_rise 0 0 lines i j (get_or firsts i d) (get_or firsts j d) (ap (λ xs. slice_get xs i) (sym are) ∙ x) (ap (λ xs. slice_get xs j) (sym are) ∙ y) l)
+  | inr l ↦ let same : i ≡ j = omega (arith, l) in omega (arith, ap (λ k. (get_or firsts k d).line) same)
+]
+
+-- a place among them is that of its line
+first_is : (lines : List Line) (firsts : List First) → firsts ≡ firsts_since 0 0 lines → (at : ℕ) (d x : First) → at < length firsts → (get_or firsts at d).line ≡ x.line
+    → Has (firsts_since 0 0 lines) x → (get_or firsts at d).number ≡ x.number
+first_is lines firsts are at d x h e stands =
+    let place = Has_place (firsts_since 0 0 lines) x stands in
+    let here : slice_get (firsts_since 0 0 lines) at ≡ Some (get_or firsts at d) = ap (λ xs. slice_get xs at) (sym are) ∙ slice_get-get_or firsts at d h in
+    let same : place.0 ≡ at = elim (cases_eq place.0 at) [
+      | inl q ↦ q
+      | inr q ↦ elim (cases_lt place.0 at) [
+        | inl l ↦ let less = lines_rise 0 0 lines place.0 at x (get_or firsts at d) place.1 here l in absurd (omega (arith, less, e))
+        | inr l ↦ let less = lines_rise 0 0 lines at place.0 (get_or firsts at d) x here place.1 (omega (arith, l, q)) in absurd (omega (arith, less, e))
+      ]
+    ] in
+    let two : Some (get_or firsts at d) ≡ Some x = sym here ∙ ap (slice_get (firsts_since 0 0 lines)) (sym same) ∙ place.1 in
+    let is : get_or firsts at d ≡ x = cc in
+    ap (λ (y : First). y.number) is
+
+-- A line that has a definition is among them.
+pub is_there : (k : Kind) (name : List ℕ) (lines : List Line) (p : Place) (firsts : List First) → firsts ≡ firsts_since 0 0 lines → place_of k name lines ≡ Some p
+    → ((i : ℕ) (d : First) → i < length firsts → (get_or firsts i d).line ≢ p.line) → ⊥
+is_there k name lines p firsts are e none =
+    let n = its_number k name lines p e in
+    let x : First = record { line = p.line; number = n.2.number } in
+    let place = Has_place (firsts_since 0 0 lines) x n.2.first in
+    let at : slice_get firsts place.0 ≡ Some x = ap (λ xs. slice_get xs place.0) are ∙ place.1 in
+    none place.0 x (slice_get_within firsts place.0 x at) (ap (λ (y : First). y.line) (get_or_from_slice_get firsts place.0 x x at))
 
 -- What is told of a name that is defined at this place.
-pub told : (k : Kind) (name : List ℕ) (lines : List Line) (p : Place) (firsts : List ℕ) (first : ℕ) → firsts ≡ firsts_since 0 lines → place_of k name lines ≡ Some p
-    → first ≡ slice_index_or firsts p.line first → (number_of k name (definitions lines) ≡ Some (first + p.def)) × (first + p.def < total lines)
-told k name lines p firsts first are e is =
+pub told : (k : Kind) (name : List ℕ) (lines : List Line) (p : Place) (firsts : List First) (at : ℕ) (first : First) → firsts ≡ firsts_since 0 0 lines → place_of k name lines ≡ Some p
+    → at < length firsts → ((d : First) → (get_or firsts at d).line ≡ p.line) → first ≡ get_or firsts at first
+    → (number_of k name (definitions lines) ≡ Some (first.number + p.def)) × (first.number + p.def < total lines)
+told k name lines p firsts at first are e within line is =
     let n = its_number k name lines p e in
-    let on : p.line ≡ n.2.line = omega (arith, n.2.is) in
-    let inside : n.2.line < length (firsts_since 0 lines) = omega (arith, n.2.within, firsts_length 0 lines) in
-    let same : first ≡ slice_index_or (firsts_since 0 lines) n.2.line 0 =
-    is ∙ ap (λ xs. slice_index_or xs p.line first) are ∙ ap (λ l. slice_index_or (firsts_since 0 lines) l first) on
-    ∙ any_default (firsts_since 0 lines) n.2.line first 0 inside in
-    let sum : first + p.def ≡ n.0 = omega (arith, same, n.2.first) in
+    let same : (get_or firsts at first).number ≡ n.2.number = first_is lines firsts are at first (record { line = p.line; number = n.2.number }) within (line first) n.2.first in
+    let sum : first.number + p.def ≡ n.0 = omega (arith, same, n.2.sum, ap (λ (y : First). y.number) is) in
     (n.1 ∙ ap (λ i. Some i) (sym sum), omega (arith, sum, n.2.small))

@@ -9,3 +9,4 @@ pub mod Found
 pub mod Search
 pub mod Seen
 pub mod Noting
+pub mod Walk

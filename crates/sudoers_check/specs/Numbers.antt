@@ -1,6 +1,6 @@
 -- The numbers of the definitions of a policy (`number_of`). The rest is a device of the proof, which no public contract cites: the
 -- definitions as the numbered nodes of a graph.
-use Rattle.std.specs.Prelude.{ℕ, suc, ◌+◌, ◌&&◌, ◌||◌, Bool, true, false, List, [], ◌∷◌, ◌++◌, length, map, Option, Some, None, if◌then◌else◌}
+use Rattle.std.specs.Prelude.{ℕ, zero, suc, ◌+◌, Bool, true, false, List, [], ◌∷◌, ◌++◌, length, map, Option, Some, None, if◌then◌else◌}
 use Rattle.std.specs.List.{filter_map}
 use Rattle.std.specs.Option.{option_map}
 use Rattle.sudoers_line.specs.declared.node.Kind.{Kind}
@@ -10,6 +10,7 @@ use Rattle.sudoers_tree.specs.Line.{Line}
 use Rattle.sudoers_tree.specs.Definition.{Definition, defines}
 use Rattle.sudoers_check.specs.Mentioned.{Mention, mentioned_in}
 use Rattle.sudoers_check.specs.Chains.{names_in}
+use Rattle.sudoers_check.specs.declared.numbers.First.{First}
 
 -- how many definitions a line has that says this
 abbrev pub count_in : Node → ℕ
@@ -20,10 +21,16 @@ count_in (node.Include dir path) = 0
 count_in (node.Defaults scope params) = 0
 count_in (node.Spec users groups) = 0
 
--- for each line, how many definitions stand before it, where so many stand before all
-abbrev pub firsts_since : ℕ → List Line → List ℕ
-firsts_since n [] = []
-firsts_since n (line ∷ lines) = n ∷ firsts_since (n + count_in line.node) lines
+-- a line with so many definitions, if it has any
+abbrev pub first_of : ℕ → ℕ → ℕ → List First
+first_of line number zero = []
+first_of line number (suc many) = record { line = line; number = number } ∷ []
+
+-- the lines that have definitions, of lines that are numbered from n on, each with how many definitions stand before it, where so many
+-- stand before all
+abbrev pub firsts_since : ℕ → ℕ → List Line → List First
+firsts_since n number [] = []
+firsts_since n number (line ∷ lines) = first_of n number (count_in line.node) ++ firsts_since (n + 1) (number + count_in line.node) lines
 
 -- which of the definitions is the first of this name in this kind
 abbrev pub number_of : Kind → List ℕ → List Definition → Option ℕ
@@ -68,9 +75,3 @@ picked true (true ∷ ms) (d ∷ ds) = d ∷ picked true ms ds
 picked true (false ∷ ms) (d ∷ ds) = picked true ms ds
 picked false (true ∷ ms) (d ∷ ds) = picked false ms ds
 picked false (false ∷ ms) (d ∷ ds) = d ∷ picked false ms ds
-
--- both have a mark at one place
-abbrev pub have_both : List Bool → List Bool → Bool
-have_both [] others = false
-have_both (m ∷ marks) [] = false
-have_both (m ∷ marks) (o ∷ others) = (m && o) || have_both marks others

@@ -7,7 +7,7 @@ ghost use Rattle.sudoers_tree.specs.Definition.{definitions, Definition};
 ghost use Rattle.sudoers_tree.specs.Reading.{read_of};
 ghost use Rattle.sudoers_check.specs.Chains.{HasReachableCycle};
 ghost use Rattle.sudoers_check.specs.Led.{is_used, is_cyclic, unused_of, cyclic_of};
-ghost use Rattle.sudoers_check.specs.Numbers.{have_both, picked, graph_of};
+ghost use Rattle.sudoers_check.specs.Numbers.{picked, graph_of};
 ghost use Rattle.sudoers_check.specs.Noting.{places_from, unmarked_places};
 ghost use Rattle.sudoers_check.specs.Report.{report_of};
 
@@ -17,6 +17,7 @@ use crate::lines::{count_definitions, find_kind};
 use crate::notes::{marked_notes, undefined_notes};
 use crate::numbers::Numbers;
 use crate::report::Report;
+use crate::walk::Walk;
 use std::alloc::{AllocError, Global};
 use sudoers_tree::{Kind, Node, Place, Policy, ReadFault};
 
@@ -76,23 +77,17 @@ pub fn unused(alloc: Global, policy: &Policy) -> Result<Vec<(Kind, Place)>, Allo
 pub fn reachable_cycle(alloc: Global, policy: &Policy) -> Result<bool, AllocError>
     ensures { IfOk result (λ cycle. IsTrue cycle ↔ HasReachableCycle policy.now) }
 {
+    policy.is_policy();
     let numbers = Numbers::new(alloc, policy)?;
-    let graph = numbers.graph(alloc)?;
-    let reached = reached(alloc, &numbers, &graph)?;
-    let cyclic = cyclic(alloc, &numbers, &graph)?;
-    Ok(have_both(reached.as_slice(), cyclic.as_slice()))
-}
-
-/// Returns whether both have a mark at one place.
-fn have_both(marks: &[bool], others: &[bool]) -> bool
-    ensures { result ≡ have_both marks.now others.now }
-{
-    for (at, mark) in marks.iter().enumerate() {
-        if at < others.len() && *mark && others[at] {
-            return true;
+    let mut walk = Walk::new(alloc, &numbers)?;
+    let lines = policy.lines();
+    for row in lines.rows {
+        let round = walk.line_leads_round(&numbers, &lines.tables.node(&row.node))?;
+        if round {
+            return Ok(true);
         }
     }
-    false
+    Ok(false)
 }
 
 /// Returns the places of the definitions that have no mark, with their kinds.

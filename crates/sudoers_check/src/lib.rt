@@ -11,7 +11,9 @@ mod mentioned;
 mod notes;
 mod numbers;
 mod report;
+mod roots;
 mod seen;
+mod walk;
 
 pub use checking::{check, check_text, reachable_cycle, unused};
 pub use laws::{chains_are, mentions_are, numbers_are};

@@ -1,11 +1,12 @@
 //! The definitions of a policy as the nodes of a graph, numbered in file order from 0.
 
-ghost use Rattle.std.specs.Prelude.{◌≡◌, ◌++◌, ℕ, List, length, map, IfOk, OnOk};
+ghost use Rattle.std.specs.Prelude.{◌≡◌, ◌≢◌, ◌<◌, ◌≤◌, ◌++◌, ℕ, List, length, map, slice_index_or, None, IfOk, IfSome, OnOk};
 ghost use Rattle.sudoers_line.specs.declared.node.Def.{Def as DefOf};
 ghost use Rattle.sudoers_reader.specs.View.{defs_shown, members_shown, node_shown};
 ghost use Rattle.sudoers_tree.specs.Definition.{definitions, definitions_in};
 ghost use Rattle.sudoers_check.specs.Chains.{names_in};
-ghost use Rattle.sudoers_check.specs.Numbers.{firsts_since, number_of, numbers_of, nodes_of, graph_of, roots_since, numbers_among};
+ghost use Rattle.sudoers_check.specs.declared.numbers.First.{First as FirstOf};
+ghost use Rattle.sudoers_check.specs.Numbers.{first_of, firsts_since, number_of, numbers_of, nodes_of, graph_of, roots_since, numbers_among};
 ghost use Rattle.sudoers_check.specs.Mentioned.{mentioned_in as mentions_of};
 
 use crate::graph::Graph;
@@ -14,15 +15,49 @@ use crate::mentioned::mentioned_in;
 use std::alloc::{AllocError, Global};
 use sudoers_tree::{Atom, DefRow, Kind, MemberRow, Node, Policy, Rows};
 
+/// A line that defines aliases, and how many definitions stand before it.
+#[derive(Clone, Copy)]
+struct First {
+    line: usize,
+    number: usize,
+}
+
 /// The numbers of the definitions of a policy, in file order from 0.
 #[derive(Drop)]
 pub struct Numbers<'a> {
     pub policy: &'a Policy,
-    /// For each line how many definitions stand before it.
-    firsts: Vec<usize>,
+    /// The lines that define aliases, in file order.
+    firsts: Vec<First>,
     count: usize,
-    ghost firsts_are: { firsts.items ≡ firsts_since 0 policy.now },
+    ghost firsts_are: { firsts.items ≡ firsts_since 0 0 policy.now },
     ghost count_is: { count ≡ length (definitions policy.now) },
+}
+
+/// Adds the line with this number, before which `number` definitions stand, if it defines any aliases.
+fn append_first(
+    line: usize,
+    number: usize,
+    many: usize,
+    firsts: &mut Vec<First>,
+) -> Result<(), AllocError>
+    ensures { OnOk result (firsts.new.items ≡ firsts.old.items ++ first_of line number many) }
+{
+    if many > 0 {
+        firsts.push(First { line, number })?;
+    }
+    Ok(())
+}
+
+/// Returns the place of a line among lines in file order, if it is there.
+fn find_first(firsts: &[First], line: usize) -> Option<usize>
+    requires { (i j : ℕ) (d : FirstOf) → i ≤ j → j < length firsts.now → (slice_index_or firsts.now i d).line ≤ (slice_index_or firsts.now j d).line }
+    ensures found { IfSome result (λ at. (at < length firsts.now) × ((d : FirstOf) → (slice_index_or firsts.now at d).line ≡ line)) }
+    ensures missing { result ≡ None → (i : ℕ) (d : FirstOf) → i < length firsts.now → (slice_index_or firsts.now i d).line ≢ line }
+{
+    match firsts.binary_search_by_key(&line, |first| first.line) {
+        Ok(at) => Some(at),
+        Err(_) => None,
+    }
 }
 
 impl<'a> Numbers<'a> {
@@ -35,12 +70,13 @@ impl<'a> Numbers<'a> {
         ensures { IfOk result (λ numbers. numbers.policy.now ≡ policy.now) }
     {
         policy.is_policy();
-        let mut firsts = Vec::with_capacity(alloc, policy.len())?;
+        let mut firsts = Vec::new(alloc);
         let mut count = 0;
         let lines = policy.lines();
-        for row in lines.rows {
-            firsts.push(count)?;
-            count += count_definitions(&lines.tables.node(&row.node));
+        for (line, row) in lines.rows.iter().enumerate() {
+            let many = count_definitions(&lines.tables.node(&row.node));
+            append_first(line, count, many, &mut firsts)?;
+            count += many;
         }
         Ok(Numbers {
             policy,
@@ -62,7 +98,8 @@ impl<'a> Numbers<'a> {
     {
         self.policy.is_policy();
         let place = self.policy.definition(kind, name)?;
-        Some(self.firsts[place.line] + place.def)
+        let at = find_first(self.firsts.as_slice(), place.line)?;
+        Some(self.firsts[at].number + place.def)
     }
 
     /// Returns the definitions, each with those that it mentions.

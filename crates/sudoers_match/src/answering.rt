@@ -10,7 +10,7 @@ ghost use Rattle.sudoers_check.specs.Chains.{HasReachableCycle};
 ghost use Rattle.sudoers_verdict.specs.declared.verdict.AskFault.TheVariants.{Cycle, TooLong, NoMemory};
 ghost use Rattle.sudoers_match.specs.Allows.{Allows};
 ghost use Rattle.sudoers_match.specs.Answer.{Answers, IsAnswer, answer_shown, argument_limit, joined};
-ghost use Rattle.sudoers_match.specs.Heads.{Head as HeadOf};
+ghost use Rattle.sudoers_match.specs.Heads.{Head as HeadOf, no_head};
 ghost use Rattle.sudoers_match.specs.IsHead.{IsHead};
 ghost use Rattle.sudoers_match.specs.Question.{IsQuestion};
 ghost use Rattle.sudoers_match.specs.Rows.{Row, CommandRows, GroupRows, SpecRows};
@@ -120,22 +120,27 @@ fn answer_in_spec<'a>(
     let mut latest = None;
     let tables = groups.tables;
     for (host_group, row) in groups.rows.iter().enumerate() {
-        let answer = answer_in_group(question, asked, spec, host_group, &tables.group(row))?;
+        let mut head = Head::none();
+        let group = tables.group(row);
+        let answer = answer_in_group(question, asked, spec, host_group, &group, &mut head)?;
         latest = answer.or(latest);
     }
     Ok(latest)
 }
 
-/// Returns the answer of the last row of a host group that fits, where the users allow.
+/// Returns the answer of the last row of a host group that fits, where the users allow. `head` is that of a command before which nothing
+/// stands, and becomes that of the last command.
 fn answer_in_group<'a>(
     question: &mut Question<'a>,
     asked: &Asked<'a, '_>,
     spec: usize,
     host_group: usize,
     group: &HostGroup<'a>,
+    head: &mut Head<'a>,
 ) -> Result<Option<Answer<'a>>, AllocError>
     requires question { IsQuestion asked.now.numbers.now.policy.now asked.now.request.now question.old }
     requires straight { GroupIsStraight asked.now.numbers.now.policy.now (group_shown group.now) }
+    requires head { IsHead head.old no_head }
     ensures kept { IfOk result (λ _. IsQuestion asked.now.numbers.now.policy.now asked.now.request.now question.new) }
     ensures answer { IfOk result (λ answer. (users : List MemberOf)
         → Allows OfUsers asked.now.numbers.now.policy.now (user_hits asked.now.request.now.who.user) users
@@ -152,7 +157,6 @@ fn answer_in_group<'a>(
     )? {
         return Ok(None);
     }
-    let mut head = Head::none();
     let mut latest = None;
     let tables = group.commands.tables;
     for (command, row) in group.commands.rows.iter().enumerate() {
@@ -166,7 +170,7 @@ fn answer_in_group<'a>(
             host_group,
             command,
         };
-        let answer = answer_of_command(question, asked, place, &head, &member)?;
+        let answer = answer_of_command(question, asked, place, head, &member)?;
         latest = answer.or(latest);
     }
     Ok(latest)

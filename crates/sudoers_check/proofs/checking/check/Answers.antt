@@ -1,4 +1,4 @@
-use Rattle.std.proofs.Common.{◌≡◌, ◌∙◌, List, true, false, map, ap, sym}
+use Rattle.std.proofs.Common.{◌≡◌, ◌∙◌, List, true, false, map, ap}
 use Rattle.sudoers_tree.specs.Line.{Line}
 use Rattle.sudoers_tree.specs.Definition.{definitions}
 use Rattle.sudoers_check.specs.Led.{is_used, is_unused, is_cyclic, cyclic_of, unused_of}

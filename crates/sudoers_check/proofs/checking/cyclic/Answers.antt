@@ -1,8 +1,6 @@
-use Rattle.std.proofs.Common.{◌∙◌, subst, ap, length}
-use Rattle.sudoers_tree.specs.Definition.{definitions}
+use Rattle.std.proofs.Common.{subst, length}
 use Rattle.sudoers_check.specs.Graph.{IsOnCycle, Marks}
 use Rattle.sudoers_check.proofs.Linked.{cyclic_marks}
-use Rattle.sudoers_check.proofs.Nodes.{graph_length}
 use Rattle.sudoers_check.proofs.checking.cyclic.Goals as goal
 
 pub returns : goal.returns

@@ -1,10 +1,10 @@
-use Rattle.std.proofs.Common.{◌≡◌, ◌∙◌, sym, subst, ap, length, List}
+use Rattle.std.proofs.Common.{◌≡◌, ◌∙◌, sym, subst, length, List}
 use Rattle.sudoers_tree.specs.Line.{Line}
 use Rattle.sudoers_tree.specs.Definition.{definitions}
 use Rattle.sudoers_check.specs.Graph.{IsReached, Marks, AreNodes}
 use Rattle.sudoers_check.specs.Numbers.{graph_of, roots_since}
 use Rattle.sudoers_check.proofs.Linked.{used_marks}
-use Rattle.sudoers_check.proofs.Nodes.{graph_length, are_roots}
+use Rattle.sudoers_check.proofs.Nodes.{are_roots}
 use Rattle.sudoers_check.proofs.checking.reached.Goals as goal
 
 pub reached-requires : goal.reached-requires

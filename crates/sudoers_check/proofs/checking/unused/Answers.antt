@@ -1,5 +1,4 @@
-use Rattle.std.proofs.Common.{◌≡◌, ◌∙◌, List, length, false, map, ap, sym, subst, IfOk}
-use Rattle.sudoers_line.specs.declared.node.Kind.{Kind}
+use Rattle.std.proofs.Common.{◌≡◌, ◌∙◌, List, false, map, ap, subst, IfOk}
 use Rattle.sudoers_tree.specs.Line.{Line}
 use Rattle.sudoers_tree.specs.Definition.{Definition, definitions}
 use Rattle.sudoers_check.specs.Led.{is_used, is_unused}

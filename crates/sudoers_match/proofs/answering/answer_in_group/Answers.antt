@@ -41,7 +41,7 @@ loop-command-init c =
         commands = was.commands;
       };
       so_far = list_none c.args.asked.now.numbers.now.policy.now c.args.asked.now.request.now c.args.spec c.args.host_group (members_shown g.hosts)
-          (map (command_in g.commands.tables.now) g.commands.rows.now) c.none-head.result c.none-head.ensures;
+          (map (command_in g.commands.tables.now) g.commands.rows.now) c.args.head.now c.requires.head;
     }
 
 pub answer_of_command-requires-clause-runas : goal.answer_of_command-requires-clause-runas

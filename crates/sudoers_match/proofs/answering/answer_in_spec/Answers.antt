@@ -28,9 +28,9 @@ returns-then-not-branch-clause-answer c rows p =
 pub answer_in_group-requires-clause-straight : goal.answer_in_group-requires-clause-straight
 answer_in_group-requires-clause-straight c =
     let groups = c.args.groups.now in
-    let g : HostGroup = group_shown c.group.result in
+    let g : HostGroup = group_shown c.group-group.result in
     c.requires.groups g (has_at (groups_shown groups) c.loop-host_group.host_group g
-    (at_map (group_in groups.tables.now) groups.rows.now c.loop-host_group.host_group _ c.loop-host_group-test.true g c.group.ensures))
+    (at_map (group_in groups.tables.now) groups.rows.now c.loop-host_group.host_group _ c.loop-host_group-test.true g c.group-group.ensures))
 
 pub loop-host_group-preserved : goal.loop-host_group-preserved
 loop-host_group-preserved c =
@@ -40,8 +40,8 @@ loop-host_group-preserved c =
     let groups = c.args.groups.now in
     let gs = groups_shown groups in
     let i = c.loop-host_group.host_group in
-    let g : HostGroup = group_shown c.group.result in
-    let at = at_map (group_in groups.tables.now) groups.rows.now i _ c.loop-host_group-test.true g c.group.ensures in
+    let g : HostGroup = group_shown c.group-group.result in
+    let at = at_map (group_in groups.tables.now) groups.rows.now i _ c.loop-host_group-test.true g c.group-group.ensures in
     let Part = GroupRows lines c.args.spec users in
     let user : Permits User lines (user_hits r.who.user) users true =
     subst (Permits User lines (user_hits r.who.user) users) c.if-not-branch.false c.in_ok-allows.ensures.allowed in
