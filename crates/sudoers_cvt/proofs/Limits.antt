@@ -1,6 +1,7 @@
 -- Texts and lines that pass a limit.
-use Rattle.std.proofs.Common.{◌≡◌, ◌⊎◌, inl, inr, ℕ, zero, suc, ◌+◌, ◌<◌, ◌≤◌, List, [], ◌∷◌, ◌++◌, length, map, drop, get_or, slice_get, Some, None, refl, sym, ap, subst, ◌∙◌, append_assoc, arith}
-use Rattle.std.specs.List.{AllByRecursion}
+use Rattle.std.proofs.Common.{Bool, true, false, ◌&&◌, nat_le, ◌≡◌, ◌⊎◌, inl, inr, ℕ, zero, suc, ◌+◌, ◌<◌, ◌≤◌, List, [], ◌∷◌, ◌++◌, length, map, drop, get_or, slice_get, Some, None, refl, sym, ap, subst, ◌∙◌, append_assoc, arith}
+use Rattle.std.specs.List.{AllByRecursion, list_all}
+use Rattle.std.proofs.lemmas.Bool.{leb-true, le-leb}
 use Rattle.std.proofs.lemmas.List.{drop_more, length-append}
 use Rattle.std.proofs.lemmas.Grind.{flat_map-append}
 use Rattle.std.proofs.lemmas.Option.{slice_get-get_or}
@@ -9,8 +10,8 @@ use Rattle.sudoers_line.specs.declared.node.Node.{Node}
 use Rattle.sudoers_print.specs.Lines.{printed_line, printed_lines}
 use Rattle.sudoers_cvt.specs.declared.fault.CvtFault.{CvtFault}
 use Rattle.sudoers_cvt.specs.declared.fault.CvtFault.TheVariants.{Cycle, TooLarge, NotUtf8, NoMemory}
-use Rattle.sudoers_cvt.specs.Rules.{Rules, Fits, lines_of, printed}
-use Rattle.sudoers_cvt.specs.Long.{IsLong, IsTooLong, PassesLimit}
+use Rattle.sudoers_cvt.specs.Rules.{Rules, fits, lines_of, printed}
+use Rattle.sudoers_cvt.specs.Long.{IsLong, IsTooLong, PassesLimit, Fits, IsPrintFault}
 
 -- what is next in a list, by what each row says
 pub next_at : {X Y : Type 0} (f : X → Y) (xs : List X) (i : ℕ) (d : X) → i < length xs → (y : Y) → y ≡ f (get_or xs i d)
@@ -55,9 +56,6 @@ all_second : (ns ms : List Node) → AllByRecursion FitsLine (ns ++ ms) → AllB
 all_second [] ms a = a
 all_second (n ∷ ns) ms a = all_second ns ms a.1
 
-abbrev pub IsPrintFault : Rules → CvtFault → Type 0
-IsPrintFault r fault = (fault ≡ NoMemory) ⊎ ((fault ≡ TooLarge) × (Fits r → ⊥))
-
 -- Some of the lines pass a limit, so the rules do.
 pub some_pass : (r : Rules) (before ns after : List Node) (fault : CvtFault) → lines_of r ≡ before ++ (ns ++ after) → PassesLimit (printed_lines before) ns fault → IsPrintFault r fault
 some_pass r before ns after NoMemory e h = inl refl
@@ -83,3 +81,39 @@ some_pass r before ns after TooLarge e (inr bad) = inr (
   λ fits.
       bad (all_first ns after (all_second before (ns ++ after) (subst (AllByRecursion FitsLine) e fits.lines))),
 )
+
+fits_line : (n : Node) → nat_le (length (printed_line n)) line_limit ≡ true → FitsLine n
+fits_line n h = leb-true (length (printed_line n)) line_limit h
+
+both : (a b : Bool) → a && b ≡ true → (a ≡ true) × (b ≡ true)
+both true b h = (refl, h)
+both false b h = absurd (let clash : false ≡ true = h in cc)
+
+all_fit : (ns : List Node) → list_all (λ n. nat_le (length (printed_line n)) line_limit) ns ≡ true → AllByRecursion FitsLine ns
+all_fit [] h = tt
+all_fit (n ∷ ns) h =
+    let parts = both (nat_le (length (printed_line n)) line_limit) (list_all (λ m. nat_le (length (printed_line m)) line_limit) ns) h in
+    (fits_line n parts.0, all_fit ns parts.1)
+
+fit_all : (ns : List Node) → AllByRecursion FitsLine ns → list_all (λ n. nat_le (length (printed_line n)) line_limit) ns ≡ true
+fit_all [] h = refl
+fit_all (n ∷ ns) h = ap (λ t. t && list_all (λ m. nat_le (length (printed_line m)) line_limit) ns) (le-leb (length (printed_line n)) line_limit h.0) ∙ fit_all ns h.1
+
+pub fits_is : (r : Rules) → Fits r → fits r ≡ true
+fits_is r f = ap (λ t. t && list_all (λ n. nat_le (length (printed_line n)) line_limit) (lines_of r)) (le-leb (length (printed r)) text_limit f.text) ∙ fit_all (lines_of r) f.lines
+
+is_fit : (r : Rules) → fits r ≡ true → Fits r
+is_fit r h =
+    let parts = both (nat_le (length (printed r)) text_limit) (list_all (λ n. nat_le (length (printed_line n)) line_limit) (lines_of r)) h in
+    record { text = leb-true (length (printed r)) text_limit parts.0; lines = all_fit (lines_of r) parts.1 }
+
+pub fits_not : (r : Rules) → (Fits r → ⊥) → fits r ≡ false
+fits_not r never = by (fits r) refl
+  where
+    by : (b : Bool) → fits r ≡ b → fits r ≡ false
+    by true e = absurd (never (is_fit r e))
+    by false e = e
+
+pub fault_is : (r : Rules) (fault : CvtFault) → IsPrintFault r fault → (fault ≡ NoMemory) ⊎ ((fault ≡ TooLarge) × (fits r ≡ false))
+fault_is r fault (inl e) = inl e
+fault_is r fault (inr p) = inr (p.0, fits_not r p.1)

@@ -1,9 +1,10 @@
 -- A device of the proof, which no public contract cites: lines that are too long.
-use Rattle.std.specs.Prelude.{◌<◌, ◌≤◌, ◌⊎◌, ℕ, List, ◌++◌, length}
+use Rattle.std.specs.Prelude.{◌≡◌, ◌<◌, ◌≤◌, ◌⊎◌, ℕ, List, ◌++◌, length}
 use Rattle.std.specs.List.{AllByRecursion}
 use Rattle.sudoers_text.specs.Fault.{text_limit, line_limit}
 use Rattle.sudoers_line.specs.declared.node.Node.{Node}
 use Rattle.sudoers_print.specs.Lines.{printed_line, printed_lines}
+use Rattle.sudoers_cvt.specs.Rules.{Rules, lines_of, printed}
 use Rattle.sudoers_cvt.specs.declared.fault.CvtFault.{CvtFault}
 use Rattle.sudoers_cvt.specs.declared.fault.CvtFault.TheVariants.{Cycle, TooLarge, NotUtf8, NoMemory}
 
@@ -28,3 +29,12 @@ PassesLimit text lines TooLarge =
     (text_limit < length (text ++ printed_lines lines)) ⊎ (AllByRecursion (λ n. length (printed_line n) ≤ line_limit) lines → ⊥)
 PassesLimit text lines Cycle = ⊥
 PassesLimit text lines NotUtf8 = ⊥
+
+-- What is printed of rules, and each of its lines, is within the limit of a policy.
+pub record Fits (r : Rules) : Type 0 where
+  pub text : length (printed r) ≤ text_limit
+  pub lines : AllByRecursion (λ n. length (printed_line n) ≤ line_limit) (lines_of r)
+
+-- The fault is want of memory, or the rules do not fit.
+abbrev pub IsPrintFault : Rules → CvtFault → Type 0
+IsPrintFault r fault = (fault ≡ NoMemory) ⊎ ((fault ≡ TooLarge) × (Fits r → ⊥))

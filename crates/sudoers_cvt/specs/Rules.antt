@@ -1,6 +1,6 @@
 -- The rules of a policy: what its lines say, its comments, blank lines and includes aside.
-use Rattle.std.specs.Prelude.{ℕ, ◌≤◌, Bool, true, false, List, [], ◌∷◌, ◌++◌, length, map, filter}
-use Rattle.std.specs.List.{flat_map, AllByRecursion}
+use Rattle.std.specs.Prelude.{ℕ, ◌&&◌, nat_le, Bool, List, [], ◌∷◌, ◌++◌, length, map}
+use Rattle.std.specs.List.{flat_map, list_all}
 use Rattle.sudoers_text.specs.Fault.{text_limit, line_limit}
 use Rattle.sudoers_line.specs.declared.node.Kind.{Kind}
 use Rattle.sudoers_line.specs.declared.node.Def.{Def}
@@ -59,6 +59,5 @@ abbrev pub printed : Rules → List ℕ
 printed r = printed_lines (lines_of r)
 
 -- What is printed, and each of its lines, is within the limit of a policy.
-pub record Fits (r : Rules) : Type 0 where
-  pub text : length (printed r) ≤ text_limit
-  pub lines : AllByRecursion (λ n. length (printed_line n) ≤ line_limit) (lines_of r)
+abbrev pub fits : Rules → Bool
+fits r = nat_le (length (printed r)) text_limit && list_all (λ n. nat_le (length (printed_line n)) line_limit) (lines_of r)

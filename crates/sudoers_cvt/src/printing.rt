@@ -1,6 +1,6 @@
 //! Rules, printed as the text of a policy.
 
-ghost use Rattle.std.specs.Prelude.{◌≡◌, ◌⊎◌, ◌≤◌, ◌<◌, ◌++◌, length, map, IfOk, OnOk, IfErr};
+ghost use Rattle.std.specs.Prelude.{◌≡◌, ◌⊎◌, true, false, ◌≤◌, ◌<◌, ◌++◌, length, map, IfOk, OnOk, IfErr};
 ghost use Rattle.std.specs.List.{AllByRecursion};
 ghost use Rattle.sudoers_text.specs.Fault.{text_limit, line_limit};
 ghost use Rattle.sudoers_reader.specs.View.{member_shown};
@@ -10,9 +10,9 @@ ghost use Rattle.sudoers_print.specs.Commands.{printed_command};
 ghost use Rattle.sudoers_print.specs.Lines.{printed_line, printed_lines};
 ghost use Rattle.sudoers_cvt.specs.declared.fault.CvtFault.TheVariants.{TooLarge, NoMemory};
 ghost use Rattle.sudoers_cvt.specs.Effective.{effective_command};
-ghost use Rattle.sudoers_cvt.specs.Rules.{Fits, printed};
+ghost use Rattle.sudoers_cvt.specs.Rules.{fits, printed};
 ghost use Rattle.sudoers_cvt.specs.Rule.{rule_shown};
-ghost use Rattle.sudoers_cvt.specs.Long.{PassesLimit};
+ghost use Rattle.sudoers_cvt.specs.Long.{Fits, IsPrintFault, PassesLimit};
 
 use crate::fault::CvtFault;
 use crate::heads::append_command;
@@ -48,8 +48,20 @@ fn append_rules(alloc: Global, text: &mut Vec<u8>, rules: &[Rule<'_>]) -> Result
 /// `TooLarge`: the text passes 1,048,576 bytes, or one of its lines 65,536. `NoMemory`: memory ran out.
 pub fn print(alloc: Global, rules: &Rules<'_>) -> Result<Vec<u8>, CvtFault>
     ensures text { IfOk result (λ text. text.items ≡ printed rules.now) }
+    ensures fits { OnOk result (fits rules.now ≡ true) }
+    ensures fault { IfErr result (λ fault. (fault ≡ NoMemory) ⊎ ((fault ≡ TooLarge) × (fits rules.now ≡ false))) }
+{
+    match print_lines(alloc, rules) {
+        Ok(text) => Ok(text),
+        Err(fault) => Err(fault),
+    }
+}
+
+/// Returns the lines of `rules`, one after another.
+fn print_lines(alloc: Global, rules: &Rules<'_>) -> Result<Vec<u8>, CvtFault>
+    ensures text { IfOk result (λ text. text.items ≡ printed rules.now) }
     ensures fits { OnOk result (Fits rules.now) }
-    ensures fault { IfErr result (λ fault. (fault ≡ NoMemory) ⊎ ((fault ≡ TooLarge) × (Fits rules.now → ⊥))) }
+    ensures fault { IfErr result (IsPrintFault rules.now) }
 {
     let mut text = Vec::new(alloc);
     append_rules(alloc, &mut text, rules.defaults.as_slice())?;
