@@ -13,6 +13,8 @@ use Rattle.sudoers_edit.specs.declared.edit.EditFault.{EditFault}
 use Rattle.sudoers_edit.specs.declared.edit.EditFault.TheVariants as edit
 use Rattle.sudoers_edit.specs.declared.script.ScriptFault.{ScriptFault}
 use Rattle.sudoers_edit.specs.declared.script.ScriptFault.TheVariants as script
+use Rattle.sudoers_cvt.specs.declared.fault.CvtFault.{CvtFault}
+use Rattle.sudoers_cvt.specs.declared.fault.CvtFault.TheVariants as cvt
 use Rattle.sudoers_run.specs.declared.fault.LayerFault.{LayerFault}
 use Rattle.sudoers_run.specs.declared.fault.LayerFault.TheVariants as layer
 use Rattle.sudoers_run.specs.declared.fault.ToolFault.{ToolFault}
@@ -82,10 +84,17 @@ text_of_edit place edit.TooLarge file = edit_name place (codes "TooLarge")
 text_of_edit place (edit.NotPolicy fault) file = edit_name place (codes "NotPolicy: ") ++ text_of_read fault file
 text_of_edit place edit.NoMemory file = codes "NoMemory"
 
+abbrev pub cvt_name : CvtFault → List ℕ
+cvt_name cvt.Cycle = codes "Cycle"
+cvt_name cvt.TooLarge = codes "TooLarge"
+cvt_name cvt.NotUtf8 = codes "NotUtf8"
+cvt_name cvt.NoMemory = codes "NoMemory"
+
 abbrev pub text_of_layer : LayerFault → List ℕ → List ℕ
 text_of_layer (layer.Policy fault) file = text_of_read fault file
 text_of_layer (layer.Script fault) file = text_of_script fault
 text_of_layer (layer.Edit place fault) file = text_of_edit place fault file
+text_of_layer (layer.Convert fault) file = cvt_name fault
 text_of_layer layer.NoMemory file = codes "NoMemory"
 
 abbrev pub text_of_tool : ToolFault → List ℕ → List ℕ

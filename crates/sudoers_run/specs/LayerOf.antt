@@ -6,6 +6,8 @@ use Rattle.sudoers_edit.specs.declared.edit.EditFault.{EditFault}
 use Rattle.sudoers_edit.specs.declared.edit.EditFault.TheVariants as edit
 use Rattle.sudoers_edit.specs.declared.script.ScriptFault.{ScriptFault}
 use Rattle.sudoers_edit.specs.declared.script.ScriptFault.TheVariants as script
+use Rattle.sudoers_cvt.specs.declared.fault.CvtFault.{CvtFault}
+use Rattle.sudoers_cvt.specs.declared.fault.CvtFault.TheVariants as cvt
 use Rattle.sudoers_run.specs.declared.fault.LayerFault.{LayerFault}
 use Rattle.sudoers_run.specs.declared.fault.LayerFault.TheVariants as layer
 
@@ -38,3 +40,9 @@ layer_of_edit place edit.EndAsIs = layer.Edit place edit.EndAsIs
 layer_of_edit place edit.TooLarge = layer.Edit place edit.TooLarge
 layer_of_edit place (edit.NotPolicy fault) = layer.Edit place (edit.NotPolicy fault)
 layer_of_edit place edit.NoMemory = layer.NoMemory
+
+abbrev pub layer_of_cvt : CvtFault → LayerFault
+layer_of_cvt cvt.Cycle = layer.Convert cvt.Cycle
+layer_of_cvt cvt.TooLarge = layer.Convert cvt.TooLarge
+layer_of_cvt cvt.NotUtf8 = layer.Convert cvt.NotUtf8
+layer_of_cvt cvt.NoMemory = layer.NoMemory

@@ -5,3 +5,4 @@ pub mod LayerOf
 pub mod Program
 pub mod Show
 pub mod Check
+pub mod Convert

@@ -36,6 +36,7 @@ IsFileFault (layer.Policy fault) = Unit {0}
 IsFileFault layer.NoMemory = Unit {0}
 IsFileFault (layer.Script fault) = ⊥
 IsFileFault (layer.Edit place fault) = ⊥
+IsFileFault (layer.Convert fault) = ⊥
 
 -- the faults of showing a file
 abbrev pub IsShowFault : ToolFault → Type 0

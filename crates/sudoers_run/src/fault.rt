@@ -1,11 +1,13 @@
 //! Why the program gives up, and the text that it then shows.
 ghost use Rattle.std.specs.Prelude.{◌≡◌, ◌+◌, ◌<◌, ◌^◌, ◌++◌, IfOk, OnOk};
 ghost use Rattle.std.specs.Fmt.{decimal};
-ghost use Rattle.sudoers_run.specs.FaultText.{text_of_tool, text_of_layer, text_of_read, text_of_text, text_of_script, text_of_edit, script_text, edit_name, name_text, why_name};
+ghost use Rattle.sudoers_run.specs.FaultText.{cvt_name, text_of_tool, text_of_layer, text_of_read, text_of_text, text_of_script, text_of_edit, script_text, edit_name, name_text, why_name};
 
 use std::alloc::{AllocError, Global};
+use sudoers_cvt::CvtFault;
 use sudoers_edit::{EditFault, ScriptFault};
 use sudoers_line::{Kind, Why};
+use sudoers_print::append_number;
 use sudoers_text::TextFault;
 use sudoers_tree::{ReadFault, kind_word};
 use thiserror::Error;
@@ -22,6 +24,9 @@ pub enum LayerFault {
     /// The edit at this place, from 0, is refused.
     #[error("edit at {0}: {1}")]
     Edit(usize, EditFault),
+    /// The rules cannot be converted.
+    #[error("{0}")]
+    Convert(CvtFault),
     /// A growth of memory was refused.
     #[error("NoMemory")]
     NoMemory,
@@ -93,6 +98,20 @@ impl From<(usize, EditFault)> for LayerFault {
     }
 }
 
+impl From<CvtFault> for LayerFault {
+    ghost use Rattle.std.specs.Prelude.{◌≡◌};
+    ghost use Rattle.sudoers_run.specs.LayerOf.{layer_of_cvt};
+
+    ghost from_gives = { λ fault e. e ≡ layer_of_cvt fault };
+
+    fn from(fault: CvtFault) -> LayerFault {
+        match fault {
+            CvtFault::NoMemory => LayerFault::NoMemory,
+            fault => LayerFault::Convert(fault),
+        }
+    }
+}
+
 impl From<AllocError> for LayerFault {
     ghost use Rattle.std.specs.Prelude.{◌≡◌};
     ghost use Rattle.sudoers_run.specs.declared.fault.LayerFault.TheVariants.{NoMemory};
@@ -152,7 +171,20 @@ fn layer_text(alloc: Global, fault: &LayerFault, file: &[u8]) -> Result<Vec<u8>,
         LayerFault::Policy(fault) => read_fault_text(alloc, fault, file),
         LayerFault::Script(fault) => script_fault_text(alloc, fault),
         LayerFault::Edit(place, fault) => edit_fault_text(alloc, *place, fault, file),
+        LayerFault::Convert(fault) => Vec::from_slice(alloc, cvt_word(*fault)),
         LayerFault::NoMemory => Vec::from_slice(alloc, b"NoMemory"),
+    }
+}
+
+/// Returns the name of a fault of converting.
+fn cvt_word(fault: CvtFault) -> &'static [u8]
+    ensures { result.now ≡ cvt_name fault }
+{
+    match fault {
+        CvtFault::Cycle => b"Cycle",
+        CvtFault::TooLarge => b"TooLarge",
+        CvtFault::NotUtf8 => b"NotUtf8",
+        CvtFault::NoMemory => b"NoMemory",
     }
 }
 
@@ -319,12 +351,4 @@ fn concat(alloc: Global, front: &[u8], back: &[u8]) -> Result<Vec<u8>, AllocErro
     let mut text = Vec::from_slice(alloc, front)?;
     text.extend_from_slice(back)?;
     Ok(text)
-}
-
-/// Puts a number in decimal behind a text.
-pub fn append_number(alloc: Global, text: &mut Vec<u8>, number: usize) -> Result<(), AllocError>
-    ensures { OnOk result (text.new.items ≡ text.old.items ++ decimal number) }
-{
-    let digits = number.to_string(alloc)?;
-    text.extend_from_slice(digits.as_bytes())
 }

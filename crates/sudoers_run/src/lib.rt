@@ -1,13 +1,15 @@
-//! The commands of the program over any reader and writer: `edit`, `show`, `check`, and the text of each error.
+//! The commands of the program over any reader and writer: `edit`, `show`, `check`, `convert`, and the text of each error.
 #![tactic(auto)]
 
 mod check;
+mod convert;
 mod device;
 mod fault;
 mod program;
 mod show;
 
 pub use check::run_check;
+pub use convert::run_convert;
 pub use device::{Counted, DeviceFailed, Pulled, Sink, Source};
 pub use fault::{LayerFault, ToolFault, fault_text};
 pub use program::run_edit;

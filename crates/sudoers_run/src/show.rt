@@ -11,9 +11,10 @@ ghost use Rattle.sudoers_run.specs.Shown.{kind_word as word_of_kind, shown as sh
 ghost use Rattle.sudoers_run.specs.Show.{show_output, TellsShow, IsFileFault, IsShowFault, StopsShow, NeedsShowEnd};
 
 use crate::device::{Sink, Source};
-use crate::fault::{LayerFault, ToolFault, append_number};
+use crate::fault::{LayerFault, ToolFault};
 use crate::program::{read_all, write_all};
 use std::alloc::{AllocError, Global};
+use sudoers_print::append_number;
 use sudoers_text::{TEXT_LIMIT, TextFault};
 use sudoers_tree::{
     Def, DefRow, Kind, Line, LineKind, Node, Policy, ReadFault, Rows, kind_word, lf_count,
@@ -63,8 +64,8 @@ pub fn run_show<R: Source, W: Sink>(
     Ok(0)
 }
 
-/// The fault of a policy file that is too large.
-fn too_large() -> ToolFault
+/// Returns the fault of a policy file that is too large.
+pub fn too_large() -> ToolFault
     ensures { result ≡ ToolFault.Layer (LayerFault.Policy (ReadFault.Text TextFault.TooLarge)) }
 {
     ToolFault::Layer(LayerFault::Policy(ReadFault::Text(TextFault::TooLarge)))

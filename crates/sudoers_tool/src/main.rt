@@ -7,13 +7,16 @@ use std::alloc::{AllocError, Global};
 use std::io::Write;
 use std::process::ExitCode;
 use std::{fs, io};
-use sudoers_run::{Counted, ToolFault, fault_text, run_check, run_edit, run_show};
+use sudoers_run::{Counted, ToolFault, fault_text, run_check, run_convert, run_edit, run_show};
 
 /// The policy's name in the texts of the faults of `edit`.
 const POLICY: &str = "policy";
 
 /// The name of the standard input as a file.
 const STDIN: &str = "-";
+
+/// The forms in which `convert` prints.
+static FORMS: [&str; 1] = ["sudoers"];
 
 /// What `--version` prints after the program's name.
 const VERSION: &str = "0.5.0";
@@ -64,6 +67,10 @@ fn obey(rt: &HostRuntime, matches: &ArgMatches<'_>) -> ExitCode {
             let file = words.get_str("FILE").unwrap_or(STDIN);
             (file, show_file(rt, file))
         }
+        Some(("convert", words)) => {
+            let file = words.get_str("FILE").unwrap_or(STDIN);
+            (file, convert_file(rt, file))
+        }
         _ => (POLICY, edit_streams(rt)),
     };
     match outcome {
@@ -82,9 +89,12 @@ fn command_words<'a>(alloc: Global) -> Result<Command<'a>, AllocError> {
         .arg(file_word(alloc))?;
     Command::new(alloc, "sudoers_tool")
         .version(VERSION)
-        .about("Check, show and edit sudoers policies. Without a command, do what `edit` does")
+        .about(
+            "Check, show, edit and convert sudoers policies. Without a command, do what `edit` does",
+        )
         .after_help(EXIT_STATUS)
         .subcommand(check_words(alloc)?)?
+        .subcommand(convert_words(alloc)?)?
         .subcommand(edit)?
         .subcommand(show)
 }
@@ -103,6 +113,21 @@ fn check_words<'a>(alloc: Global) -> Result<Command<'a>, AllocError> {
         .about("Check the syntax of a policy, and report undefined, cyclic and unused aliases")
         .arg(quiet)?
         .arg(strict)?
+        .arg(file_word(alloc))
+}
+
+/// Returns the command line of `convert`.
+fn convert_words<'a>(alloc: Global) -> Result<Command<'a>, AllocError> {
+    let form = Arg::new(alloc, "FORM")
+        .short('f')
+        .long("form")
+        .required(true)
+        .value_parser(FORMS.as_slice())
+        .help("Form of the output: sudoers")
+        .hide_possible_values(true);
+    Command::new(alloc, "convert")
+        .about("Print the rules of a policy anew, as text without comments")
+        .arg(form)?
         .arg(file_word(alloc))
 }
 
@@ -145,6 +170,16 @@ fn show_file(rt: &HostRuntime, file: &str) -> Result<u8, ToolFault> {
     }
     let opened = open(rt, file)?;
     run_show(rt.alloc(), &mut Counted::new(opened), &mut writer)
+}
+
+/// Converts a file, or standard input.
+fn convert_file(rt: &HostRuntime, file: &str) -> Result<u8, ToolFault> {
+    let mut writer = Counted::new(rt.stdout());
+    if file == STDIN {
+        return run_convert(rt.alloc(), &mut Counted::new(rt.stdin()), &mut writer);
+    }
+    let opened = open(rt, file)?;
+    run_convert(rt.alloc(), &mut Counted::new(opened), &mut writer)
 }
 
 /// Checks a file, or standard input.
