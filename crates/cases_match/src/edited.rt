@@ -1,36 +1,42 @@
 //! What a policy answers to a request after edits.
 
-ghost use Rattle.std.specs.Prelude.{IfOk};
+ghost use Rattle.std.specs.Prelude.{IfOk, IfErr};
 ghost use Rattle.std.specs.Option.{option_map};
 ghost use Rattle.sudoers_match.specs.Answer.{answer_shown};
-ghost use Rattle.cases_match.specs.Edited.{AnswersAfter};
+ghost use Rattle.cases_match.specs.Edited.{AnswersAfter, FailsAfter};
 
 use crate::lists::part_of;
 use crate::requests::{push_outcome, request_of};
 use case_frames::{Case, next_part};
 use std::alloc::{AllocError, Global};
-use sudoers_edit::{Edit, Editor, read_script};
+use sudoers_edit::{Edit, EditFault, Editor, read_script};
 use sudoers_match::{Answer, AskFault, Request, answer};
 use sudoers_tree::{Policy, ReadFault};
 
 /// Why there is no answer after edits.
+#[derive(Drop)]
 enum EditedFault {
-    /// An edit is refused.
-    Refused,
+    /// The edit at this place is refused, or memory ran out there.
+    Refused(usize, EditFault),
     Asked(AskFault),
 }
 
 /// Makes `edits` in order, and returns the answer to `request` of the policy to which they lead.
+///
+/// # Errors
+///
+/// `Refused`: an edit is refused, or memory ran out at it. `Asked`: as of `answer`, of the policy to which the edits lead.
 fn answer_after<'a>(
     alloc: Global,
     editor: &'a mut Editor,
     edits: &[Edit],
     request: &Request,
 ) -> Result<Option<Answer<'a>>, EditedFault>
-    ensures { IfOk result (λ answer. AnswersAfter edits.now editor.old.lines request.now (option_map answer_shown answer)) }
+    ensures answer { IfOk result (λ answer. AnswersAfter edits.now editor.old.lines request.now (option_map answer_shown answer)) }
+    ensures fault { IfErr result (λ fault. FailsAfter edits.now editor.old.lines request.now fault) }
 {
-    if editor.apply_all(edits).is_err() {
-        return Err(EditedFault::Refused);
+    if let Err((place, fault)) = editor.apply_all(edits) {
+        return Err(EditedFault::Refused(place, fault));
     }
     let policy = editor.policy();
     policy.is_policy();
@@ -81,6 +87,6 @@ fn push_after(
     match answer_after(alloc, editor, edits, request) {
         Ok(answer) => push_outcome(Ok(answer), answers),
         Err(EditedFault::Asked(fault)) => push_outcome(Err(fault), answers),
-        Err(EditedFault::Refused) => answers.push_str("refused"),
+        Err(EditedFault::Refused(..)) => answers.push_str("refused"),
     }
 }
