@@ -1,0 +1,6 @@
+//! Laws of printed lines: what is printed is read back as what was printed.
+#![tactic(auto)]
+
+mod laws;
+
+pub use laws::{printed_alias_is_line, printed_alias_is_read};
