@@ -25,7 +25,7 @@ use Rattle.sudoers_print_laws.proofs.CommandTokens.{signed_tokens, digest_tokens
 use Rattle.sudoers_print_laws.proofs.Words.{IsPlain, some_positive}
 use Rattle.sudoers_print_laws.proofs.Cuts.{differs, EndsWord}
 use Rattle.sudoers_print_laws.proofs.Users.{flat_plain}
-use Rattle.sudoers_print_laws.proofs.UserCuts.{sign_cut}
+use Rattle.sudoers_print_laws.proofs.UserCuts.{EndsUser, sign_cut}
 use Rattle.sudoers_print_laws.proofs.Ones.{ones_size, ones_cut}
 use Rattle.sudoers_print_laws.proofs.CommandCuts.{TailCut, literal_cut, command_mark, signed_then}
 
@@ -113,6 +113,25 @@ signed_ends false (atom.Address n) tail is = absurd is
 signed_ends false (atom.Network n m) tail is = absurd is
 
 -- ---- commands
+
+-- A command behind a blank ends what stands before it.
+pub command_ends : (ds : List Digest) (negated : Bool) (a : Atom) (tail : List Written) → IsCommandAtom a → EndsUser (line_of (command_tokens true ds negated a tail))
+command_ends (d ∷ ds) negated a tail is = record { word = refl; hash = refl; colon = refl; digit = refl }
+command_ends [] true a tail is = record { word = refl; hash = refl; colon = refl; digit = refl }
+command_ends [] false atom.All tail is = record { word = refl; hash = refl; colon = refl; digit = refl }
+command_ends [] false (atom.Alias name) tail is = record { word = refl; hash = refl; colon = refl; digit = refl }
+command_ends [] false atom.Listing tail is = record { word = refl; hash = refl; colon = refl; digit = refl }
+command_ends [] false (atom.Path path args) tail is = record { word = refl; hash = refl; colon = refl; digit = refl }
+command_ends [] false (atom.Sudoedit args) tail is = record { word = refl; hash = refl; colon = refl; digit = refl }
+command_ends [] false (atom.Name n) tail is = absurd is
+command_ends [] false (atom.Id n) tail is = absurd is
+command_ends [] false (atom.Group n) tail is = absurd is
+command_ends [] false (atom.GroupId n) tail is = absurd is
+command_ends [] false (atom.NonUnix n) tail is = absurd is
+command_ends [] false (atom.Netgroup n) tail is = absurd is
+command_ends [] false (atom.Host n) tail is = absurd is
+command_ends [] false (atom.Address n) tail is = absurd is
+command_ends [] false (atom.Network n m) tail is = absurd is
 
 -- A command with its digests is cut into its tokens.
 pub command_then : (spaced item : Bool) (ds : List Digest) (negated : Bool) (a : Atom) (tail : List Written) → AllByRecursion IsDigestText ds → IsCommandAtom a → TailCut tail → AreCut context.Commands item (command_tokens spaced ds negated a tail)

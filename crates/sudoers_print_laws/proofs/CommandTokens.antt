@@ -1,5 +1,6 @@
 -- Lists of commands, token by token: a device of the laws.
 use Rattle.std.specs.Prelude.{ℕ, Bool, true, false, List, [], ◌∷◌, ◌++◌, codes, Option, Some, None}
+use Rattle.sudoers_text.specs.declared.token.TokenKind.{TokenKind}
 use Rattle.sudoers_text.specs.declared.token.TokenKind.TheVariants as kind
 use Rattle.sudoers_text.specs.Unit.{LineUnit, Quoted}
 use Rattle.sudoers_line.specs.declared.node.Kind.TheVariants.{Runas}
@@ -73,10 +74,17 @@ list_of_commands spaced (m ∷ ms) tail = command_tokens spaced m.digests m.nega
 
 -- ---- what stands before a command
 
--- the value of an option
+-- the value of an option; an empty one is a pair of quotes
+abbrev pub value_kind : List ℕ → TokenKind
+value_kind [] = kind.Quoted
+value_kind (b ∷ value) = kind.Word
+
+abbrev pub value_units : List ℕ → List LineUnit
+value_units [] = Quoted (34 ∷ []) ∷ []
+value_units (b ∷ value) = word_units (b ∷ value)
+
 abbrev pub value_token : List ℕ → Written
-value_token [] = record { kind = kind.Quoted; units = Quoted (34 ∷ []) ∷ []; spaced = false }
-value_token (b ∷ value) = record { kind = kind.Word; units = word_units (b ∷ value); spaced = false }
+value_token value = record { kind = value_kind value; units = value_units value; spaced = false }
 
 -- tags and a command
 abbrev pub tagged : Bool → List (Tag × Bool) → Member → List Written → List Written

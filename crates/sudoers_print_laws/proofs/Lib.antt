@@ -30,3 +30,10 @@ mod ReadCommands
 mod ReadCommandLists
 mod PrintedCommands
 mod AliasLists
+mod CmdSpecs
+mod ReadCmdSpecs
+mod FirstWord
+mod PrintedCmds
+mod FirstUsers
+mod SpecTokens
+mod SpecLines

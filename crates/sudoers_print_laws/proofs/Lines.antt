@@ -13,7 +13,7 @@ use Rattle.sudoers_text.specs.Part.{run_size}
 use Rattle.sudoers_text.specs.Token.{passed, units_left, next_start, is_end}
 use Rattle.sudoers_text.specs.Context.{forms, behind}
 use Rattle.sudoers_text.specs.Found.{found_behind, tokens_from, tokens_of}
-use Rattle.sudoers_print_laws.proofs.Written.{Written, flat, gap, line_of, placed, Closed, Begins, AreCut}
+use Rattle.sudoers_print_laws.proofs.Written.{Written, flat, gap, line_of, placed, Closed, Place, At, Start, BehindDefaults, Stands, Possible, Takes, AreCut, AreCutFrom}
 
 -- ---- one token more
 
@@ -43,9 +43,16 @@ blank_closed : (s : Bool) → Closed (gap s)
 blank_closed true before rest = refl
 blank_closed false before rest = refl
 
-blank_item : (s item : Bool) (before : List LineUnit) → Begins item before → Begins item (passed before (gap s))
-blank_item true item before begins = begins
-blank_item false item before begins = begins
+blank_place : (s : Bool) (there : Place) (before : List LineUnit) → Takes there s → Stands there before → Stands there (passed before (gap s))
+blank_place false there before takes stands = stands
+blank_place true (At item) before takes stands = stands
+blank_place true Start before takes stands = absurd (cc)
+blank_place true BehindDefaults before takes stands = absurd (cc)
+
+possible : (there : Place) (before : List LineUnit) → Stands there before → Possible there (begins_item before)
+possible (At item) before stands = stands
+possible Start before stands = tt
+possible BehindDefaults before stands = tt
 
 pub both_closed : (x y : List ℕ) → Closed x → Closed y → Closed (x ++ y)
 both_closed x y cx cy before rest =
@@ -72,7 +79,7 @@ same_list line n start here other k size ts same later =
     ap (λ (c : Context). record { kind = k; start = start; stop = start + size } ∷ tokens_from n c line (start + size)) same
     ∙ ap (λ (us : List Token). record { kind = k; start = start; stop = start + size } ∷ us) later
 
-tokens_there : (ps : List Written) (n : ℕ) (here : Context) (item : Bool) (line front : List ℕ) (at : ℕ) → length (line_of ps) ≤ n → at ≡ length front → There front line (line_of ps) → Begins item (passed [] front) → AreCut here item ps → tokens_from n here line at ≡ placed at ps
+tokens_there : (ps : List Written) (n : ℕ) (here : Context) (item : Place) (line front : List ℕ) (at : ℕ) → length (line_of ps) ≤ n → at ≡ length front → There front line (line_of ps) → Stands item (passed [] front) → AreCutFrom here item ps → tokens_from n here line at ≡ placed at ps
 tokens_there [] zero here item line front at fits is there begins cut = absurd (omega (arith, fits))
 tokens_there [] (suc n) here item line front at fits is there begins cut =
     last_step n here line at (ap (drop at) there.whole ∙ drop_at front (10 ∷ []) at (sym is))
@@ -95,11 +102,11 @@ tokens_there (p ∷ ps) (suc n) here item line front at fits is there begins cut
     let left : units_left line start ≡ passed (passed [] front) g =
     ap (λ (bytes : List ℕ). passed [] bytes) (ap (take start) whole ∙ take_at (front ++ g) (text ++ rest) start front_size)
     ∙ there.closed [] g in
-    let item_there : Begins item (passed (passed [] front) g) = blank_item p.spaced item (passed [] front) begins in
+    let item_there : Stands item (passed (passed [] front) g) = blank_place p.spaced item (passed [] front) cut.3 begins in
     let token : found_behind (forms here) (units_left line start) (drop start line) ≡ (p.kind, size) =
     ap (λ (us : List LineUnit). found_behind (forms here) us (drop start line)) left
     ∙ ap (λ (bytes : List ℕ). found_behind (forms here) (passed (passed [] front) g) bytes) body
-    ∙ cut.1.found (begins_item (passed (passed [] front) g)) (is_empty (begun (passed (passed [] front) g))) item_there in
+    ∙ cut.1.found (begins_item (passed (passed [] front) g)) (is_empty (begun (passed (passed [] front) g))) (possible item (passed (passed [] front) g) item_there) in
     let more : is_end (drop start line) ≡ false = ap is_end body ∙ cut.1.more in
     let taken : take size (drop start line) ≡ text = ap (take size) body ∙ take_at text rest size refl in
     let dropped : drop size (drop start line) ≡ rest = ap (drop size) body ∙ drop_at text rest size refl in
@@ -108,8 +115,8 @@ tokens_there (p ∷ ps) (suc n) here item line front at fits is there begins cut
       whole = whole ∙ sym (append_assoc (front ++ g) text rest);
       closed = both_closed (front ++ g) text front_closed cut.1.closed;
     } in
-    let next_item : Begins cut.0 (passed [] ((front ++ g) ++ text)) =
-    subst (λ (us : List LineUnit). Begins cut.0 us)
+    let next_item : Stands cut.0 (passed [] ((front ++ g) ++ text)) =
+    subst (λ (us : List LineUnit). Stands cut.0 us)
     (sym (front_closed [] text ∙ ap (λ (us : List LineUnit). passed us text) (there.closed [] g)))
     (cut.1.leaves (passed (passed [] front) g) item_there) in
     let context_is : behind here p.kind (take size (drop start line)) (drop size (drop start line)) ≡ behind here p.kind text rest =
@@ -123,7 +130,17 @@ tokens_there (p ∷ ps) (suc n) here item line front at fits is there begins cut
 pub nothing_closed : Closed []
 nothing_closed before rest = refl
 
-pub tokens_are_placed : (m : Mode) (ps : List Written) → AreCut (context.First m) true ps → tokens_of m (line_of ps) ≡ placed 0 ps
+-- Tokens that are cut are so from a place where an ID may begin or not.
+pub cut_from : (ps : List Written) (here : Context) (item : Bool) → AreCut here item ps → AreCutFrom here (At item) ps
+cut_from [] here item cut = tt
+cut_from (p ∷ ps) here item cut = (At cut.0, cut.1, cut_from ps (behind here p.kind (flat p.units) (line_of ps)) cut.0 cut.2, tt)
+
+pub tokens_are_placed : (m : Mode) (ps : List Written) → AreCutFrom (context.First m) Start ps → tokens_of m (line_of ps) ≡ placed 0 ps
 unfolding tokens_of
 tokens_are_placed m ps cut =
-    tokens_there ps (length (line_of ps)) (context.First m) true (line_of ps) [] 0 (omega arith) refl (record { whole = refl; closed = nothing_closed }) (λ t. refl) cut
+    tokens_there ps (length (line_of ps)) (context.First m) Start (line_of ps) [] 0 (omega arith) refl (record { whole = refl; closed = nothing_closed }) refl cut
+
+pub tokens_are_placed_at : (m : Mode) (ps : List Written) → AreCut (context.First m) true ps → tokens_of m (line_of ps) ≡ placed 0 ps
+unfolding tokens_of
+tokens_are_placed_at m ps cut =
+    tokens_there ps (length (line_of ps)) (context.First m) (At true) (line_of ps) [] 0 (omega arith) refl (record { whole = refl; closed = nothing_closed }) (λ t. refl) (cut_from ps (context.First m) true cut)

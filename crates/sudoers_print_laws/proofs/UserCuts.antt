@@ -124,11 +124,11 @@ units_cut here item [] rest words some all ends = absurd (omega arith)
 units_cut here item (u ∷ us) rest words some all ends =
     word_cut here item u us rest all (takes_words here words (first_byte u)) (record { ends = ends.word; apart = λ percent. (ends.hash, ends.colon) })
 
-front_some : (b : ℕ) (text : List ℕ) → Front b text → 0 < length text
+pub front_some : (b : ℕ) (text : List ℕ) → Front b text → 0 < length text
 front_some b text escaped = omega arith
 front_some b text (itself word) = omega arith
 
-name_fits : (first : Bool) (b : ℕ) (name : List ℕ) → (0 < length (flat (name_units first (b ∷ name)))) × AreUnitsOf is_word_byte (name_units first (b ∷ name))
+pub name_fits : (first : Bool) (b : ℕ) (name : List ℕ) → (0 < length (flat (name_units first (b ∷ name)))) × AreUnitsOf is_word_byte (name_units first (b ∷ name))
 name_fits first b name = by_else (reads_else first (spelled (b ∷ name))) refl
   where
     by_else : (t : Bool) → reads_else first (spelled (b ∷ name)) ≡ t → (0 < length (flat (if t then Pair b ∷ word_units name else word_units (b ∷ name)))) × AreUnitsOf is_word_byte (if t then Pair b ∷ word_units name else word_units (b ∷ name))
@@ -252,7 +252,7 @@ pub record NoHash (bytes : List ℕ) : Type 0 where
   pub whole : bytes ≡ byte ∷ more
   pub hash : (byte == 35) ≡ false
 
-front_no_hash : (b : ℕ) (text : List ℕ) → Front b text → NoHash text
+pub front_no_hash : (b : ℕ) (text : List ℕ) → Front b text → NoHash text
 front_no_hash b text (escaped {more = more}) = record { byte = 92; more = more; whole = refl; hash = refl }
 front_no_hash b text (itself {more = more} word) = record { byte = b; more = more; whole = refl; hash = differs is_word_byte 35 b word refl }
 

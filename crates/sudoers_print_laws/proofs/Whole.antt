@@ -3,9 +3,10 @@ use Rattle.std.proofs.Common.{◌≡◌, ℕ, Bool, true, false, List, [], ◌�
 use Rattle.std.proofs.lemmas.List.{append_assoc}
 use Rattle.sudoers_text.specs.declared.context.Context.{Context}
 use Rattle.sudoers_text.specs.Unit.{LineUnit, Byte, text_of, spelled, AreUnits}
-use Rattle.sudoers_text.specs.Line.{IsLine, IsOpen, by_lf}
+use Rattle.sudoers_text.specs.Line.{IsLine, by_lf}
 use Rattle.sudoers_text.specs.Context.{behind}
-use Rattle.sudoers_print_laws.proofs.Written.{Written, flat, gap, line_of, Begins, onto, Stand, AreCut}
+use Rattle.sudoers_print_laws.proofs.Written.{Written, flat, gap, line_of, Place, At, Start, BehindDefaults, Stands, Takes, onto, Stand, AreCut, AreCutFrom}
+use Rattle.sudoers_print_laws.proofs.Lines.{cut_from}
 
 spelled_onto : (us before : List LineUnit) → spelled (onto us before) ≡ spelled before ++ flat us
 spelled_onto [] before = sym (append-nil (spelled before))
@@ -29,9 +30,11 @@ gap_stands : (s : Bool) (before : List LineUnit) (rest : List ℕ) → Stand bef
 gap_stands true before rest = (refl, tt)
 gap_stands false before rest = tt
 
-gap_begins : (s item : Bool) (before : List LineUnit) → Begins item before → Begins item (onto (gap_units s) before)
-gap_begins true item before begins = begins
-gap_begins false item before begins = begins
+gap_place : (s : Bool) (there : Place) (before : List LineUnit) → Takes there s → Stands there before → Stands there (onto (gap_units s) before)
+gap_place false there before takes stands = stands
+gap_place true (At item) before takes stands = stands
+gap_place true Start before takes stands = absurd (cc)
+gap_place true BehindDefaults before takes stands = absurd (cc)
 
 -- the units of all tokens, the last one first, behind others
 abbrev pub all_units : List Written → List LineUnit → List LineUnit
@@ -50,7 +53,7 @@ all_spelled (p ∷ ps) before =
     ∙ append_assoc (spelled before ++ g) text (line_of ps)
     ∙ append_assoc (spelled before) g (text ++ line_of ps)
 
-all_stand : (ps : List Written) (here : Context) (item : Bool) (before : List LineUnit) (rest : List ℕ) → Begins item before → AreCut here item ps → AreUnits before (line_of ps ++ rest) → AreUnits (all_units ps before) (10 ∷ rest)
+all_stand : (ps : List Written) (here : Context) (item : Place) (before : List LineUnit) (rest : List ℕ) → Stands item before → AreCutFrom here item ps → AreUnits before (line_of ps ++ rest) → AreUnits (all_units ps before) (10 ∷ rest)
 all_stand [] here item before rest begins cut are = are
 all_stand (p ∷ ps) here item before rest begins cut are =
     let g = gap p.spaced in
@@ -61,7 +64,7 @@ all_stand (p ∷ ps) here item before rest begins cut are =
     ∙ ap (λ (t : List ℕ). t ++ (text ++ (line_of ps ++ rest))) (sym (gap_flat p.spaced)) in
     let blank : AreUnits middle (text ++ (line_of ps ++ rest)) =
     units_onto (gap_units p.spaced) before (text ++ (line_of ps ++ rest)) (gap_stands p.spaced before (text ++ (line_of ps ++ rest))) (subst (AreUnits before) split are) in
-    let there = gap_begins p.spaced item before begins in
+    let there = gap_place p.spaced item before cut.3 begins in
     all_stand ps (behind here p.kind text (line_of ps)) cut.0 (onto p.units middle) rest (cut.1.leaves_units middle there) cut.2
     (units_onto p.units middle (line_of ps ++ rest) (cut.1.stand middle rest there) blank)
 
@@ -69,15 +72,14 @@ no_units : (rest : List ℕ) → AreUnits [] rest
 no_units rest = tt
 
 -- The tokens make a logical line before any text.
-pub written_line : (ps : List Written) (here : Context) (rest : List ℕ) → AreCut here true ps → IsLine (line_of ps) rest
-written_line ps here rest cut = record {
+pub written_line_from : (ps : List Written) (here : Context) (there : Place) (rest : List ℕ) → Stands there [] → AreCutFrom here there ps → IsLine (line_of ps) rest
+written_line_from ps here there rest stands cut = record {
   units = all_units ps [];
   ending = 10 ∷ [];
   text = sym (all_spelled ps []);
-  each = all_stand ps here true [] rest (λ t. refl) cut (no_units (line_of ps ++ rest));
+  each = all_stand ps here there [] rest stands cut (no_units (line_of ps ++ rest));
   ends = by_lf;
 }
 
--- what the law of inner lines says
-abbrev pub InnerLaw : Type 0
-InnerLaw = (line rest : List ℕ) → IsLine line rest → (rest ≡ [] → ⊥) → (IsOpen line → ⊥)
+pub written_line : (ps : List Written) (here : Context) (rest : List ℕ) → AreCut here true ps → IsLine (line_of ps) rest
+written_line ps here rest cut = written_line_from ps here (At true) rest (λ t. refl) (cut_from ps here true cut)
