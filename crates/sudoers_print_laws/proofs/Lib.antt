@@ -37,3 +37,10 @@ mod PrintedCmds
 mod FirstUsers
 mod SpecTokens
 mod SpecLines
+mod DefaultsTokens
+mod ParamCuts
+mod ParamLists
+mod ScopeCuts
+mod ReadDefaults
+mod DefaultsLines
+mod AllLines

@@ -142,7 +142,7 @@ atom_text spaced first (atom.Host n) tail is = absurd is
 atom_text spaced first (atom.Address n) tail is = absurd is
 atom_text spaced first (atom.Network n m) tail is = absurd is
 
-signed_text : (spaced first negated : Bool) (a : Atom) (tail : List Written) → IsCommandAtom a → line_of (signed_tokens spaced negated a tail) ≡ gap spaced ++ ((sign negated ++ printed_atom first Cmnd a) ++ line_of tail)
+pub signed_text : (spaced first negated : Bool) (a : Atom) (tail : List Written) → IsCommandAtom a → line_of (signed_tokens spaced negated a tail) ≡ gap spaced ++ ((sign negated ++ printed_atom first Cmnd a) ++ line_of tail)
 signed_text spaced first true a tail is = ap (λ (t : List ℕ). gap spaced ++ (33 ∷ t)) (atom_text false first a tail is)
 signed_text spaced first false a tail is = atom_text spaced first a tail is
 

@@ -169,7 +169,7 @@ digits_fit (d ∷ ds) all =
     let other : (d == 92) ≡ false = differs is_digit 92 d parts.0 refl in
     (rw other refl, digits_fit ds parts.1)
 
-backslash_apart : (b : ℕ) → no_backslash b ≡ true → (b == 92) ≡ false
+pub backslash_apart : (b : ℕ) → no_backslash b ≡ true → (b == 92) ≡ false
 backslash_apart b h = not-true _ h
 
 digit_plain : (b : ℕ) → is_digit b ≡ true → IsPlain b

@@ -3,7 +3,4 @@
 
 mod laws;
 
-pub use laws::{
-    printed_alias_is_line, printed_alias_is_read, printed_specification_is_line,
-    printed_specification_is_read,
-};
+pub use laws::{printed_line_is_line, printed_line_is_read};
