@@ -139,7 +139,7 @@ is_dotted b = is_digit b || b == 46
 abbrev pub is_slash_byte : ℕ → Bool
 is_slash_byte b = is_digit b || b == 46 || b == 47
 
-digits_as : (test : ℕ → Bool) → ((b : ℕ) → is_digit b ≡ true → test b ≡ true) → (ds : List ℕ) → list_all is_digit ds ≡ true → list_all test ds ≡ true
+pub digits_as : (test : ℕ → Bool) → ((b : ℕ) → is_digit b ≡ true → test b ≡ true) → (ds : List ℕ) → list_all is_digit ds ≡ true → list_all test ds ≡ true
 digits_as test all [] h = refl
 digits_as test all (d ∷ ds) h =
     let parts = and_parts (is_digit d) (list_all is_digit ds) h in
@@ -148,7 +148,7 @@ digits_as test all (d ∷ ds) h =
     rw (is, later) refl
 
 -- digits and dots pass a test that digits and dots pass
-dotted_as : (test : ℕ → Bool) → ((b : ℕ) → is_digit b ≡ true → test b ≡ true) → test 46 ≡ true → (n : ℕ) → IsAddress n → list_all test (dotted n) ≡ true
+pub dotted_as : (test : ℕ → Bool) → ((b : ℕ) → is_digit b ≡ true → test b ≡ true) → test 46 ≡ true → (n : ℕ) → IsAddress n → list_all test (dotted n) ≡ true
 dotted_as test all dot n h =
     let is = parts_of n h in
     let fourth : list_all test (46 ∷ decimal (n % 256)) ≡ true = with_dot (decimal (n % 256)) (part (n % 256) is.fourth) in

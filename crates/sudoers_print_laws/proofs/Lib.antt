@@ -44,3 +44,9 @@ mod ScopeCuts
 mod ReadDefaults
 mod DefaultsLines
 mod AllLines
+mod Tidy
+mod TidyPieces
+mod NoNul
+mod TidyPatterns
+mod GivenTokens
+mod WholeLines

@@ -119,7 +119,7 @@ value_plain b h = include_plain b (and_parts (is_include_byte b) (not (b == 44))
 value_apart : (b : ℕ) → is_value_byte b ≡ true → (b == 92) ≡ false
 value_apart b h = (value_plain b h).backslash
 
-no_quoted : (b : ℕ) (rest : List ℕ) → (b == 34) ≡ false → quoted_size (b ∷ rest) ≡ 0
+pub no_quoted : (b : ℕ) (rest : List ℕ) → (b == 34) ≡ false → quoted_size (b ∷ rest) ≡ 0
 unfolding between_quotes
 no_quoted b rest h = rw h refl
 

@@ -45,7 +45,7 @@ cr_keeps Command = refl
 cr_keeps Host = refl
 cr_keeps QuotedHost = refl
 
-backslash_keeps : (s : Spelling) → loses_backslash s 92 ≡ false
+pub backslash_keeps : (s : Spelling) → loses_backslash s 92 ≡ false
 backslash_keeps Command = refl
 backslash_keeps Host = refl
 backslash_keeps QuotedHost = refl
@@ -186,7 +186,7 @@ escaped_read s bare p h = ap (pattern_of s) (sym (flat_escaped s p h)) ∙ patte
 
 -- ---- the last byte
 
-ends_past : (a : ℕ) (x : List ℕ) (b : ℕ) (rest : List ℕ) → ends_with a (x ++ (b ∷ rest)) ≡ ends_with a (b ∷ rest)
+pub ends_past : (a : ℕ) (x : List ℕ) (b : ℕ) (rest : List ℕ) → ends_with a (x ++ (b ∷ rest)) ≡ ends_with a (b ∷ rest)
 ends_past a [] b rest = refl
 ends_past a (c ∷ []) b rest = refl
 ends_past a (c ∷ d ∷ x) b rest = ends_past a (d ∷ x) b rest

@@ -90,10 +90,10 @@ pub data Spells (b : ℕ) : List LineUnit → Type 0 where
   by_hex : {high low : ℕ} → is_word_byte high ≡ true → is_word_byte low ≡ true → is_hex high ≡ true → is_hex low ≡ true → hex_number high * 16 + hex_number low ≡ b → is_control b ≡ true → Spells b (Pair 120 ∷ Byte high ∷ Byte low ∷ [])
   by_itself : is_word_byte b ≡ true → is_escaped b ≡ false → is_control b ≡ false → Spells b (Byte b ∷ [])
 
-lt_tells : (a b : ℕ) → nat_lt a b ≡ true → a < b
+pub lt_tells : (a b : ℕ) → nat_lt a b ≡ true → a < b
 lt_tells a b h = grind (arith, nat_tests)
 
-lt_not : (a b : ℕ) → nat_lt a b ≡ false → b ≤ a
+pub lt_not : (a b : ℕ) → nat_lt a b ≡ false → b ≤ a
 lt_not a b h = grind (arith, nat_tests)
 
 eq_tells : (a b : ℕ) → (a == b) ≡ true → a ≡ b

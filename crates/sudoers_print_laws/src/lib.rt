@@ -3,4 +3,4 @@
 
 mod laws;
 
-pub use laws::{printed_line_is_line, printed_line_is_read};
+pub use laws::{printed_line_is_line, printed_line_is_read, printed_lines_are_cut};
