@@ -50,3 +50,10 @@ mod NoNul
 mod TidyPatterns
 mod GivenTokens
 mod WholeLines
+mod Tight
+mod GivenUsers
+mod GivenHosts
+mod GivenCommands
+mod GivenLists
+mod GivenNodes
+mod Kept

@@ -137,7 +137,7 @@ digests_read spaced (d ∷ ds) negated a tail ts shows =
 
 -- ---- commands
 
-suits_same : (ds : List Digest) (m n : Member) → m.atom ≡ n.atom → SuitsDigests ds m → SuitsDigests ds n
+pub suits_same : (ds : List Digest) (m n : Member) → m.atom ≡ n.atom → SuitsDigests ds m → SuitsDigests ds n
 suits_same [] m n same suits = tt
 suits_same (d ∷ ds) m n same suits = ap takes_digests (sym same) ∙ suits
 

@@ -20,7 +20,7 @@ use Rattle.sudoers_print_laws.proofs.Tidy.{pair as a_pair}
 abbrev pub Goes : Spelling → List ℕ → Type 0
 Goes s x = (y : List ℕ) → is_pattern s y ≡ true → is_pattern s (x ++ y) ≡ true
 
-goes_byte : (s : Spelling) (b : ℕ) → is_pattern_byte b ≡ true → Goes s (b ∷ [])
+pub goes_byte : (s : Spelling) (b : ℕ) → is_pattern_byte b ≡ true → Goes s (b ∷ [])
 goes_byte s b h [] is = h
 goes_byte s b h (c ∷ y) is = by_backslash (b == 92) (or_parts (b == 0 || b == 10 || b == 13) (b == 92) (not-true _ h)).1
   where
@@ -31,7 +31,7 @@ goes_byte s b h (c ∷ y) is = by_backslash (b == 92) (or_parts (b == 0 || b == 
     by_backslash true e = absurd (cc)
     by_backslash false e = both h is
 
-goes_pair : (s : Spelling) (c : ℕ) → keeps_backslash s c ≡ true → Goes s (92 ∷ c ∷ [])
+pub goes_pair : (s : Spelling) (c : ℕ) → keeps_backslash s c ≡ true → Goes s (92 ∷ c ∷ [])
 goes_pair s c h y is = both h is
   where
     both : keeps_backslash s c ≡ true → is_pattern s y ≡ true → (keeps_backslash s c && is_pattern s y) ≡ true

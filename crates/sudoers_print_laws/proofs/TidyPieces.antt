@@ -10,14 +10,15 @@ use Rattle.sudoers_text.specs.declared.part.Rule.{Rule}
 use Rattle.sudoers_text.specs.declared.part.Rule.TheVariants as rule
 use Rattle.sudoers_text.specs.declared.token.TokenKind.{TokenKind}
 use Rattle.sudoers_text.specs.declared.token.TokenKind.TheVariants as kind
-use Rattle.sudoers_text.specs.Unit.{LineUnit, Byte, begins_item}
-use Rattle.sudoers_text.specs.Part.{is_digest_byte, is_name_byte, one_if, or_else, reach, unit_size, run_size, is_some_run, begins_with, past_unit, between_quotes, quoted_size, argument_unit, whole_size, broken_size}
+use Rattle.sudoers_text.specs.Unit.{LineUnit, Continuation, Pair, Byte, begins_item, escaped, begins_lf, begins_line_end}
+use Rattle.sudoers_text.specs.Part.{is_digest_byte, is_name_byte, is_path_byte, one_if, or_else, by_backslash, pair_in, reach, unit_size, run_size, is_some_run, begins_with, past_unit, between_quotes, quoted_size, argument_unit, whole_size, broken_size}
 use Rattle.sudoers_text.specs.Piece.{Form, Mark, Operator, Number, NonUnixGroup, Run, CommandPath, QuotedPart, CommentPart, IncludeWord, FirstWord, Argument, QuotedRest, kind_of, is_hash_number, is_colon_number, is_number, is_colon_word, is_group_word, quoted_rest_size, is_argument, is_piece}
 use Rattle.sudoers_text.specs.Token.{IsToken, IsLongest}
 use Rattle.sudoers_print_laws.proofs.Words.{IsEscaped}
+use Rattle.sudoers_print_laws.proofs.Tight.{Tight, word_tight, path_tight, tight_more}
 use Rattle.sudoers_print_laws.proofs.Values.{lt_tells}
 use Rattle.sudoers_print_laws.proofs.ParamCuts.{no_quoted}
-use Rattle.sudoers_print_laws.proofs.Tidy.{Tidy, done, byte, tidy_join, TidyFront, IsUnit, either_unit, reach_tidy, word_unit, path_unit, quote_unit, clean_unit}
+use Rattle.sudoers_print_laws.proofs.Tidy.{is_tidy_byte, tidy_by, Tidy, done, byte, tidy_join, TidyFront, IsUnit, either_unit, reach_tidy, word_unit, path_unit, quote_unit, clean_unit}
 
 -- ---- quoted parts and arguments
 
@@ -129,9 +130,9 @@ pub data IsNumberText : List ℕ → Type 0 where
 
 -- of a token of this kind; nothing of the others
 abbrev pub Given : TokenKind → List ℕ → Type 0
-Given kind.Word text = Tidy text × (begins_with 43 text ≡ true → is_some_run rule.Word text ≡ true)
+Given kind.Word text = Tight text × (begins_with 43 text ≡ true → is_some_run rule.Word text ≡ true)
 Given kind.Quoted text = Tidy text
-Given kind.Path text = Tidy text × (begins_with 47 text ≡ true)
+Given kind.Path text = Tight text × (begins_with 47 text ≡ true)
 Given kind.Arg text = Tidy text
 Given kind.Id text = IsNumberText text
 Given kind.Digest text = (text ≢ []) × (list_all is_digest_byte text ≡ true)
@@ -184,7 +185,7 @@ group_given (b ∷ c ∷ text) h =
     let parts = and_parts (b == 37) (c == 58 && is_some_run rule.Word text) h in
     let more = and_parts (c == 58) (is_some_run rule.Word text) parts.1 in
     let whole : b ∷ c ∷ text ≡ 37 ∷ 58 ∷ text = ap (λ (x : ℕ). x ∷ c ∷ text) (eqb-true b 37 parts.0) ∙ ap (λ (x : ℕ). 37 ∷ x ∷ text) (eqb-true c 58 more.0) in
-    subst (Given kind.Word) (sym whole) (byte refl (byte refl (run_tidy rule.Word word_unit text more.1)), λ plus. absurd (cc))
+    subst (Given kind.Word) (sym whole) (tight_more 37 (58 ∷ text) refl (tight_more 58 text refl (word_tight text more.1)), λ plus. absurd (cc))
 
 -- a run of bytes that pass the test
 ones_all : (test : ℕ → Bool) (text : List ℕ) → reach (one_if test) 0 text ≡ length text → list_all test text ≡ true
@@ -223,13 +224,13 @@ given_form form a_mark before bytes n inside h = tt
 given_form form an_operator before bytes n inside h = tt
 given_form form a_number before bytes n inside h = number_given before (take n bytes) h
 given_form form a_group before bytes n inside h = group_given (take n bytes) h
-given_form form a_word before bytes n inside h = (run_tidy rule.Word word_unit (take n bytes) h, λ plus. h)
+given_form form a_word before bytes n inside h = (word_tight (take n bytes) h, λ plus. h)
 given_form form a_digest before bytes n inside h = digest_given (take n bytes) h
 given_form form a_name before bytes n inside h = name_given (take n bytes) h
 given_form form a_value before bytes n inside h = tt
 given_form form a_path before bytes n inside h =
     let parts = and_parts (begins_with 47 bytes) (is_some_run rule.Path (take n bytes)) h in
-    (run_tidy rule.Path path_unit (take n bytes) parts.1, begins_take bytes n parts.0 parts.1)
+    (path_tight (take n bytes) parts.1, begins_take bytes n parts.0 parts.1)
 given_form form a_quoted before bytes n inside h =
     let parts = and_parts (nat_lt 0 n) (n == quoted_size bytes) h in
     unit_tidy (between_quotes rule.Quote) (between_unit rule.Quote quote_unit) bytes n (lt_tells 0 n parts.0) (eqb-true n (quoted_size bytes) parts.1) no_bytes
@@ -246,3 +247,83 @@ given_token (form ∷ fs) good before bytes k n is =
       | inl w ↦ subst (λ (c : TokenKind). Given c (take n bytes)) (sym w.0) (given_form form good.0 before bytes n w.1.inside w.1.piece)
       | inr w ↦ given_token fs good.1 before bytes k n w.1
     ]
+
+-- ---- how an argument begins
+
+-- with a byte, or with a pair
+pub data Opens : List ℕ → Type 0 where
+  by_byte : {b : ℕ} {rest : List ℕ} → is_tidy_byte b ≡ true → Opens (b ∷ rest)
+  by_pair : {c : ℕ} {rest : List ℕ} → IsEscaped c → Opens (92 ∷ c ∷ rest)
+
+path_opens : (b : ℕ) (rest : List ℕ) (k : ℕ) → unit_size rule.Path (b ∷ rest) ≡ suc k → Opens (b ∷ rest)
+path_opens b rest k e = by_test (is_path_byte b) refl e
+  where
+    by_cr : (c : ℕ) (more : List ℕ) (t : Bool) → (c == 13) ≡ t → begins_line_end (c ∷ more) ≡ false → (if t then 0 else 2) ≡ suc k → Opens (92 ∷ c ∷ more)
+    by_cr c more true h none e = absurd (omega (arith, e))
+    by_cr c more false h none e = by_pair (record { lf = (or_parts (c == 10) (c == 13 && begins_lf more) none).0; cr = h })
+
+    by_end : (c : ℕ) (more : List ℕ) (t : Bool) → begins_line_end (c ∷ more) ≡ t → pair_in (if t then Continuation (c == 13) else Pair c) ≡ suc k → Opens (92 ∷ c ∷ more)
+    by_end c more true h e = absurd (omega (arith, e))
+    by_end c more false h e = by_cr c more (c == 13) refl h e
+
+    by_rest : (rest : List ℕ) → pair_in (escaped rest) ≡ suc k → Opens (92 ∷ rest)
+    by_rest [] e = absurd (omega (arith, e))
+    by_rest (c ∷ more) e = by_end c more (begins_line_end (c ∷ more)) refl e
+
+    by_backslash_first : (t : Bool) → (b == 92) ≡ t → (if t then pair_in (escaped rest) else 0) ≡ suc k → Opens (b ∷ rest)
+    by_backslash_first true h e = subst (λ (x : ℕ). Opens (x ∷ rest)) (sym (eqb-true b 92 h)) (by_rest rest e)
+    by_backslash_first false h e = absurd (omega (arith, e))
+
+    by_test : (t : Bool) → is_path_byte b ≡ t → or_else (if t then 1 else 0) (by_backslash pair_in (b ∷ rest)) ≡ suc k → Opens (b ∷ rest)
+    by_test true h e = by_byte (tidy_by is_path_byte refl refl refl b h)
+    by_test false h e = by_backslash_first (b == 92) refl e
+
+quote_opens : (b : ℕ) (rest : List ℕ) (k : ℕ) → between_quotes rule.Clean (b ∷ rest) ≡ suc k → Opens (b ∷ rest)
+unfolding between_quotes
+quote_opens b rest k e = by_test (b == 34 && begins_with 34 (drop (run_size rule.Clean rest) rest)) refl e
+  where
+    by_test : (t : Bool) → (b == 34 && begins_with 34 (drop (run_size rule.Clean rest) rest)) ≡ t → (if t then run_size rule.Clean rest + 2 else 0) ≡ suc k → Opens (b ∷ rest)
+    by_test true h e = subst (λ (x : ℕ). Opens (x ∷ rest)) (sym (eqb-true b 34 (and_parts (b == 34) (begins_with 34 (drop (run_size rule.Clean rest) rest)) h).0)) (by_byte refl)
+    by_test false h e = absurd (omega (arith, e))
+
+unit_opens : (b : ℕ) (rest : List ℕ) (k : ℕ) → argument_unit (b ∷ rest) ≡ suc k → Opens (b ∷ rest)
+unit_opens b rest k e = by_first (unit_size rule.Path (b ∷ rest)) refl e
+  where
+    by_first : (n : ℕ) → unit_size rule.Path (b ∷ rest) ≡ n → or_else n (between_quotes rule.Clean (b ∷ rest)) ≡ suc k → Opens (b ∷ rest)
+    by_first zero h e = quote_opens b rest k e
+    by_first (suc n) h e = path_opens b rest n h
+
+whole_opens : (b : ℕ) (rest : List ℕ) (k : ℕ) → whole_size (b ∷ rest) ≡ suc k → Opens (b ∷ rest)
+unfolding whole_size
+whole_opens b rest k e = by_unit (argument_unit (b ∷ rest)) refl e
+  where
+    by_unit : (n : ℕ) → argument_unit (b ∷ rest) ≡ n → past_unit n (λ m. reach argument_unit m rest) ≡ suc k → Opens (b ∷ rest)
+    by_unit zero h e = absurd (omega (arith, e))
+    by_unit (suc n) h e = unit_opens b rest n h
+
+broken_opens : (b : ℕ) (rest : List ℕ) → 0 < broken_size (b ∷ rest) → (b == 34) ≡ true
+unfolding broken_size
+broken_opens b rest some = by_quote (b == 34) refl
+  where
+    by_test : (t : Bool) → (between_quotes rule.Clean (b ∷ rest) == 0 && not (quoted_size (b ∷ rest) == 0)) ≡ t → 0 < (if t then run_size rule.Clean rest + 1 else 0) → (quoted_size (b ∷ rest) == 0) ≡ true → ⊥
+    by_test true h some none = let not_none = (and_parts (between_quotes rule.Clean (b ∷ rest) == 0) (not (quoted_size (b ∷ rest) == 0)) h).1 in let other : not true ≡ true = ap not (sym none) ∙ not_none in cc
+    by_test false h some none = omega (arith, some)
+
+    by_quote : (t : Bool) → (b == 34) ≡ t → (b == 34) ≡ true
+    by_quote true e = e
+    by_quote false e = absurd (by_test (between_quotes rule.Clean (b ∷ rest) == 0 && not (quoted_size (b ∷ rest) == 0)) refl some (ap (λ (n : ℕ). n == 0) (no_quoted b rest e)))
+
+pub argument_opens : (bytes : List ℕ) (n : ℕ) → n ≤ length bytes → (nat_lt 0 n && is_argument bytes n) ≡ true → Opens (take n bytes)
+argument_opens bytes zero inside h = absurd (cc)
+argument_opens [] (suc n) inside h = absurd (omega arith)
+argument_opens (b ∷ rest) (suc n) inside h = by_whole (whole_size (take (suc n) (b ∷ rest))) refl (and_parts (nat_lt 0 (suc n)) (is_argument (b ∷ rest) (suc n)) h).1
+  where
+    by_whole : (w : ℕ) → whole_size (take (suc n) (b ∷ rest)) ≡ w → (w == suc n || (nat_lt 0 (broken_size (drop w (b ∷ rest))) && (w + broken_size (drop w (b ∷ rest)) == suc n))) ≡ true → Opens (b ∷ take n rest)
+    by_whole (suc w) e h = whole_opens b (take n rest) w e
+    by_whole zero e h =
+        elim (or_cases (0 == suc n) (nat_lt 0 (broken_size (b ∷ rest)) && (0 + broken_size (b ∷ rest) == suc n)) h) [
+          | inl is ↦ absurd (let same = eqb-true 0 (suc n) is in omega (arith, same))
+          | inr is ↦
+              let some = lt_tells 0 (broken_size (b ∷ rest)) (and_parts (nat_lt 0 (broken_size (b ∷ rest))) (0 + broken_size (b ∷ rest) == suc n) is).0 in
+              subst (λ (x : ℕ). Opens (x ∷ take n rest)) (sym (eqb-true b 34 (broken_opens b rest some))) (by_byte refl)
+        ]
