@@ -56,7 +56,7 @@ unfolding pattern_of
 slash_pattern [] h = absurd (cc)
 slash_pattern (b ∷ text) h = ap (λ (c : ℕ). begins_with 47 (pattern_from Command 0 (c ∷ text))) (eqb-true b 47 h)
 
-path_is : (text : List ℕ) → Given kind.Path text → has_byte 0 text ≡ false → (is_pattern Command (pattern_of Command text) ≡ true) × (begins_with 47 (pattern_of Command text) ≡ true)
+pub path_is : (text : List ℕ) → Given kind.Path text → has_byte 0 text ≡ false → (is_pattern Command (pattern_of Command text) ≡ true) × (begins_with 47 (pattern_of Command text) ≡ true)
 path_is text is nul = (pattern_made Command Command commands_make text (tight_tidy text is.0) nul, slash_pattern text is.1)
 
 bare_gives : (k : TokenKind) (text : List ℕ) → Given k text → has_byte 0 text ≡ false → Gives (bare_command k text)

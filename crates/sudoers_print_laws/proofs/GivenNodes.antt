@@ -25,8 +25,9 @@ use Rattle.sudoers_line.specs.Line.{ReadsLine}
 use Rattle.sudoers_line.specs.Piece.{Piece, pieces, is_parameter, is_some, looked_up, kind_words, kind_word, is_the_word, include_word, has_byte}
 use Rattle.sudoers_line.specs.Piece.{is_word as is_a_word, include_words as include_rows}
 use Rattle.sudoers_line.specs.Grammar.{IsMember, AreMembers, IsCommand, IsDef, IsAlias, IsHostGroup, BeginsOther, BeginsSpec, IsUserSpec, IsScopeCommand, IsScopeList, IsScope, PerhapsScope, IsParamWith, IsParam, is_defaults, IsDefaults, Many, Behind, Separated, Says, Reads}
-use Rattle.sudoers_print_laws.specs.Writable.{IsUser, IsListMember, IsUserMember, IsHostMember, IsCommandMember, IsMemberOf, AreSome, IsWritableDef, IsGroup, IsSettingOf, IsWritableParam}
-use Rattle.sudoers_print_laws.specs.Readable.{IsReadableScope, IsReadable}
+use Rattle.sudoers_print_laws.specs.Writable.{IsUser, IsListMember, IsUserMember, IsHostMember, IsCommandMember, IsMemberOf, AreSome, IsWritableDef, IsGroup, IsSettingOf, IsWritableScope, IsWritableParam}
+use Rattle.sudoers_print_laws.specs.Readable.{IsReadable}
+use Rattle.sudoers_print_laws.proofs.NoArguments.{NoArgsBehind, no_args_behind, scope_both}
 use Rattle.sudoers_print_laws.proofs.TidyPieces.{Given}
 use Rattle.sudoers_print_laws.proofs.GivenTokens.{GivenPiece, GivenList, GivenLine, given_id, given_line}
 use Rattle.sudoers_print_laws.proofs.GivenLists.{drop_given, Writes, many_given, behind_given, separated_given, user_atom_given, users_given, runas_given, hosts_given, commands_given, def_given, group_given}
@@ -125,35 +126,24 @@ with_given (Some s) ts p rest same given is =
 param_given : Writes IsParam IsWritableParam
 param_given ts p rest given is = with_given p.setting ts p rest refl given is
 
-scope_command_given : Writes IsScopeCommand IsCommandMember
-scope_command_given ts m rest given is = commands_given ts m rest given is.1
-
-scope_list_given : (k : Kind) → Writes (IsScopeList k) (AreSome (IsMemberOf k))
-scope_list_given User = separated_given 44 (IsMember User) IsUserMember users_given
-scope_list_given Runas = separated_given 44 (IsMember Runas) IsUserMember runas_given
-scope_list_given Host = separated_given 44 (IsMember Host) IsHostMember hosts_given
-scope_list_given Cmnd = separated_given 44 IsScopeCommand IsCommandMember scope_command_given
-
-scope_given : (stop : ℕ) (ts : List Piece) (scope : Option Scope) (rest : List Piece) → GivenList ts → PerhapsScope stop ts scope rest → IsReadableScope scope × GivenList rest
-scope_given stop ts None rest given is = (tt, subst GivenList is.0 given)
-scope_given stop ts (Some s) rest given is = let after = subst GivenList is.split given in scope_list_given s.kind is.behind s.members rest after.2 is.members
-
-defaults_given : (ts : List Piece) (scope : Option Scope) (ps : List Param) (rest : List Piece) → GivenLine ts → IsDefaults ts scope ps rest → IsReadableScope scope × AreSome IsWritableParam ps
-defaults_given ts scope ps rest given is =
+defaults_given : (ts : List Piece) (scope : Option Scope) (ps : List Param) (rest : List Piece) → GivenLine ts → NoArgsBehind ts → IsDefaults ts scope ps rest → IsWritableScope scope × AreSome IsWritableParam ps
+defaults_given ts scope ps rest given none is =
     let there = subst GivenLine is.split given in
-    let scoped = scope_given is.word.stop is.behind scope is.behind_scope (there.1 (defaults_first is.word is.is_word)) is.in_scope in
+    let apart = subst NoArgsBehind is.split none in
+    let first = defaults_first is.word is.is_word in
+    let scoped = scope_both is.word.stop is.behind scope is.behind_scope (there.1 first, apart is.is_word first) is.in_scope in
     (scoped.0, (separated_given 44 IsParam IsWritableParam param_given is.behind_scope ps rest scoped.1 is.params).0)
 
 -- ---- lines
 
-says_given : IncludesAgree → (ts : List Piece) (n : Node) (rest : List Piece) → GivenLine ts → Says ts n rest → IsReadable n
-says_given agree ts node.Blank rest given says = tt
-says_given agree ts node.Comment rest given says = tt
-says_given agree ts (node.Include dir path) rest given says = tt
-says_given agree ts (node.Defaults scope params) rest given says = defaults_given ts scope params rest given says
-says_given agree ts (node.Alias k defs) rest given says = alias_given k ts defs rest given says
-says_given agree ts (node.Spec users groups) rest given says = spec_given agree ts users groups rest given says
+says_given : IncludesAgree → (ts : List Piece) (n : Node) (rest : List Piece) → GivenLine ts → NoArgsBehind ts → Says ts n rest → IsReadable n
+says_given agree ts node.Blank rest given none says = tt
+says_given agree ts node.Comment rest given none says = tt
+says_given agree ts (node.Include dir path) rest given none says = tt
+says_given agree ts (node.Defaults scope params) rest given none says = defaults_given ts scope params rest given none says
+says_given agree ts (node.Alias k defs) rest given none says = alias_given k ts defs rest given says
+says_given agree ts (node.Spec users groups) rest given none says = spec_given agree ts users groups rest given says
 
 -- What a line without NUL is read as can be written.
 pub line_given : IncludesAgree → (line : List ℕ) (n : Node) → has_byte 0 line ≡ false → ReadsLine line n → IsReadable n
-line_given agree line n clean is = says_given agree (pieces line is.tokens) n is.reads.0 (given_line (line_mode line) line is.tokens clean is.has) is.reads.1
+line_given agree line n clean is = says_given agree (pieces line is.tokens) n is.reads.0 (given_line (line_mode line) line is.tokens clean is.has) (no_args_behind line is.tokens is.has) is.reads.1

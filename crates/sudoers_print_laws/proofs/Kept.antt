@@ -72,5 +72,5 @@ alias_printed law given line k ds clean is = each_def law k ds (all_of (IsWritab
 pub spec_printed : PrintLaw → GivenLaw → (line : List ℕ) (users : List Member) (groups : List HostGroup) → has_byte 0 line ≡ false → ReadsLine line (node.Spec users groups) → ReadsBack (printed_line (node.Spec users groups)) (node.Spec users groups)
 spec_printed law given line users groups clean is = law (node.Spec users groups) (given line (node.Spec users groups) clean is)
 
-pub defaults_printed : PrintLaw → GivenLaw → (line : List ℕ) (scope : Option Scope) (params : List Param) → has_byte 0 line ≡ false → ReadsLine line (node.Defaults scope params) → IsWritableScope scope → ReadsBack (printed_line (node.Defaults scope params)) (node.Defaults scope params)
-defaults_printed law given line scope params clean is scoped = law (node.Defaults scope params) (scoped, (given line (node.Defaults scope params) clean is).1)
+pub defaults_printed : PrintLaw → GivenLaw → (line : List ℕ) (scope : Option Scope) (params : List Param) → has_byte 0 line ≡ false → ReadsLine line (node.Defaults scope params) → ReadsBack (printed_line (node.Defaults scope params)) (node.Defaults scope params)
+defaults_printed law given line scope params clean is = law (node.Defaults scope params) (given line (node.Defaults scope params) clean is)

@@ -57,3 +57,5 @@ mod GivenCommands
 mod GivenLists
 mod GivenNodes
 mod Kept
+mod DefaultsMode
+mod NoArguments

@@ -19,7 +19,7 @@ ghost use Rattle.sudoers_line.specs.declared.node.Node.TheVariants as node;
 ghost use Rattle.sudoers_line.specs.Line.{ReadsLine};
 ghost use Rattle.sudoers_line.specs.Piece.{has_byte};
 ghost use Rattle.sudoers_print.specs.Lines.{printed_line, printed_lines};
-ghost use Rattle.sudoers_print_laws.specs.Writable.{IsMemberOf, AreSome, IsRunasList, IsOptionValue, IsCmd, IsWritableScope, IsWritable};
+ghost use Rattle.sudoers_print_laws.specs.Writable.{IsMemberOf, AreSome, IsRunasList, IsOptionValue, IsCmd, IsWritable};
 ghost use Rattle.sudoers_print_laws.specs.Readable.{IsReadable};
 ghost use Rattle.sudoers_print_laws.specs.Same.{ReadsBack};
 
@@ -46,8 +46,7 @@ pub fn printed_lines_are_cut()
     ensures { (nodes : List NodeOf) → AllByRecursion IsWritable nodes → Cuts (printed_lines nodes) (map printed_line nodes) }
 {}
 
-/// What a line without NUL is read as can be written: each definition of an alias line, a user specification, and the parameters of a
-/// Defaults line.
+/// What a line without NUL is read as can be written: a Defaults line, each definition of an alias line, a user specification.
 pub fn read_can_be_written()
     ensures { (line : List ℕ) (says : NodeOf) → has_byte 0 line ≡ false → ReadsLine line says → IsReadable says }
 {
@@ -67,14 +66,14 @@ pub fn writable_is_kept()
 {}
 
 /// What a line without NUL is read as is printed, and read back as the same: each definition of an alias line on a line of its own, a user
-/// specification, a Defaults line whose scope can be written.
+/// specification, a Defaults line.
 pub fn read_is_printed()
     ensures aliases { (line : List ℕ) (kind : KindOf) (defs : List DefOf) → has_byte 0 line ≡ false → ReadsLine line (node.Alias kind defs)
         → AllByRecursion (λ (def : DefOf). ReadsBack (printed_line (node.Alias kind (def ∷ []))) (node.Alias kind (def ∷ []))) defs }
     ensures specification { (line : List ℕ) (users : List MemberOf) (groups : List GroupOf) → has_byte 0 line ≡ false
         → ReadsLine line (node.Spec users groups) → ReadsBack (printed_line (node.Spec users groups)) (node.Spec users groups) }
     ensures defaults { (line : List ℕ) (scope : Option ScopeOf) (params : List ParamOf) → has_byte 0 line ≡ false
-        → ReadsLine line (node.Defaults scope params) → IsWritableScope scope
+        → ReadsLine line (node.Defaults scope params)
         → ReadsBack (printed_line (node.Defaults scope params)) (node.Defaults scope params) }
 {
     printed_line_is_read();
