@@ -1,0 +1,131 @@
+-- Hosts as they are written are read as these hosts.
+use Rattle.std.proofs.Common.{◌≡◌, ◌≢◌, ℕ, zero, suc, ◌+◌, ◌*◌, ◌/◌, ◌%◌, ◌^◌, ◌≤◌, ◌<◌, Bool, true, false, ◌&&◌, ◌||◌, not, List, [], ◌∷◌, ◌++◌, length, get_or, Some, None, refl, sym, ap, subst, ◌∙◌, arith}
+use Rattle.std.specs.Prelude.{◌==◌, if◌then◌else◌, codes, nat_le, nat_lt, nat_eq, Option, option_map, option_and_then}
+use Rattle.std.specs.List.{list_all, list_any}
+use Rattle.std.specs.Str.{bytes_eq}
+use Rattle.std.specs.Fmt.{decimal}
+use Rattle.std.proofs.lemmas.Bool.{and_parts, or_parts, eqb-true, ne_eqb}
+use Rattle.std.proofs.lemmas.Fmt.{decimal_digit, first_decimal}
+use Rattle.std.proofs.lemmas.Bool.Decides.{nat_tests}
+use Rattle.std.proofs.lemmas.Slice.Eq.{bytes_eq-Decides}
+use Rattle.sudoers_text.specs.declared.token.TokenKind.TheVariants as kind
+use Rattle.sudoers_text.specs.Unit.{LineUnit, Continuation, Pair, Quoted, Comment, Byte, is_digit}
+use Rattle.sudoers_text.specs.Part.{is_word_byte, is_upper}
+use Rattle.sudoers_text.specs.Word.{is_name, is_alias_byte}
+use Rattle.sudoers_line.specs.declared.node.Atom.{Atom}
+use Rattle.sudoers_line.specs.declared.node.Atom.TheVariants as atom
+use Rattle.sudoers_line.specs.declared.node.Mask.{Mask}
+use Rattle.sudoers_line.specs.declared.node.Mask.TheVariants as mask
+use Rattle.sudoers_line.specs.declared.pattern.Spelling.TheVariants.{Host as HostName}
+use Rattle.sudoers_line.specs.Pattern.{pattern_of}
+use Rattle.sudoers_line.specs.Piece.{begins_with, ends_with, has_byte}
+use Rattle.sudoers_line.specs.Number.{id_limit, are_digits, up_to, plain_number, decimal as decimal_number, put_before, split_at, quad, address_number, mask_of, mask_of_bits, network_of, is_slashed}
+use Rattle.sudoers_line.specs.Atom.{filled, plain_host, unescaped_host, host_atom}
+use Rattle.sudoers_print.specs.Spelling.{escaped}
+use Rattle.sudoers_print.specs.Hosts.{dotted, printed_mask, reads_as_host, is_host}
+use Rattle.sudoers_print_laws.specs.Writable.{is_pattern, IsAddress, IsMask, IsHost}
+use Rattle.sudoers_print_laws.specs.Same.{read_back}
+use Rattle.sudoers_print_laws.proofs.Written.{flat}
+use Rattle.sudoers_print_laws.proofs.Units.{AreUnitsOf, plain}
+use Rattle.sudoers_print_laws.proofs.PatternUnits.{ArePattern, escape, escape_all, pattern_units}
+use Rattle.sudoers_print_laws.proofs.ListTokens.{backed, host_name_units, host_units}
+use Rattle.sudoers_print_laws.proofs.Cuts.{differs}
+use Rattle.sudoers_print_laws.proofs.Words.{word_plain}
+use Rattle.sudoers_print_laws.proofs.Values.{le_true}
+use Rattle.sudoers_print_laws.proofs.Users.{flat_plain, filled_same, decimal_read}
+use Rattle.sudoers_print_laws.proofs.Patterns.{IsBare, are_pattern, flat_escaped, escaped_read}
+use Rattle.sudoers_print_laws.proofs.Hosts.{AreParts, parts_of, dots, dotted_is, dotted_word, dotted_some}
+
+-- ---- bytes
+
+-- a byte that fails the test is not among bytes that pass it
+pub no_byte : (test : ℕ → Bool) (a : ℕ) (text : List ℕ) → list_all test text ≡ true → test a ≡ false → has_byte a text ≡ false
+no_byte test a [] all none = refl
+no_byte test a (b ∷ text) all none =
+    let parts = and_parts (test b) (list_all test text) all in
+    let other : (b == a) ≡ false = differs test a b parts.0 none in
+    let later : has_byte a text ≡ false = no_byte test a text parts.1 none in
+    rw (other, later) refl
+
+-- ---- numbers
+
+lead_is : (n : ℕ) → n < 2 ^ 64 → (not (begins_with 48 (decimal n)) || length (decimal n) == 1) ≡ true
+lead_is zero h = ap (λ (ds : List ℕ). not (begins_with 48 ds) || length ds == 1) (decimal_digit 0 (omega arith))
+lead_is (suc n) h = by_text (decimal (suc n)) (first_decimal (suc n) (omega arith) h)
+  where
+    by_text : (ds : List ℕ) → 48 < get_or ds 0 0 → (not (begins_with 48 ds) || length ds == 1) ≡ true
+    by_text [] lt = absurd (omega arith)
+    by_text (c ∷ cs) lt = let other : (c == 48) ≡ false = ne_eqb c 48 (λ e. omega arith) in rw other refl
+
+-- the decimal digits of a number are read as it
+pub plain_read : (limit n : ℕ) → n ≤ limit → limit ≤ id_limit → plain_number limit (decimal n) ≡ Some n
+plain_read limit n h small =
+    let is = decimal_read n (omega arith) in
+    let number : decimal_number 0 (decimal n) ≡ n = is.0 in
+    let all : list_all is_digit (decimal n) ≡ true = is.1 in
+    let some : nat_lt 0 (length (decimal n)) ≡ true = grind (arith, nat_tests, is.2) in
+    let lead : (not (begins_with 48 (decimal n)) || length (decimal n) == 1) ≡ true = lead_is n (omega arith) in
+    let low : nat_le n limit ≡ true = le_true n limit h in
+    rw (some, all, lead, number, low) refl
+
+part_read : (d : ℕ) → d < 256 → plain_number 255 (decimal d) ≡ Some d
+part_read d h = plain_read 255 d (omega arith) (omega arith)
+
+-- what is no digit ends a number
+pub no_digits : (limit : ℕ) (x : List ℕ) (b : ℕ) (y : List ℕ) → is_digit b ≡ false → plain_number limit (x ++ b ∷ y) ≡ None
+no_digits limit x b y other = by_digits (are_digits (x ++ b ∷ y)) refl
+  where
+    among : (x : List ℕ) → list_all is_digit (x ++ b ∷ y) ≡ false
+    among [] = rw other refl
+    among (a ∷ x) = by_first (is_digit a) (among x)
+      where
+        by_first : (t : Bool) → list_all is_digit (x ++ b ∷ y) ≡ false → (t && list_all is_digit (x ++ b ∷ y)) ≡ false
+        by_first true h = h
+        by_first false h = refl
+
+    by_digits : (t : Bool) → are_digits (x ++ b ∷ y) ≡ t → plain_number limit (x ++ b ∷ y) ≡ None
+    by_digits true e =
+        absurd (let none : list_all is_digit (x ++ b ∷ y) ≡ false = among x in let all = (and_parts (nat_lt 0 (length (x ++ b ∷ y))) (list_all is_digit (x ++ b ∷ y)) e).1 in cc)
+    by_digits false e = rw e refl
+
+-- ---- parts
+
+pub split_is : (test : ℕ → Bool) (b : ℕ) (x rest : List ℕ) → test b ≡ false → list_all test x ≡ true → split_at b (x ++ b ∷ rest) ≡ Some (x, rest)
+split_is test b [] rest none all = let same : (b == b) ≡ true = grind (arith, nat_tests) in rw same refl
+split_is test b (c ∷ x) rest none all =
+    let parts = and_parts (test c) (list_all test x) all in
+    let other : (c == b) ≡ false = differs test b c parts.0 none in
+    let later : split_at b (x ++ b ∷ rest) ≡ Some (x, rest) = split_is test b x rest none parts.1 in
+    rw (other, later) refl
+
+pub decimal_digits : (n : ℕ) → n ≤ id_limit → list_all is_digit (decimal n) ≡ true
+decimal_digits n h = (decimal_read n h).1
+
+-- three parts, each before a dot, and the last
+pub address_parts : (a b c : ℕ) (last : List ℕ) → a < 256 → b < 256 → c < 256 → address_number (dots a b c last) ≡ quad (Some a) (Some b) (Some c) (plain_number 255 last)
+unfolding address_number
+address_parts a b c last ha hb hc =
+    let first : split_at 46 (decimal a ++ (46 ∷ (decimal b ++ (46 ∷ (decimal c ++ (46 ∷ last)))))) ≡ Some (decimal a, decimal b ++ (46 ∷ (decimal c ++ (46 ∷ last)))) =
+    split_is is_digit 46 (decimal a) (decimal b ++ (46 ∷ (decimal c ++ (46 ∷ last)))) refl (decimal_digits a (omega arith)) in
+    let second : split_at 46 (decimal b ++ (46 ∷ (decimal c ++ (46 ∷ last)))) ≡ Some (decimal b, decimal c ++ (46 ∷ last)) =
+    split_is is_digit 46 (decimal b) (decimal c ++ (46 ∷ last)) refl (decimal_digits b (omega arith)) in
+    let third : split_at 46 (decimal c ++ (46 ∷ last)) ≡ Some (decimal c, last) =
+    split_is is_digit 46 (decimal c) last refl (decimal_digits c (omega arith)) in
+    let pa : plain_number 255 (decimal a) ≡ Some a = part_read a ha in
+    let pb : plain_number 255 (decimal b) ≡ Some b = part_read b hb in
+    let pc : plain_number 255 (decimal c) ≡ Some c = part_read c hc in
+    rw first (rw second (rw third (rw (pa, pb, pc) refl)))
+
+abbrev pub OfParts : ℕ → Type 0
+OfParts n = ((n / 16777216 * 256 + n / 65536 % 256) * 256 + n / 256 % 256) * 256 + n % 256 ≡ n
+
+number_of_parts : (n : ℕ) → OfParts n
+number_of_parts n = omega arith
+
+pub address_read : (n : ℕ) → IsAddress n → address_number (dotted n) ≡ Some n
+address_read n h =
+    let is = parts_of n h in
+    ap address_number (dotted_is n)
+    ∙ address_parts (n / 16777216) (n / 65536 % 256) (n / 256 % 256) (decimal (n % 256)) is.first is.second is.third
+    ∙ ap (quad (Some (n / 16777216)) (Some (n / 65536 % 256)) (Some (n / 256 % 256))) (part_read (n % 256) is.fourth)
+    ∙ ap Some (number_of_parts n)

@@ -1,0 +1,3 @@
+pub mod Writable
+pub mod Same
+pub mod Readable
