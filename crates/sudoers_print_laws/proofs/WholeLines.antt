@@ -1,5 +1,5 @@
 -- Printed lines hold no NUL: each is one logical line alone, and several are cut into exactly these.
-use Rattle.std.proofs.Common.{◌≡◌, ◌≢◌, ℕ, zero, suc, Bool, true, false, not, List, [], ◌∷◌, ◌++◌, Some, None, refl, sym, ap, ◌∙◌, append-nil}
+use Rattle.std.proofs.Common.{◌≡◌, ◌≢◌, ℕ, zero, suc, Bool, true, false, not, List, [], ◌∷◌, ◌++◌, Some, None, refl, ap, append-nil}
 use Rattle.std.specs.Prelude.{◌==◌, map, slice_get, if◌then◌else◌, Option, codes}
 use Rattle.std.specs.List.{AllByRecursion, list_all, flat_map, join_by}
 use Rattle.std.proofs.lemmas.Bool.{not-true, and_parts}
@@ -31,7 +31,7 @@ use Rattle.sudoers_print.specs.Members.{sign, printed_member, printed_list}
 use Rattle.sudoers_print.specs.Commands.{printed_inside, printed_runas, printed_front, option_word, printed_option_value, printed_option, tag_word, printed_tag, printed_options, printed_tags, printed_command}
 use Rattle.sudoers_print.specs.Parameters.{operator_mark, is_plain, is_plain_value, fits_quotes, printed_value, printed_setting, printed_param, printed_params, scope_mark, printed_scope, printed_defaults}
 use Rattle.sudoers_print.specs.Lines.{printed_def, printed_group, printed_spec, printed_line, printed_lines}
-use Rattle.sudoers_print_laws.specs.Writable.{IsMemberOf, IsUserMember, IsHostMember, IsCommandMember, AreSome, IsWritableDef, IsRunasList, IsCmd, IsGroup, IsScopeMember, IsWritableScope, IsWritableParam, IsWritable}
+use Rattle.sudoers_print_laws.specs.Writable.{IsMemberOf, IsUserMember, AreSome, IsWritableDef, IsRunasList, IsCmd, IsGroup, IsScopeMember, IsWritableScope, IsWritableParam, IsWritable}
 use Rattle.sudoers_print_laws.proofs.DefaultsTokens.{scope_command}
 use Rattle.sudoers_print_laws.proofs.NoNul.{is_some_byte, Clean, clean_join, clean_map, clean_by, clean_test, spelled_clean, name_clean, sign_clean, parts_clean, none_clean, command_clean, member_clean, list_clean}
 use Rattle.sudoers_print_laws.proofs.ParamCuts.{fits_byte}
