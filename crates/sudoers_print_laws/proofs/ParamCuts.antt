@@ -194,7 +194,7 @@ plain_fit (b ∷ bytes) all = let parts = and_parts (is_plain b) (list_all is_pl
 
 plain_value_cut : (value rest : List ℕ) → is_plain_value value ≡ true → EndsValue rest → IsCut context.ParameterValue true false kind.Value (plain value) rest
 plain_value_cut [] rest is ends = absurd (cc)
-plain_value_cut (b ∷ value) rest is ends = units_value (plain (b ∷ value)) rest (λ e. absurd (cc)) (omega arith) (plain_fit (b ∷ value) is) ends
+plain_value_cut (b ∷ value) rest is ends = units_value (plain (b ∷ value)) rest (λ e. absurd (cc)) (omega arith) (plain_fit (b ∷ value) (and_parts (nat_lt 0 (length (b ∷ value))) (list_all is_plain (b ∷ value)) is).1) ends
 
 some_units : (us : List LineUnit) → 0 < length (flat us) → us ≡ [] → ⊥
 some_units [] some e = absurd (omega arith)

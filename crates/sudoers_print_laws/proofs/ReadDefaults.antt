@@ -1,6 +1,6 @@
 -- A Defaults line as it is written is read as this line.
-use Rattle.std.proofs.Common.{◌≡◌, ℕ, Bool, true, false, ◌&&◌, List, [], ◌∷◌, ◌++◌, Some, None, refl, sym, ap, ◌∙◌, append-nil}
-use Rattle.std.specs.Prelude.{◌==◌, if◌then◌else◌, Option}
+use Rattle.std.proofs.Common.{◌≡◌, ℕ, Bool, true, false, ◌&&◌, List, [], ◌∷◌, ◌++◌, length, Some, None, refl, sym, ap, ◌∙◌, append-nil}
+use Rattle.std.specs.Prelude.{◌==◌, nat_lt, if◌then◌else◌, Option}
 use Rattle.std.specs.List.{AllByRecursion, list_all}
 use Rattle.std.proofs.lemmas.Bool.{and_parts}
 use Rattle.sudoers_text.specs.declared.token.TokenKind.TheVariants as kind
@@ -53,7 +53,7 @@ quoted_from (b ∷ value) all =
 
 plain_some : (value : List ℕ) → is_plain_value value ≡ true → list_all is_plain value ≡ true
 plain_some [] is = absurd (cc)
-plain_some (b ∷ value) is = is
+plain_some (b ∷ value) is = (and_parts (nat_lt 0 (length (b ∷ value))) (list_all is_plain (b ∷ value)) is).1
 
 value_read : (value : List ℕ) → value_of (flat (param_units value)) ≡ value
 unfolding value_of

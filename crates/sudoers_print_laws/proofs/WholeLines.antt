@@ -1,6 +1,6 @@
 -- Printed lines hold no NUL: each is one logical line alone, and several are cut into exactly these.
-use Rattle.std.proofs.Common.{◌≡◌, ◌≢◌, ℕ, zero, suc, Bool, true, false, not, List, [], ◌∷◌, ◌++◌, Some, None, refl, ap, append-nil}
-use Rattle.std.specs.Prelude.{◌==◌, map, slice_get, if◌then◌else◌, Option, codes}
+use Rattle.std.proofs.Common.{◌≡◌, ◌≢◌, ℕ, zero, suc, Bool, true, false, not, List, [], ◌∷◌, ◌++◌, length, Some, None, refl, ap, append-nil}
+use Rattle.std.specs.Prelude.{◌==◌, map, slice_get, nat_lt, if◌then◌else◌, Option, codes}
 use Rattle.std.specs.List.{AllByRecursion, list_all, flat_map, join_by}
 use Rattle.std.proofs.lemmas.Bool.{not-true, and_parts}
 use Rattle.sudoers_text.specs.Part.{is_name_byte}
@@ -123,7 +123,7 @@ value_clean value = by_plain (is_plain_value value) refl
   where
     plain_all : (v : List ℕ) → is_plain_value v ≡ true → Clean v
     plain_all [] h = refl
-    plain_all (b ∷ v) h = clean_test is_plain refl (b ∷ v) h
+    plain_all (b ∷ v) h = clean_test is_plain refl (b ∷ v) (and_parts (nat_lt 0 (length (b ∷ v))) (list_all is_plain (b ∷ v)) h).1
 
     by_quotes : (t : Bool) → fits_quotes value ≡ t → Clean (if t then codes "\"" ++ value ++ codes "\"" else spelled value)
     by_quotes true e = clean_join (codes "\"" ++ value) (codes "\"") (clean_test fits_byte refl value e) refl
