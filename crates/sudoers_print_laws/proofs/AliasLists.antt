@@ -1,5 +1,5 @@
 -- The list of a definition, of each kind, as it is written.
-use Rattle.std.proofs.Common.{◌≡◌, ℕ, Bool, true, false, List, [], ◌∷◌, ◌++◌, refl, subst}
+use Rattle.std.proofs.Common.{ℕ, true, false, List, [], ◌∷◌, refl, subst}
 use Rattle.sudoers_text.specs.declared.context.Context.TheVariants as context
 use Rattle.sudoers_line.specs.declared.node.Kind.{Kind}
 use Rattle.sudoers_line.specs.declared.node.Kind.TheVariants.{User, Runas, Host, Cmnd}
@@ -10,7 +10,7 @@ use Rattle.sudoers_text.specs.Line.{IsLine}
 use Rattle.sudoers_print.specs.Lines.{printed_line}
 use Rattle.sudoers_print_laws.specs.Writable.{IsMemberOf, AreSome, IsWritableDef}
 use Rattle.sudoers_print_laws.specs.Same.{ReadsBack}
-use Rattle.sudoers_print_laws.proofs.Written.{Written, line_of}
+use Rattle.sudoers_print_laws.proofs.Written.{Written}
 use Rattle.sudoers_print_laws.proofs.ListTokens.{list_tokens}
 use Rattle.sudoers_print_laws.proofs.CommandTokens.{list_of_commands}
 use Rattle.sudoers_print_laws.proofs.Whole.{written_line}

@@ -1,16 +1,15 @@
 -- A command with what stands before it as it is written is cut into its tokens.
-use Rattle.std.proofs.Common.{◌≡◌, ℕ, suc, Bool, true, false, List, [], ◌∷◌, ◌++◌, length, Some, None, refl, sym, ap, subst, ◌∙◌, arith}
-use Rattle.std.specs.Prelude.{◌==◌, if◌then◌else◌, Option, codes}
-use Rattle.std.specs.List.{AllByRecursion, list_all}
+use Rattle.std.proofs.Common.{◌≡◌, ℕ, Bool, true, false, List, [], ◌∷◌, length, Some, None, refl, sym, subst, arith}
+use Rattle.std.specs.Prelude.{◌==◌, Option, codes}
+use Rattle.std.specs.List.{AllByRecursion}
 use Rattle.std.proofs.lemmas.Bool.Decides.{nat_tests}
 use Rattle.sudoers_text.specs.declared.token.TokenKind.TheVariants as kind
-use Rattle.sudoers_text.specs.declared.part.Rule.TheVariants as rule
 use Rattle.sudoers_text.specs.declared.context.Context.{Context}
 use Rattle.sudoers_text.specs.declared.context.Context.TheVariants as context
 use Rattle.sudoers_text.specs.Unit.{Byte, Quoted}
-use Rattle.sudoers_text.specs.Part.{run_size, between_quotes, is_word_byte}
+use Rattle.sudoers_text.specs.Part.{run_size, between_quotes}
 use Rattle.sudoers_text.specs.Context.{behind}
-use Rattle.sudoers_text.specs.Found.{found, command_path_size, number_size, hash_number_size, colon_number_size, group_size, colon_word_size}
+use Rattle.sudoers_text.specs.Found.{command_path_size, number_size, hash_number_size, group_size}
 use Rattle.sudoers_line.specs.declared.node.Kind.TheVariants.{Runas}
 use Rattle.sudoers_line.specs.declared.node.Tag.{Tag}
 use Rattle.sudoers_line.specs.declared.node.Tag.TheVariants as tag
@@ -22,8 +21,8 @@ use Rattle.sudoers_print.specs.Commands.{option_word, printed_tag}
 use Rattle.sudoers_print_laws.specs.Writable.{IsUserMember, IsCommandMember, IsRunasList}
 use Rattle.sudoers_print_laws.proofs.Written.{Written, flat, line_of, IsCut, AreCut}
 use Rattle.sudoers_print_laws.proofs.Units.{plain, word_units}
-use Rattle.sudoers_print_laws.proofs.ListTokens.{mark, word, list_tokens}
-use Rattle.sudoers_print_laws.proofs.CommandTokens.{value_token, tagged, optioned, runas_inside, runas_tokens, cmd_tokens}
+use Rattle.sudoers_print_laws.proofs.ListTokens.{mark, list_tokens}
+use Rattle.sudoers_print_laws.proofs.CommandTokens.{value_token, tagged, optioned, runas_inside, cmd_tokens}
 use Rattle.sudoers_print_laws.proofs.Cuts.{EndsWord}
 use Rattle.sudoers_print_laws.proofs.UserCuts.{EndsUser, sign_cut, mark_cut, units_cut, front_some}
 use Rattle.sudoers_print_laws.proofs.Users.{word_front}

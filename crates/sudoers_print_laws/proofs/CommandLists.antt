@@ -1,14 +1,13 @@
 -- Digests and lists of commands as they are written are tokens of a line.
-use Rattle.std.proofs.Common.{◌≡◌, ◌≢◌, ℕ, suc, Bool, true, false, List, [], ◌∷◌, ◌++◌, length, refl, sym, ap, subst, ◌∙◌, arith}
+use Rattle.std.proofs.Common.{◌≡◌, ◌≢◌, ℕ, suc, Bool, true, false, List, [], ◌∷◌, ◌++◌, length, refl, sym, ap, subst, ◌∙◌}
 use Rattle.std.specs.Prelude.{◌==◌, if◌then◌else◌, nat_lt, codes}
 use Rattle.std.specs.List.{AllByRecursion, list_all}
-use Rattle.sudoers_text.specs.declared.part.Rule.TheVariants as rule
 use Rattle.sudoers_text.specs.declared.token.TokenKind.TheVariants as kind
 use Rattle.sudoers_text.specs.declared.context.Context.{Context}
 use Rattle.sudoers_text.specs.declared.context.Context.TheVariants as context
-use Rattle.sudoers_text.specs.Unit.{Byte, is_blank}
+use Rattle.sudoers_text.specs.Unit.{Byte}
 use Rattle.sudoers_text.specs.Part.{one_if, reach, run_size, is_digest_byte}
-use Rattle.sudoers_text.specs.Context.{behind, forms, command_forms}
+use Rattle.sudoers_text.specs.Context.{behind, command_forms}
 use Rattle.sudoers_text.specs.Found.{found, command_path_size}
 use Rattle.sudoers_line.specs.declared.node.Atom.{Atom}
 use Rattle.sudoers_line.specs.declared.node.Atom.TheVariants as atom
@@ -24,7 +23,6 @@ use Rattle.sudoers_print_laws.proofs.ListTokens.{mark}
 use Rattle.sudoers_print_laws.proofs.CommandTokens.{signed_tokens, digest_tokens, more_digests, command_tokens, more_commands, list_of_commands}
 use Rattle.sudoers_print_laws.proofs.Words.{IsPlain, some_positive}
 use Rattle.sudoers_print_laws.proofs.Cuts.{differs, EndsWord}
-use Rattle.sudoers_print_laws.proofs.Users.{flat_plain}
 use Rattle.sudoers_print_laws.proofs.UserCuts.{EndsUser, sign_cut}
 use Rattle.sudoers_print_laws.proofs.Ones.{ones_size, ones_cut}
 use Rattle.sudoers_print_laws.proofs.CommandCuts.{TailCut, literal_cut, command_mark, signed_then}

@@ -1,5 +1,5 @@
 -- Lists of commands, token by token: a device of the laws.
-use Rattle.std.specs.Prelude.{ℕ, Bool, true, false, List, [], ◌∷◌, ◌++◌, codes, Option, Some, None}
+use Rattle.std.specs.Prelude.{ℕ, Bool, true, false, List, [], ◌∷◌, codes, Option, Some, None}
 use Rattle.sudoers_text.specs.declared.token.TokenKind.{TokenKind}
 use Rattle.sudoers_text.specs.declared.token.TokenKind.TheVariants as kind
 use Rattle.sudoers_text.specs.Unit.{LineUnit, Quoted}
@@ -13,7 +13,6 @@ use Rattle.sudoers_line.specs.declared.node.Member.{Member}
 use Rattle.sudoers_line.specs.declared.node.OptionName.{OptionName}
 use Rattle.sudoers_line.specs.declared.node.Tag.{Tag}
 use Rattle.sudoers_line.specs.declared.node.RunasSpec.{RunasSpec}
-use Rattle.sudoers_line.specs.declared.node.CmdSpec.{CmdSpec}
 use Rattle.sudoers_line.specs.declared.pattern.Spelling.TheVariants.{Command}
 use Rattle.sudoers_print.specs.Members.{digest_word}
 use Rattle.sudoers_print.specs.Commands.{option_word, printed_tag}

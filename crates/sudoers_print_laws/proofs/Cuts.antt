@@ -15,7 +15,7 @@ use Rattle.sudoers_text.specs.Context.{forms}
 use Rattle.sudoers_text.specs.Found.{found}
 use Rattle.sudoers_print_laws.proofs.Written.{flat, IsCut}
 use Rattle.sudoers_print_laws.proofs.Units.{is_unit, AreUnitsOf}
-use Rattle.sudoers_print_laws.proofs.Words.{include_plain, pair_escaped, size_by, run_is, run_closed, run_stands, word_plain, word_apart, BeginsWord, word_found, command_word_found, first_word_found, BeginsUnit, plain_begins, pair_begins}
+use Rattle.sudoers_print_laws.proofs.Words.{include_plain, pair_escaped, size_by, run_is, run_closed, run_stands, word_plain, word_apart, BeginsWord, command_word_found, first_word_found, BeginsUnit, plain_begins, pair_begins}
 
 -- Bytes of which one passes the test and the other does not are two.
 pub differs : (test : ℕ → Bool) (a b : ℕ) → test b ≡ true → test a ≡ false → (b == a) ≡ false
@@ -32,15 +32,6 @@ first_byte u = 92
 -- A context in which words are read that begin with this byte.
 abbrev pub TakesWords : Context → ℕ → Type 0
 TakesWords here b = (i first : Bool) (rest : List ℕ) (n : ℕ) → BeginsWord b rest → run_size rule.Word (b ∷ rest) ≡ suc n → found (forms here) i first (b ∷ rest) ≡ (kind.Word, suc n)
-
-pub words_take : (b : ℕ) → TakesWords context.Words b
-words_take b i first rest n is size = word_found i first b rest n is size
-
-pub hosts_take : (b : ℕ) → TakesWords context.Hosts b
-hosts_take b i first rest n is size = word_found i first b rest n is size
-
-pub parentheses_take : (b : ℕ) → TakesWords context.Parentheses b
-parentheses_take b i first rest n is size = word_found i first b rest n is size
 
 pub commands_take : (b : ℕ) → (b == 47) ≡ false → TakesWords context.Commands b
 commands_take b slash i first rest n is size = command_word_found i first b rest n is slash size

@@ -1,5 +1,5 @@
 -- A line that is written token by token has these tokens.
-use Rattle.std.proofs.Common.{◌≡◌, ℕ, true, List, subst}
+use Rattle.std.proofs.Common.{ℕ, true, List, subst}
 use Rattle.sudoers_text.specs.declared.token.Token.{Token}
 use Rattle.sudoers_text.specs.declared.token.Mode.{Mode}
 use Rattle.sudoers_text.specs.declared.context.Context.TheVariants as context

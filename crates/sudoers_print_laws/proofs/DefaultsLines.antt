@@ -1,5 +1,5 @@
 -- A Defaults line is read as it is printed, and is one logical line.
-use Rattle.std.proofs.Common.{◌≡◌, ℕ, Bool, true, false, List, [], ◌∷◌, Some, None, refl, sym, ap, subst, ◌∙◌}
+use Rattle.std.proofs.Common.{◌≡◌, ℕ, Bool, true, false, List, [], ◌∷◌, Some, None, refl, sym, subst}
 use Rattle.std.specs.Prelude.{Option, codes}
 use Rattle.sudoers_text.specs.declared.token.TokenKind.TheVariants as kind
 use Rattle.sudoers_text.specs.declared.token.Mode.{Mode}
@@ -16,7 +16,7 @@ use Rattle.sudoers_print.specs.Lines.{printed_line}
 use Rattle.sudoers_print_laws.specs.Writable.{AreSome, IsWritableScope, IsWritableParam}
 use Rattle.sudoers_print_laws.specs.Same.{IsSameScope, ReadsBack}
 use Rattle.sudoers_print_laws.proofs.Written.{Written, line_of, placed, Start, AreCutFrom, Shows}
-use Rattle.sudoers_print_laws.proofs.DefaultsTokens.{scope_tokens, defaults_tokens, all_params, defaults_text, param_tokens, more_params}
+use Rattle.sudoers_print_laws.proofs.DefaultsTokens.{defaults_tokens, all_params, defaults_text, param_tokens, more_params}
 use Rattle.sudoers_print_laws.proofs.Whole.{written_line_from}
 use Rattle.sudoers_print_laws.proofs.Shown.{shows}
 use Rattle.sudoers_print_laws.proofs.AliasLines.{nothing_left}

@@ -1,26 +1,22 @@
 -- A line that begins with the word `Defaults` is read as parameters, and has no arguments.
-use Rattle.std.proofs.Common.{◌≡◌, ◌≢◌, ℕ, zero, suc, ◌+◌, ◌-◌, ◌≤◌, ◌<◌, Bool, true, false, ◌&&◌, ◌||◌, not, List, [], ◌∷◌, ◌++◌, length, take, drop, refl, sym, ap, subst, ◌∙◌, arith, append-nil, inl, inr}
+use Rattle.std.proofs.Common.{◌≡◌, ℕ, zero, suc, ◌≤◌, ◌<◌, Bool, true, false, ◌&&◌, List, [], ◌∷◌, ◌++◌, length, take, drop, refl, sym, ap, subst, ◌∙◌, arith, append-nil, inl, inr}
 use Rattle.std.specs.Prelude.{◌==◌, if◌then◌else◌, nat_lt, codes}
-use Rattle.std.specs.List.{AllByRecursion}
 use Rattle.std.proofs.lemmas.List.{take-append-drop, length-take-le, append_assoc, length-append}
-use Rattle.std.proofs.lemmas.Bool.{and_parts, or_parts, eqb-true, not-true}
+use Rattle.std.proofs.lemmas.Bool.{and_parts, or_parts, eqb-true}
 use Rattle.std.proofs.lemmas.Bool.Decides.{nat_tests}
 use Rattle.std.proofs.Math.Seq.{take-append_seam}
 use Rattle.sudoers_text.specs.declared.part.Rule.TheVariants as rule
-use Rattle.sudoers_text.specs.declared.token.TokenKind.{TokenKind}
 use Rattle.sudoers_text.specs.declared.token.TokenKind.TheVariants as kind
-use Rattle.sudoers_text.specs.declared.token.Token.{Token}
 use Rattle.sudoers_text.specs.declared.token.Mode.{Mode}
 use Rattle.sudoers_text.specs.declared.token.Mode.TheVariants as mode
 use Rattle.sudoers_text.specs.Unit.{LineUnit, Continuation, Pair, Byte, text_of, escaped, begins_lf, begins_line_end}
-use Rattle.sudoers_text.specs.Part.{is_word_byte, or_else, by_backslash, pair_in, reach, run_size, is_some_run, begins_with}
-use Rattle.sudoers_text.specs.Piece.{Form, Mark, Number, NonUnixGroup, Run, QuotedPart, CommentPart, IncludeWord, kind_of, include_size, is_group_word, is_piece, begins_defaults, begins_scope}
+use Rattle.sudoers_text.specs.Part.{is_word_byte, or_else, by_backslash, pair_in, reach, run_size, is_some_run}
+use Rattle.sudoers_text.specs.Piece.{Run, IncludeWord, include_size, is_group_word, begins_defaults}
 use Rattle.sudoers_text.specs.Context.{first_forms, word_forms}
 use Rattle.sudoers_text.specs.LineMode.{line_mode, mode_by}
 use Rattle.sudoers_text.specs.Token.{IsToken, IsLongest, gap_size}
-use Rattle.sudoers_print_laws.proofs.Written.{flat}
-use Rattle.sudoers_print_laws.proofs.Units.{is_unit, AreUnitsOf, plain}
-use Rattle.sudoers_print_laws.proofs.Words.{size_by, run_reached, reach_ends, pair_escaped}
+use Rattle.sudoers_print_laws.proofs.Units.{is_unit, plain}
+use Rattle.sudoers_print_laws.proofs.Words.{size_by, run_reached, reach_ends}
 use Rattle.sudoers_print_laws.proofs.UserCuts.{bytes_fit}
 
 -- ---- one unit of a word

@@ -1,7 +1,7 @@
 -- Defaults lines, token by token, and as they are printed: a device of the laws.
 use Rattle.std.proofs.Common.{◌≡◌, ℕ, Bool, true, false, List, [], ◌∷◌, ◌++◌, Some, None, refl, sym, ap, subst, ◌∙◌, append-nil}
 use Rattle.std.specs.Prelude.{Option, codes, if◌then◌else◌}
-use Rattle.std.specs.List.{AllByRecursion, flat_map, join_by}
+use Rattle.std.specs.List.{AllByRecursion, flat_map}
 use Rattle.std.proofs.lemmas.List.{append_assoc}
 use Rattle.sudoers_text.specs.declared.token.TokenKind.TheVariants as kind
 use Rattle.sudoers_text.specs.Unit.{LineUnit, Quoted}
@@ -9,20 +9,18 @@ use Rattle.sudoers_line.specs.declared.node.Kind.{Kind}
 use Rattle.sudoers_line.specs.declared.node.Kind.TheVariants.{User, Runas, Host, Cmnd}
 use Rattle.sudoers_line.specs.declared.node.Atom.{Atom}
 use Rattle.sudoers_line.specs.declared.node.Atom.TheVariants as atom
-use Rattle.sudoers_line.specs.declared.node.Args.TheVariants.{Any}
 use Rattle.sudoers_line.specs.declared.node.Digest.{Digest}
 use Rattle.sudoers_line.specs.declared.node.Member.{Member}
 use Rattle.sudoers_line.specs.declared.node.Operator.{Operator}
-use Rattle.sudoers_line.specs.declared.node.Operator.TheVariants as operator
 use Rattle.sudoers_line.specs.declared.node.Setting.{Setting}
 use Rattle.sudoers_line.specs.declared.node.Param.{Param}
 use Rattle.sudoers_line.specs.declared.node.Scope.{Scope}
 use Rattle.sudoers_line.specs.declared.node.Node.TheVariants as node
 use Rattle.sudoers_print.specs.Spelling.{spelled}
 use Rattle.sudoers_print.specs.Members.{sign, printed_atom, printed_digests, printed_member, printed_list}
-use Rattle.sudoers_print.specs.Parameters.{operator_mark, is_plain_value, fits_quotes, printed_value, printed_setting, printed_param, printed_params, scope_mark, printed_scope, printed_defaults}
+use Rattle.sudoers_print.specs.Parameters.{operator_mark, is_plain_value, fits_quotes, printed_value, printed_setting, printed_param, printed_params, scope_mark, printed_scope}
 use Rattle.sudoers_print.specs.Lines.{printed_line}
-use Rattle.sudoers_print_laws.specs.Writable.{IsListMember, IsArgs, IsCommandAtom, IsScopeAtom, IsScopeCommand, IsScopeMember, AreSome, IsWritableScope}
+use Rattle.sudoers_print_laws.specs.Writable.{IsArgs, IsCommandAtom, IsScopeAtom, IsScopeCommand, IsScopeMember, AreSome, IsWritableScope}
 use Rattle.sudoers_print_laws.proofs.Written.{Written, flat, gap, line_of}
 use Rattle.sudoers_print_laws.proofs.Units.{plain, word_units}
 use Rattle.sudoers_print_laws.proofs.ListTokens.{mark, word, list_tokens}

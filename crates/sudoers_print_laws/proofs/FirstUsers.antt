@@ -1,19 +1,18 @@
 -- The users with which a user specification begins are cut into their tokens.
-use Rattle.std.proofs.Common.{◌≡◌, ◌≢◌, ℕ, ◌<◌, Bool, true, false, ◌||◌, ◌&&◌, List, [], ◌∷◌, ◌++◌, length, refl, sym, ap, subst, ◌∙◌, arith}
-use Rattle.std.specs.Prelude.{◌==◌, if◌then◌else◌, nat_lt, nat_eq, codes}
+use Rattle.std.proofs.Common.{◌≡◌, ℕ, ◌<◌, Bool, true, false, ◌||◌, List, [], ◌∷◌, ◌++◌, length, refl, sym, ap, subst, ◌∙◌, arith}
+use Rattle.std.specs.Prelude.{◌==◌, if◌then◌else◌, nat_lt, nat_eq}
 use Rattle.std.specs.List.{list_all}
 use Rattle.std.specs.Fmt.{decimal}
 use Rattle.std.proofs.lemmas.Bool.{and_parts, ne_eqb}
-use Rattle.std.proofs.lemmas.List.{append_assoc}
 use Rattle.sudoers_text.specs.declared.part.Rule.TheVariants as rule
 use Rattle.sudoers_text.specs.declared.token.TokenKind.{TokenKind}
 use Rattle.sudoers_text.specs.declared.token.TokenKind.TheVariants as kind
 use Rattle.sudoers_text.specs.declared.token.Mode.TheVariants as mode
 use Rattle.sudoers_text.specs.declared.context.Context.{Context as ContextOf}
 use Rattle.sudoers_text.specs.declared.context.Context.TheVariants as context
-use Rattle.sudoers_text.specs.Unit.{LineUnit, Pair, Byte, is_digit, names_include}
-use Rattle.sudoers_text.specs.Part.{reach, run_size, is_word_byte, is_upper, begins_with}
-use Rattle.sudoers_text.specs.Context.{forms, behind, word_forms}
+use Rattle.sudoers_text.specs.Unit.{LineUnit, Pair, Byte, is_digit}
+use Rattle.sudoers_text.specs.Part.{run_size, is_word_byte, is_upper, begins_with}
+use Rattle.sudoers_text.specs.Context.{behind, word_forms}
 use Rattle.sudoers_text.specs.LineMode.{line_mode}
 use Rattle.sudoers_text.specs.Found.{found, include_at}
 use Rattle.sudoers_text.specs.Word.{is_name, is_alias_byte}
@@ -22,20 +21,19 @@ use Rattle.sudoers_line.specs.declared.node.Atom.TheVariants as atom
 use Rattle.sudoers_line.specs.declared.node.Member.{Member}
 use Rattle.sudoers_line.specs.declared.node.Kind.TheVariants.{User}
 use Rattle.sudoers_line.specs.Piece.{Piece, is_word, kind_word, include_word, is_the_word}
-use Rattle.sudoers_line.specs.Number.{id_limit}
 use Rattle.sudoers_line.specs.Grammar.{BeginsOther, BeginsSpec}
 use Rattle.sudoers_print.specs.Spelling.{spelled}
 use Rattle.sudoers_print.specs.Members.{reads_else, begins_other}
-use Rattle.sudoers_print_laws.specs.Writable.{IsUser, IsUserMember}
+use Rattle.sudoers_print_laws.specs.Writable.{IsUser}
 use Rattle.sudoers_print_laws.proofs.Written.{Written, flat, line_of, IsCut, AreCut, Shows}
 use Rattle.sudoers_print_laws.proofs.Units.{AreUnitsOf, word_units, plain}
-use Rattle.sudoers_print_laws.proofs.ListTokens.{mark, name_units, user_kind, user_units, list_token, member_tokens, more_tokens, list_tokens}
+use Rattle.sudoers_print_laws.proofs.ListTokens.{name_units, user_kind, user_units, list_token, member_tokens, more_tokens, list_tokens}
 use Rattle.sudoers_print_laws.proofs.Words.{size_by, run_is}
 use Rattle.sudoers_print_laws.proofs.Cuts.{differs}
 use Rattle.sudoers_print_laws.proofs.Values.{word_fits}
-use Rattle.sudoers_print_laws.proofs.Users.{Front, escaped, itself, word_front, flat_plain, decimal_read}
+use Rattle.sudoers_print_laws.proofs.Users.{word_front, flat_plain, decimal_read}
 use Rattle.sudoers_print_laws.proofs.UserCuts.{EndsUser, NoHash, front_no_hash, sign_cut, user_cut, name_fits, alias_fits, name_bytes}
-use Rattle.sudoers_print_laws.proofs.ListCuts.{ListContext, hosts_lists, list_atom_cut, member_then, more_ends, more_cut, AreListed}
+use Rattle.sudoers_print_laws.proofs.ListCuts.{hosts_lists, member_then, more_ends, more_cut, AreListed}
 use Rattle.sudoers_print_laws.proofs.FirstWord.{user_other, spec_mode, begins_spec, hosts_behind}
 
 -- ---- no include begins there

@@ -11,21 +11,18 @@ use Rattle.sudoers_line.specs.declared.node.Args.{Args}
 use Rattle.sudoers_line.specs.declared.node.Args.TheVariants.{Any, Nothing, Pattern}
 use Rattle.sudoers_line.specs.declared.node.Atom.{Atom}
 use Rattle.sudoers_line.specs.declared.node.Atom.TheVariants as atom
-use Rattle.sudoers_line.specs.declared.pattern.Spelling.{Spelling}
 use Rattle.sudoers_line.specs.declared.pattern.Spelling.TheVariants.{Command}
 use Rattle.sudoers_line.specs.Pattern.{is_escaped_byte, pattern_from, pattern_of}
 use Rattle.sudoers_line.specs.Piece.{Piece, begins_with, ends_with, has_byte}
 use Rattle.sudoers_line.specs.Atom.{is_no_arguments, behind_blanks, args_of, command_word, command_alias, bare_command, command_with, command_atom}
-use Rattle.sudoers_line.specs.Grammar.{IsArg}
 use Rattle.sudoers_print_laws.specs.Writable.{is_pattern_byte, keeps_backslash, is_pattern, IsArgs, IsCommandAtom}
-use Rattle.sudoers_print_laws.proofs.Words.{IsEscaped}
 use Rattle.sudoers_print_laws.proofs.Cuts.{differs}
 use Rattle.sudoers_print_laws.proofs.Patterns.{pair_from, plain_from}
-use Rattle.sudoers_print_laws.proofs.Tidy.{is_tidy_byte, Tidy}
-use Rattle.sudoers_print_laws.proofs.Tight.{Tight, tight_tidy, tight_ends}
+use Rattle.sudoers_print_laws.proofs.Tidy.{Tidy}
+use Rattle.sudoers_print_laws.proofs.Tight.{tight_tidy, tight_ends}
 use Rattle.sudoers_print_laws.proofs.TidyPatterns.{Goes, goes_byte, goes_pair, commands_make, pattern_made}
 use Rattle.sudoers_print_laws.proofs.TidyPieces.{Given, Opens, by_byte, by_pair}
-use Rattle.sudoers_print_laws.proofs.GivenTokens.{takes_args, GivenPiece, NextGiven, GivenList}
+use Rattle.sudoers_print_laws.proofs.GivenTokens.{takes_args, GivenPiece}
 
 -- the answer is a command
 abbrev pub Gives : Option Atom → Type 0

@@ -1,5 +1,5 @@
 -- What is read as a host can be written.
-use Rattle.std.proofs.Common.{◌≡◌, ◌≢◌, ℕ, zero, suc, ◌+◌, ◌*◌, ◌≤◌, ◌<◌, Bool, true, false, ◌&&◌, ◌||◌, not, List, [], ◌∷◌, ◌++◌, length, drop, Some, None, refl, sym, ap, subst, ◌∙◌, arith}
+use Rattle.std.proofs.Common.{◌≡◌, ◌≢◌, ℕ, suc, ◌≤◌, Bool, true, false, ◌&&◌, ◌||◌, not, List, [], ◌∷◌, length, drop, Some, None, refl, sym, ap, subst, ◌∙◌, arith}
 use Rattle.std.specs.Prelude.{◌==◌, if◌then◌else◌, codes, nat_le, nat_lt, Option, option_map, option_and_then}
 use Rattle.std.specs.List.{list_all}
 use Rattle.std.specs.Str.{bytes_eq}
@@ -19,12 +19,12 @@ use Rattle.sudoers_line.specs.Pattern.{pattern_of}
 use Rattle.sudoers_line.specs.Piece.{begins_with, has_byte}
 use Rattle.sudoers_line.specs.Number.{decimal, up_to, are_digits, plain_number, split_at, quad, address_number, mask_of_bits, mask_of, network_of, is_slashed}
 use Rattle.sudoers_line.specs.Atom.{filled, plain_host, unescaped_host, host_atom}
-use Rattle.sudoers_print_laws.specs.Writable.{is_pattern, IsAddress, IsMask, IsHost}
+use Rattle.sudoers_print_laws.specs.Writable.{is_pattern, IsMask, IsHost}
 use Rattle.sudoers_print_laws.proofs.Words.{size_by}
 use Rattle.sudoers_print_laws.proofs.Values.{le_tells}
 use Rattle.sudoers_print_laws.proofs.Patterns.{plain_pattern}
 use Rattle.sudoers_print_laws.proofs.Tidy.{Tidy}
-use Rattle.sudoers_print_laws.proofs.Tight.{Tight, tight_tidy, tight_some}
+use Rattle.sudoers_print_laws.proofs.Tight.{tight_tidy, tight_some}
 use Rattle.sudoers_print_laws.proofs.TidyPatterns.{hosts_make, quotes_make, pattern_made}
 use Rattle.sudoers_print_laws.proofs.TidyPieces.{Given}
 
@@ -71,9 +71,6 @@ address_below text =
     and_then 4294967295 _ (λ (p : List ℕ × List ℕ). and_then 4294967295 _ (λ (q : List ℕ × List ℕ). and_then 4294967295 _ (λ (r : List ℕ × List ℕ).
     quad_below (plain_number 255 p.0) (plain_number 255 q.0) (plain_number 255 r.0) (plain_number 255 r.1) (plain_below 255 p.0) (plain_below 255 q.0) (plain_below 255 r.0) (plain_below 255 r.1))
     (split_at 46 q.1)) (split_at 46 p.1)) (split_at 46 text)
-
-address_given : (n : ℕ) (o : Option ℕ) → o ≡ Some n → Below 4294967295 o → IsAddress n
-address_given n o e below = let is : n ≤ 4294967295 = subst (Below 4294967295) e below in omega (arith, is)
 
 abbrev pub GivesMask : Option Mask → Type 0
 GivesMask None = Unit {0}

@@ -1,6 +1,6 @@
 -- What a line's lists and commands are read as can be written.
 use Rattle.std.proofs.Common.{◌≡◌, ◌≢◌, ℕ, Bool, true, false, ◌&&◌, ◌||◌, List, [], ◌∷◌, ◌++◌, Some, None, refl, sym, ap, subst, ◌∙◌}
-use Rattle.std.specs.Prelude.{if◌then◌else◌, Option}
+use Rattle.std.specs.Prelude.{if◌then◌else◌}
 use Rattle.std.specs.List.{AllByRecursion, list_all}
 use Rattle.std.proofs.lemmas.Bool.{and_parts}
 use Rattle.sudoers_text.specs.declared.token.TokenKind.{TokenKind}
@@ -10,18 +10,13 @@ use Rattle.sudoers_text.specs.Value.{value_of}
 use Rattle.sudoers_line.specs.declared.node.Kind.{Kind}
 use Rattle.sudoers_line.specs.declared.node.Kind.TheVariants.{User, Runas, Host, Cmnd}
 use Rattle.sudoers_line.specs.declared.node.Atom.{Atom}
-use Rattle.sudoers_line.specs.declared.node.Digest.{Digest}
-use Rattle.sudoers_line.specs.declared.node.Member.{Member}
 use Rattle.sudoers_line.specs.declared.node.Tag.{Tag}
 use Rattle.sudoers_line.specs.declared.node.OptionName.{OptionName}
 use Rattle.sudoers_line.specs.declared.node.RunasSpec.{RunasSpec}
-use Rattle.sudoers_line.specs.declared.node.CmdSpec.{CmdSpec}
-use Rattle.sudoers_line.specs.declared.node.HostGroup.{HostGroup}
-use Rattle.sudoers_line.specs.declared.node.Def.{Def}
-use Rattle.sudoers_line.specs.Piece.{Piece, is_arg, is_digest, is_word, is_quoted, is_alias_name, has_byte}
-use Rattle.sudoers_line.specs.Atom.{atom_of, user_atom, host_atom, is_checked, option_value}
+use Rattle.sudoers_line.specs.Piece.{Piece, is_arg, is_digest, is_word, is_quoted, is_alias_name}
+use Rattle.sudoers_line.specs.Atom.{atom_of, is_checked, option_value}
 use Rattle.sudoers_text.specs.Word.{is_name}
-use Rattle.sudoers_line.specs.Grammar.{IsArg, IsMember, AreMembers, IsDigest, IsCommand, AreCommands, IsList, IsDef, IsRunas, PerhapsRunas, IsOption, IsTag, IsCmdSpec, IsHostGroup, Many, Behind, Separated, Perhaps}
+use Rattle.sudoers_line.specs.Grammar.{IsArg, IsMember, AreMembers, IsDigest, IsCommand, IsList, IsDef, IsRunas, PerhapsRunas, IsOption, IsTag, IsCmdSpec, IsHostGroup, Many, Behind, Separated, Perhaps}
 use Rattle.sudoers_print_laws.specs.Writable.{IsUser, IsHost, IsListMember, IsUserMember, IsHostMember, IsDigestText, IsCommandMember, IsMemberOf, AreSome, IsWritableDef, IsRunasList, IsOptionValue, IsCmd, IsGroup}
 use Rattle.sudoers_print_laws.proofs.Tidy.{Tidy}
 use Rattle.sudoers_print_laws.proofs.TidyPieces.{Given, Opens}

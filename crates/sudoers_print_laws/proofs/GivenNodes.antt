@@ -1,9 +1,8 @@
 -- What a line is read as can be written.
-use Rattle.std.proofs.Common.{◌≡◌, ◌≢◌, ℕ, Bool, true, false, ◌&&◌, ◌||◌, List, [], ◌∷◌, ◌++◌, Some, None, refl, sym, ap, subst, ◌∙◌}
+use Rattle.std.proofs.Common.{◌≡◌, ◌≢◌, ℕ, Bool, true, false, ◌&&◌, List, [], ◌∷◌, ◌++◌, Some, None, refl, sym, ap, subst, ◌∙◌}
 use Rattle.std.specs.Prelude.{if◌then◌else◌, Option, codes}
 use Rattle.std.specs.List.{AllByRecursion, list_all}
 use Rattle.std.specs.Str.{bytes_eq}
-use Rattle.std.proofs.lemmas.Bool.{and_parts}
 use Rattle.std.proofs.lemmas.Slice.Eq.{bytes_eq-Decides}
 use Rattle.sudoers_text.specs.declared.token.TokenKind.{TokenKind}
 use Rattle.sudoers_text.specs.declared.token.TokenKind.TheVariants as kind
@@ -12,7 +11,7 @@ use Rattle.sudoers_text.specs.Part.{is_name_byte}
 use Rattle.sudoers_text.specs.LineMode.{line_mode}
 use Rattle.sudoers_text.specs.Word.{is_among, include_words}
 use Rattle.sudoers_line.specs.declared.node.Kind.{Kind}
-use Rattle.sudoers_line.specs.declared.node.Kind.TheVariants.{User, Runas, Host, Cmnd}
+use Rattle.sudoers_line.specs.declared.node.Kind.TheVariants.{User}
 use Rattle.sudoers_line.specs.declared.node.Member.{Member}
 use Rattle.sudoers_line.specs.declared.node.Def.{Def}
 use Rattle.sudoers_line.specs.declared.node.HostGroup.{HostGroup}
@@ -24,13 +23,13 @@ use Rattle.sudoers_line.specs.declared.node.Node.TheVariants as node
 use Rattle.sudoers_line.specs.Line.{ReadsLine}
 use Rattle.sudoers_line.specs.Piece.{Piece, pieces, is_parameter, is_some, looked_up, kind_words, kind_word, is_the_word, include_word, has_byte}
 use Rattle.sudoers_line.specs.Piece.{is_word as is_a_word, include_words as include_rows}
-use Rattle.sudoers_line.specs.Grammar.{IsMember, AreMembers, IsCommand, IsDef, IsAlias, IsHostGroup, BeginsOther, BeginsSpec, IsUserSpec, IsScopeCommand, IsScopeList, IsScope, PerhapsScope, IsParamWith, IsParam, is_defaults, IsDefaults, Many, Behind, Separated, Says, Reads}
-use Rattle.sudoers_print_laws.specs.Writable.{IsUser, IsListMember, IsUserMember, IsHostMember, IsCommandMember, IsMemberOf, AreSome, IsWritableDef, IsGroup, IsSettingOf, IsWritableScope, IsWritableParam}
+use Rattle.sudoers_line.specs.Grammar.{IsMember, IsDef, IsAlias, IsHostGroup, BeginsSpec, IsUserSpec, IsParamWith, IsParam, is_defaults, IsDefaults, Behind, Says}
+use Rattle.sudoers_print_laws.specs.Writable.{IsUserMember, AreSome, IsWritableDef, IsGroup, IsSettingOf, IsWritableScope, IsWritableParam}
 use Rattle.sudoers_print_laws.specs.Readable.{IsReadable}
 use Rattle.sudoers_print_laws.proofs.NoArguments.{NoArgsBehind, no_args_behind, scope_both}
 use Rattle.sudoers_print_laws.proofs.TidyPieces.{Given}
 use Rattle.sudoers_print_laws.proofs.GivenTokens.{GivenPiece, GivenList, GivenLine, given_id, given_line}
-use Rattle.sudoers_print_laws.proofs.GivenLists.{drop_given, Writes, many_given, behind_given, separated_given, user_atom_given, users_given, runas_given, hosts_given, commands_given, def_given, group_given}
+use Rattle.sudoers_print_laws.proofs.GivenLists.{drop_given, Writes, many_given, behind_given, separated_given, user_atom_given, users_given, def_given, group_given}
 
 -- ---- the first word
 

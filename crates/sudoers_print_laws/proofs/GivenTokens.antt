@@ -1,5 +1,5 @@
 -- What is known of the tokens of a line that is no include, by their kinds.
-use Rattle.std.proofs.Common.{◌≡◌, ℕ, ◌+◌, zero, suc, ◌-◌, ◌≤◌, ◌<◌, ◌≢◌, Bool, true, false, ◌&&◌, ◌||◌, List, [], ◌∷◌, length, take, drop, refl, sym, ap, subst, ◌∙◌, arith, inl, inr}
+use Rattle.std.proofs.Common.{◌≡◌, ℕ, zero, suc, ◌-◌, ◌≤◌, ◌<◌, ◌≢◌, Bool, true, false, ◌&&◌, ◌||◌, List, [], ◌∷◌, length, take, drop, refl, sym, subst, ◌∙◌, arith, inl, inr}
 use Rattle.std.specs.Prelude.{◌==◌, if◌then◌else◌, codes}
 use Rattle.std.proofs.lemmas.Bool.{or_parts}
 use Rattle.std.specs.List.{AllByRecursion}
@@ -15,11 +15,11 @@ use Rattle.sudoers_text.specs.declared.context.Context.TheVariants as context
 use Rattle.sudoers_text.specs.Unit.{LineUnit}
 use Rattle.sudoers_text.specs.Part.{begins_with, is_run, is_whole_argument}
 use Rattle.sudoers_text.specs.declared.part.Rule.TheVariants as rule
-use Rattle.sudoers_text.specs.Piece.{Form, Mark, Operator, Number, NonUnixGroup, Run, CommandPath, QuotedPart, CommentPart, IncludeWord, FirstWord, Argument, QuotedRest, kind_of, is_piece, begins_scope}
-use Rattle.sudoers_text.specs.Context.{word_forms, command_forms, parameter_forms, first_forms, forms, is_mark, is_word, behind_mark, behind_word, behind_command, behind_option_value, behind_argument, behind_quoted_argument, behind_parameter, is_member, behind_first, behind}
+use Rattle.sudoers_text.specs.Piece.{Form, QuotedRest, kind_of, is_piece, begins_scope}
+use Rattle.sudoers_text.specs.Context.{word_forms, command_forms, parameter_forms, first_forms, forms, is_mark, is_word, behind_mark, behind_word, behind_command, behind_option_value, behind_argument, behind_quoted_argument, behind_parameter, is_member, behind}
 use Rattle.sudoers_text.specs.Word.{is_among, is_tag, is_option_name, digest_kinds, include_words}
 use Rattle.sudoers_text.specs.Token.{AreTokens, HasTokens, IsToken, units_left, is_end}
-use Rattle.sudoers_line.specs.Piece.{Piece, piece, pieces, has_byte}
+use Rattle.sudoers_line.specs.Piece.{Piece, pieces, has_byte}
 use Rattle.sudoers_print_laws.proofs.TidyPieces.{IsNumberText, Given, Good, a_mark, an_operator, a_number, a_group, a_word, a_digest, a_name, a_value, a_path, a_quoted, a_quoted_value, a_comment, an_argument, a_rest, given_token, Opens, argument_opens}
 
 -- ---- contexts

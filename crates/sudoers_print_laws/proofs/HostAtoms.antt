@@ -1,46 +1,31 @@
 -- Hosts as they are written are read as these hosts, but for a backslash before the first byte.
-use Rattle.std.proofs.Common.{◌≡◌, ◌≢◌, ℕ, ◌≤◌, ◌<◌, Bool, true, false, ◌&&◌, ◌||◌, not, List, [], ◌∷◌, ◌++◌, length, Some, None, refl, sym, ap, subst, ◌∙◌, arith, append-nil, ◌/◌, ◌%◌}
-use Rattle.std.specs.Prelude.{◌==◌, if◌then◌else◌, codes, nat_le, Option, option_map, option_and_then}
+use Rattle.std.proofs.Common.{◌≡◌, ◌≢◌, ℕ, ◌<◌, Bool, true, false, ◌&&◌, ◌||◌, List, [], ◌∷◌, ◌++◌, length, Some, None, refl, sym, ap, subst, ◌∙◌, arith, append-nil, ◌/◌, ◌%◌}
+use Rattle.std.specs.Prelude.{◌==◌, if◌then◌else◌, codes, nat_le, option_map}
 use Rattle.std.specs.List.{list_all}
 use Rattle.std.specs.Str.{bytes_eq}
 use Rattle.std.specs.Fmt.{decimal}
-use Rattle.std.proofs.lemmas.Bool.{and_parts, or_parts, eqb-true}
+use Rattle.std.proofs.lemmas.Bool.{and_parts, eqb-true}
 use Rattle.std.proofs.lemmas.List.{append_assoc}
-use Rattle.std.proofs.lemmas.Slice.Eq.{bytes_eq-Decides}
 use Rattle.sudoers_text.specs.declared.token.TokenKind.TheVariants as kind
-use Rattle.sudoers_text.specs.Unit.{LineUnit, Continuation, Pair, Quoted, Comment, Byte, is_digit}
+use Rattle.sudoers_text.specs.Unit.{is_digit}
 use Rattle.sudoers_text.specs.Part.{is_word_byte, is_upper}
 use Rattle.sudoers_text.specs.Word.{is_name, is_alias_byte}
-use Rattle.sudoers_line.specs.declared.node.Atom.{Atom}
 use Rattle.sudoers_line.specs.declared.node.Atom.TheVariants as atom
 use Rattle.sudoers_line.specs.declared.node.Mask.{Mask}
 use Rattle.sudoers_line.specs.declared.node.Mask.TheVariants as mask
-use Rattle.sudoers_line.specs.declared.pattern.Spelling.TheVariants.{Host as HostName}
-use Rattle.sudoers_line.specs.Pattern.{loses_backslash, pattern_from, pattern_of}
-use Rattle.sudoers_line.specs.Piece.{begins_with, has_byte}
-use Rattle.sudoers_line.specs.Number.{id_limit, plain_number, split_at, quad, address_number, mask_of, mask_of_bits, network_of, is_slashed}
+use Rattle.sudoers_line.specs.Piece.{has_byte}
+use Rattle.sudoers_line.specs.Number.{plain_number, split_at, quad, address_number, mask_of, mask_of_bits, network_of, is_slashed}
 use Rattle.sudoers_line.specs.Atom.{filled, plain_host, unescaped_host, host_atom}
-use Rattle.sudoers_print.specs.Spelling.{escaped}
-use Rattle.sudoers_print.specs.Hosts.{dotted, printed_mask, reads_as_host, is_host}
-use Rattle.sudoers_print_laws.specs.Writable.{is_pattern, IsAddress, IsMask, IsAliasName, IsHost}
-use Rattle.sudoers_print_laws.specs.Same.{read_back}
-use Rattle.sudoers_print_laws.proofs.Written.{flat}
-use Rattle.sudoers_print_laws.proofs.Units.{plain}
-use Rattle.sudoers_print_laws.proofs.PatternUnits.{ArePattern, escape, escape_all, pattern_units}
-use Rattle.sudoers_print_laws.proofs.ListTokens.{backed, host_name_units, host_units}
+use Rattle.sudoers_print.specs.Hosts.{dotted, printed_mask}
+use Rattle.sudoers_print_laws.specs.Writable.{IsAddress, IsMask, IsAliasName}
 use Rattle.sudoers_print_laws.proofs.Cuts.{differs}
 use Rattle.sudoers_print_laws.proofs.Values.{le_tells}
-use Rattle.sudoers_print_laws.proofs.Users.{flat_plain, filled_same, decimal_read}
+use Rattle.sudoers_print_laws.proofs.Users.{filled_same, decimal_read}
 use Rattle.sudoers_print_laws.proofs.UserCuts.{name_bytes}
-use Rattle.sudoers_print_laws.proofs.Patterns.{are_pattern, pattern_byte, pattern_read, units_flat, flat_escaped, escaped_read, plain_from, pair_from, units_from}
-use Rattle.sudoers_print_laws.proofs.Hosts.{AreParts, parts_of, dots, dotted_is, dotted_word, dotted_some, all_append, digit_word}
+use Rattle.sudoers_print_laws.proofs.Hosts.{parts_of, dots, dotted_is, dotted_word, all_append, digit_word}
 use Rattle.sudoers_print_laws.proofs.ReadHosts.{no_byte, no_digits, split_is, plain_read, address_parts, address_read, decimal_digits}
 
 -- ---- names
-
--- a text without a backslash
-pub record IsPlainText (text : List ℕ) : Type 0 where
-  pub bare : has_byte 92 text ≡ false
 
 alias_plain : (name : List ℕ) → is_name name ≡ true → has_byte 92 name ≡ false
 alias_plain name is = no_byte is_alias_byte 92 name (name_bytes name is).1 refl

@@ -1,17 +1,15 @@
 -- Names of hosts as they are written are read as these names, but for a backslash before the first byte.
-use Rattle.std.proofs.Common.{◌≡◌, ◌≢◌, ℕ, Bool, true, false, ◌||◌, List, [], ◌∷◌, ◌++◌, Some, None, refl, sym, ap, ◌∙◌}
-use Rattle.std.specs.Prelude.{◌==◌, if◌then◌else◌, codes, drop, Option, option_map, option_and_then}
+use Rattle.std.proofs.Common.{◌≡◌, ◌≢◌, ℕ, Bool, true, false, List, [], ◌∷◌, Some, None, refl, sym, ap, ◌∙◌}
+use Rattle.std.specs.Prelude.{if◌then◌else◌, codes, drop, Option, option_map, option_and_then}
 use Rattle.std.specs.Str.{bytes_eq}
-use Rattle.std.proofs.lemmas.Bool.{or_parts}
 use Rattle.sudoers_text.specs.declared.token.TokenKind.TheVariants as kind
 use Rattle.sudoers_text.specs.Unit.{LineUnit, Continuation, Pair, Quoted, Comment, Byte}
 use Rattle.sudoers_text.specs.Word.{is_name}
 use Rattle.sudoers_line.specs.declared.node.Atom.{Atom}
 use Rattle.sudoers_line.specs.declared.node.Atom.TheVariants as atom
 use Rattle.sudoers_line.specs.declared.node.Mask.{Mask}
-use Rattle.sudoers_line.specs.declared.pattern.Spelling.{Spelling}
 use Rattle.sudoers_line.specs.declared.pattern.Spelling.TheVariants.{Host as HostName}
-use Rattle.sudoers_line.specs.Pattern.{loses_backslash, pattern_from, pattern_of}
+use Rattle.sudoers_line.specs.Pattern.{loses_backslash, pattern_of}
 use Rattle.sudoers_line.specs.Piece.{begins_with, has_byte}
 use Rattle.sudoers_line.specs.Number.{split_at, address_number, mask_of, network_of, is_slashed}
 use Rattle.sudoers_line.specs.Atom.{filled, plain_host, unescaped_host, host_atom}
@@ -20,7 +18,7 @@ use Rattle.sudoers_print.specs.Hosts.{reads_as_host, is_host}
 use Rattle.sudoers_print_laws.specs.Writable.{is_pattern, IsHost}
 use Rattle.sudoers_print_laws.specs.Same.{read_back}
 use Rattle.sudoers_print_laws.proofs.Written.{flat}
-use Rattle.sudoers_print_laws.proofs.PatternUnits.{ArePattern, escape, escape_all, pattern_units}
+use Rattle.sudoers_print_laws.proofs.PatternUnits.{ArePattern, escape_all, pattern_units}
 use Rattle.sudoers_print_laws.proofs.ListTokens.{user_kind, backed, host_name_units, host_units}
 use Rattle.sudoers_print_laws.proofs.Users.{flat_plain}
 use Rattle.sudoers_print_laws.proofs.Patterns.{are_pattern, pattern_byte, units_flat, flat_escaped, escaped_read, pair_from, units_from_end, plain_pattern}

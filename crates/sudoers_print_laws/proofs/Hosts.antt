@@ -1,5 +1,5 @@
 -- Hosts as they are written are tokens of a line.
-use Rattle.std.proofs.Common.{◌≡◌, ◌≢◌, ℕ, ◌+◌, ◌*◌, ◌/◌, ◌%◌, ◌≤◌, ◌<◌, Bool, true, false, ◌&&◌, ◌||◌, not, List, [], ◌∷◌, ◌++◌, length, Some, refl, sym, ap, subst, ◌∙◌, arith}
+use Rattle.std.proofs.Common.{◌≡◌, ◌≢◌, ℕ, ◌/◌, ◌%◌, ◌≤◌, ◌<◌, Bool, true, false, List, [], ◌∷◌, ◌++◌, length, refl, ap, ◌∙◌, arith}
 use Rattle.std.specs.Prelude.{◌==◌, if◌then◌else◌, codes, nat_le}
 use Rattle.std.specs.List.{list_all}
 use Rattle.std.specs.Fmt.{decimal}
@@ -20,11 +20,10 @@ use Rattle.sudoers_print.specs.Spelling.{escaped}
 use Rattle.sudoers_print.specs.Hosts.{dotted, printed_mask, reads_as_host}
 use Rattle.sudoers_print_laws.specs.Writable.{is_pattern, IsAddress, IsMask, IsHost}
 use Rattle.sudoers_print_laws.proofs.Written.{flat, IsCut}
-use Rattle.sudoers_print_laws.proofs.Units.{is_unit, AreUnitsOf, plain}
-use Rattle.sudoers_print_laws.proofs.PatternUnits.{ArePattern, escape, escape_all, pattern_units}
+use Rattle.sudoers_print_laws.proofs.Units.{AreUnitsOf, plain}
+use Rattle.sudoers_print_laws.proofs.PatternUnits.{escape_all, pattern_units}
 use Rattle.sudoers_print_laws.proofs.ListTokens.{user_kind, backed, host_name_units, host_units}
-use Rattle.sudoers_print_laws.proofs.Words.{IsPlain, word_plain}
-use Rattle.sudoers_print_laws.proofs.Cuts.{differs}
+use Rattle.sudoers_print_laws.proofs.Words.{word_plain}
 use Rattle.sudoers_print_laws.proofs.Values.{le_tells, word_range}
 use Rattle.sudoers_print_laws.proofs.Users.{flat_plain, decimal_read}
 use Rattle.sudoers_print_laws.proofs.Patterns.{are_pattern, host_fits}

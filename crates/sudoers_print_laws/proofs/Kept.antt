@@ -1,10 +1,9 @@
 -- What can be written stays so, and what is read is printed and read back.
-use Rattle.std.proofs.Common.{◌≡◌, ◌≢◌, ℕ, Bool, true, false, List, [], ◌∷◌, Some, None, refl, sym, ap, ◌∙◌}
+use Rattle.std.proofs.Common.{◌≡◌, ◌≢◌, ℕ, Bool, true, false, List, [], ◌∷◌, refl}
 use Rattle.std.specs.Prelude.{Option, cond}
 use Rattle.std.specs.List.{AllByRecursion, filter}
 use Rattle.sudoers_line.specs.declared.node.Kind.{Kind}
 use Rattle.sudoers_line.specs.declared.node.Kind.TheVariants.{User, Runas, Host, Cmnd}
-use Rattle.sudoers_line.specs.declared.node.Digest.{Digest}
 use Rattle.sudoers_line.specs.declared.node.Member.{Member}
 use Rattle.sudoers_line.specs.declared.node.Def.{Def}
 use Rattle.sudoers_line.specs.declared.node.Tag.{Tag}
@@ -18,9 +17,8 @@ use Rattle.sudoers_line.specs.declared.node.Node.{Node}
 use Rattle.sudoers_line.specs.declared.node.Node.TheVariants as node
 use Rattle.sudoers_line.specs.Line.{ReadsLine}
 use Rattle.sudoers_line.specs.Piece.{has_byte}
-use Rattle.sudoers_line.specs.Grammar.{SuitsDigests}
 use Rattle.sudoers_print.specs.Lines.{printed_line}
-use Rattle.sudoers_print_laws.specs.Writable.{IsMemberOf, AreSome, IsWritableDef, IsRunasList, IsOptionValue, IsCmd, IsWritableScope, IsWritable}
+use Rattle.sudoers_print_laws.specs.Writable.{IsMemberOf, AreSome, IsWritableDef, IsRunasList, IsOptionValue, IsCmd, IsWritable}
 use Rattle.sudoers_print_laws.specs.Readable.{IsReadable}
 use Rattle.sudoers_print_laws.specs.Same.{ReadsBack}
 use Rattle.sudoers_print_laws.proofs.ReadCommandLists.{suits_same}

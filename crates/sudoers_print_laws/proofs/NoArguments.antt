@@ -1,5 +1,5 @@
 -- A Defaults line has no arguments, so the commands of its scope have none.
-use Rattle.std.proofs.Common.{◌≡◌, ◌≢◌, ℕ, ◌+◌, ◌-◌, Bool, true, false, ◌&&◌, ◌||◌, not, List, [], ◌∷◌, ◌++◌, take, drop, Some, None, refl, sym, ap, subst, ◌∙◌, arith, inl, inr}
+use Rattle.std.proofs.Common.{◌≡◌, ℕ, ◌-◌, Bool, true, false, ◌&&◌, ◌||◌, not, List, [], ◌∷◌, ◌++◌, take, drop, Some, None, refl, sym, ap, subst, ◌∙◌, arith, inl, inr}
 use Rattle.std.specs.Prelude.{if◌then◌else◌, codes, Option}
 use Rattle.std.specs.List.{AllByRecursion}
 use Rattle.std.specs.Str.{bytes_eq}
@@ -16,7 +16,7 @@ use Rattle.sudoers_text.specs.declared.context.Context.TheVariants as context
 use Rattle.sudoers_text.specs.Unit.{LineUnit}
 use Rattle.sudoers_text.specs.Part.{begins_with}
 use Rattle.sudoers_text.specs.Piece.{Form, kind_of, begins_scope}
-use Rattle.sudoers_text.specs.Context.{first_forms, word_forms, command_forms, parameter_forms, forms, is_mark, is_word, is_member, behind_parameter, behind}
+use Rattle.sudoers_text.specs.Context.{first_forms, word_forms, forms, is_mark, is_word, is_member, behind_parameter, behind}
 use Rattle.sudoers_text.specs.LineMode.{line_mode}
 use Rattle.sudoers_text.specs.Word.{is_name, is_reserved, is_among, include_words}
 use Rattle.sudoers_text.specs.Token.{IsToken, AreTokens, HasTokens, units_left}
@@ -31,12 +31,12 @@ use Rattle.sudoers_line.specs.declared.node.Digest.{Digest}
 use Rattle.sudoers_line.specs.Piece.{Piece, piece, pieces, is_arg, has_byte, is_the_word}
 use Rattle.sudoers_line.specs.Piece.{is_word as is_a_word}
 use Rattle.sudoers_line.specs.Atom.{command_alias, command_word, bare_command, command_atom}
-use Rattle.sudoers_line.specs.Grammar.{IsArg, IsMember, IsDigest, IsCommand, Perhaps, IsScopeList, IsScope, PerhapsScope, is_defaults, IsDefaults, Many, Behind, Separated}
+use Rattle.sudoers_line.specs.Grammar.{IsArg, IsMember, IsDigest, Perhaps, IsScopeList, PerhapsScope, is_defaults, Many, Behind, Separated}
 use Rattle.sudoers_line.specs.Grammar.{IsScopeCommand as ReadsScopeCommand}
-use Rattle.sudoers_print_laws.specs.Writable.{IsListMember, IsUserMember, IsHostMember, IsCommandAtom, IsScopeAtom, IsScopeCommand, IsScopeMember, AreSome, IsWritableScope}
+use Rattle.sudoers_print_laws.specs.Writable.{IsUserMember, IsHostMember, IsScopeAtom, IsScopeCommand, IsScopeMember, AreSome, IsWritableScope}
 use Rattle.sudoers_print_laws.proofs.TidyPieces.{Given}
 use Rattle.sudoers_print_laws.proofs.GivenTokens.{GivenPiece, GivenList}
-use Rattle.sudoers_print_laws.proofs.GivenLists.{drop_given, separated_given, users_given, runas_given, hosts_given, commands_given}
+use Rattle.sudoers_print_laws.proofs.GivenLists.{drop_given, separated_given, users_given, runas_given, hosts_given}
 use Rattle.sudoers_print_laws.proofs.GivenCommands.{path_is}
 use Rattle.sudoers_print_laws.proofs.DefaultsMode.{defaults_mode_is}
 

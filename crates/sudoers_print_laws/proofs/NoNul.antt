@@ -1,10 +1,9 @@
 -- Printed members hold no NUL.
-use Rattle.std.proofs.Common.{◌≡◌, ◌≢◌, ℕ, zero, suc, ◌+◌, ◌≤◌, ◌<◌, ◌/◌, ◌%◌, Bool, true, false, ◌&&◌, ◌||◌, not, List, [], ◌∷◌, ◌++◌, length, refl, sym, ap, subst, ◌∙◌, arith}
+use Rattle.std.proofs.Common.{◌≡◌, ℕ, ◌+◌, ◌≤◌, ◌/◌, ◌%◌, Bool, true, false, ◌&&◌, not, List, [], ◌∷◌, ◌++◌, refl, sym, ap, subst, arith}
 use Rattle.std.specs.Prelude.{◌==◌, if◌then◌else◌, nat_lt, codes}
 use Rattle.std.specs.List.{AllByRecursion, list_all, flat_map, join_by}
 use Rattle.std.specs.Fmt.{decimal}
 use Rattle.std.proofs.lemmas.Bool.{not-true, and_parts, or_parts, ne_eqb}
-use Rattle.std.proofs.lemmas.Bool.Decides.{nat_tests}
 use Rattle.sudoers_text.specs.Unit.{is_digit}
 use Rattle.sudoers_text.specs.Part.{is_word_byte, is_digest_byte}
 use Rattle.sudoers_text.specs.Word.{is_name, is_alias_byte}
@@ -25,15 +24,15 @@ use Rattle.sudoers_line.specs.declared.pattern.Spelling.TheVariants.{Command, Ho
 use Rattle.sudoers_line.specs.Pattern.{loses_backslash}
 use Rattle.sudoers_line.specs.Number.{id_limit}
 use Rattle.sudoers_print.specs.Spelling.{is_escaped, is_control, low_digit, spelled_byte, spelled, escaped_byte, escaped, guarded}
-use Rattle.sudoers_print.specs.Hosts.{dotted, printed_mask, reads_as_host, printed_host}
-use Rattle.sudoers_print.specs.Members.{reads_else, printed_name, goes_on, spelled_args, printed_args, printed_netgroup, printed_atom, digest_word, printed_digest, printed_digests, sign, printed_member, printed_list}
-use Rattle.sudoers_print_laws.specs.Writable.{is_pattern_byte, keeps_backslash, is_pattern, IsAddress, IsMask, IsUser, IsHost, IsArgs, IsCommandAtom, IsDigestText, IsListMember, IsUserMember, IsHostMember, IsCommandMember, IsMemberOf, AreSome}
+use Rattle.sudoers_print.specs.Hosts.{dotted, printed_mask, reads_as_host}
+use Rattle.sudoers_print.specs.Members.{reads_else, goes_on, spelled_args, printed_args, printed_netgroup, printed_atom, digest_word, printed_digest, printed_digests, sign, printed_member, printed_list}
+use Rattle.sudoers_print_laws.specs.Writable.{is_pattern_byte, keeps_backslash, is_pattern, IsAddress, IsMask, IsUser, IsHost, IsArgs, IsCommandAtom, IsDigestText, IsMemberOf}
 use Rattle.sudoers_print_laws.proofs.Cuts.{differs}
 use Rattle.sudoers_print_laws.proofs.Users.{decimal_read}
 use Rattle.sudoers_print_laws.proofs.UserCuts.{name_bytes}
 use Rattle.sudoers_print_laws.proofs.Patterns.{keeps, pattern_byte}
 use Rattle.sudoers_print_laws.proofs.Hosts.{all_append}
-use Rattle.sudoers_print_laws.proofs.HostAtoms.{digits_as, dotted_as}
+use Rattle.sudoers_print_laws.proofs.HostAtoms.{dotted_as}
 use Rattle.sudoers_print_laws.proofs.Values.{lt_not}
 
 abbrev pub is_some_byte : ℕ → Bool

@@ -1,19 +1,17 @@
 -- Tokens of bytes that pass a test, without pairs.
-use Rattle.std.proofs.Common.{◌≡◌, ℕ, suc, ◌+◌, Bool, true, false, List, [], ◌∷◌, ◌++◌, length, refl, sym, ap, ◌∙◌, arith}
-use Rattle.std.specs.Prelude.{◌==◌, if◌then◌else◌}
+use Rattle.std.proofs.Common.{◌≡◌, ℕ, suc, ◌+◌, Bool, true, false, List, [], ◌∷◌, ◌++◌, length, sym, ap, ◌∙◌, arith}
 use Rattle.std.specs.List.{list_all}
 use Rattle.std.proofs.lemmas.Bool.{and_parts}
 use Rattle.sudoers_text.specs.declared.part.Rule.TheVariants as rule
 use Rattle.sudoers_text.specs.declared.token.TokenKind.{TokenKind}
 use Rattle.sudoers_text.specs.declared.context.Context.{Context}
-use Rattle.sudoers_text.specs.Unit.{LineUnit, Byte}
-use Rattle.sudoers_text.specs.Part.{one_if, reach, run_size, is_include_byte}
+use Rattle.sudoers_text.specs.Part.{one_if, reach, run_size}
 use Rattle.sudoers_text.specs.Context.{forms}
 use Rattle.sudoers_text.specs.Token.{is_end}
 use Rattle.sudoers_text.specs.Found.{found}
-use Rattle.sudoers_print_laws.proofs.Written.{flat, Stand, IsCut}
+use Rattle.sudoers_print_laws.proofs.Written.{flat, IsCut}
 use Rattle.sudoers_print_laws.proofs.Units.{AreUnitsOf, plain}
-use Rattle.sudoers_print_laws.proofs.Words.{IsPlain, plain_stands, plain_begins, run_closed, run_stands, reach_ends}
+use Rattle.sudoers_print_laws.proofs.Words.{IsPlain, plain_begins, run_closed, run_stands, reach_ends}
 use Rattle.sudoers_print_laws.proofs.Users.{flat_plain}
 
 ones_reached : (test : ℕ → Bool) (bytes rest : List ℕ) → list_all test bytes ≡ true → reach (one_if test) 0 (bytes ++ rest) ≡ length bytes + reach (one_if test) 0 rest

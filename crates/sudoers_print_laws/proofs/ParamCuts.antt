@@ -1,37 +1,33 @@
 -- The parameters of a Defaults line as they are written are tokens of the line.
-use Rattle.std.proofs.Common.{◌≡◌, ◌≢◌, ℕ, zero, suc, ◌+◌, ◌≤◌, ◌<◌, Bool, true, false, ◌||◌, ◌&&◌, not, List, [], ◌∷◌, ◌++◌, length, drop, Some, None, refl, sym, ap, subst, ◌∙◌, arith, append-nil}
-use Rattle.std.specs.Prelude.{◌==◌, if◌then◌else◌, nat_lt, Option, codes}
-use Rattle.std.specs.List.{AllByRecursion, list_all}
+use Rattle.std.proofs.Common.{◌≡◌, ◌≢◌, ℕ, suc, ◌+◌, ◌<◌, Bool, true, false, ◌||◌, not, List, [], ◌∷◌, ◌++◌, length, drop, Some, refl, sym, ap, subst, ◌∙◌, arith, append-nil}
+use Rattle.std.specs.Prelude.{◌==◌, if◌then◌else◌, nat_lt}
+use Rattle.std.specs.List.{list_all}
 use Rattle.std.proofs.lemmas.List.{append_assoc, length-append, drop_at}
-use Rattle.std.proofs.lemmas.Bool.{not-true, and_parts, or_parts, ne_eqb}
+use Rattle.std.proofs.lemmas.Bool.{and_parts}
 use Rattle.std.proofs.lemmas.Bool.Decides.{nat_tests}
 use Rattle.sudoers_text.specs.declared.part.Rule.TheVariants as rule
 use Rattle.sudoers_text.specs.declared.token.TokenKind.TheVariants as kind
 use Rattle.sudoers_text.specs.declared.context.Context.{Context}
 use Rattle.sudoers_text.specs.declared.context.Context.TheVariants as context
-use Rattle.sudoers_text.specs.Unit.{LineUnit, Continuation, Pair, Quoted, Comment, Byte, text_of, unit_at, begins_item, quoted_part}
-use Rattle.sudoers_text.specs.Part.{one_if, or_else, by_backslash, reach, run_size, unit_size, between_quotes, quoted_size, begins_with, is_include_byte, is_punct, is_word_byte, is_value_byte, is_quoted_byte, is_name_byte}
+use Rattle.sudoers_text.specs.Unit.{LineUnit, Continuation, Pair, Quoted, Comment, Byte, begins_item, quoted_part}
+use Rattle.sudoers_text.specs.Part.{one_if, reach, run_size, unit_size, between_quotes, quoted_size, is_include_byte, is_punct, is_word_byte, is_value_byte, is_name_byte}
 use Rattle.sudoers_text.specs.Token.{passed, is_end}
-use Rattle.sudoers_text.specs.Context.{forms, behind, parameter_forms, is_parameter_mark, is_comma}
+use Rattle.sudoers_text.specs.Context.{forms, behind, parameter_forms, is_comma}
 use Rattle.sudoers_text.specs.Piece.{Form, Mark, Run, CommentPart, operator_size}
 use Rattle.sudoers_text.specs.Found.{found}
 use Rattle.sudoers_line.specs.declared.node.Operator.{Operator}
 use Rattle.sudoers_line.specs.declared.node.Operator.TheVariants as operator
-use Rattle.sudoers_line.specs.declared.node.Setting.{Setting}
-use Rattle.sudoers_line.specs.declared.node.Param.{Param}
 use Rattle.sudoers_print.specs.Spelling.{is_control}
 use Rattle.sudoers_print.specs.Parameters.{operator_mark, is_plain, is_plain_value, fits_quotes}
-use Rattle.sudoers_print_laws.specs.Writable.{IsWritableParam}
-use Rattle.sudoers_print_laws.proofs.Written.{Written, flat, line_of, Closed, Begins, Stand, IsCut, AreCut}
-use Rattle.sudoers_print_laws.proofs.Units.{is_unit, AreUnitsOf, plain, word_units}
-use Rattle.sudoers_print_laws.proofs.ListTokens.{mark}
-use Rattle.sudoers_print_laws.proofs.DefaultsTokens.{name_token, operator_token, param_units, param_value, setting_tokens, param_tokens, more_params, all_params}
-use Rattle.sudoers_print_laws.proofs.Words.{IsPlain, plain_stands, include_plain, pair_escaped, size_by, run_is, run_closed, run_stands, some_positive, BeginsUnit, plain_begins, pair_begins, reach_ends}
+use Rattle.sudoers_print_laws.proofs.Written.{flat, Closed, IsCut}
+use Rattle.sudoers_print_laws.proofs.Units.{AreUnitsOf, plain, word_units}
+use Rattle.sudoers_print_laws.proofs.DefaultsTokens.{param_units}
+use Rattle.sudoers_print_laws.proofs.Words.{IsPlain, plain_stands, include_plain, pair_escaped, size_by, run_is, run_closed, run_stands, some_positive, BeginsUnit, plain_begins, pair_begins}
 use Rattle.sudoers_print_laws.proofs.Cuts.{differs}
 use Rattle.sudoers_print_laws.proofs.Values.{word_fits}
 use Rattle.sudoers_print_laws.proofs.Users.{flat_plain, word_front}
 use Rattle.sudoers_print_laws.proofs.UserCuts.{sign_cut, no_backslash, backslash_apart, front_some}
-use Rattle.sudoers_print_laws.proofs.Ones.{ones_size, ones_fit, ones_cut}
+use Rattle.sudoers_print_laws.proofs.Ones.{ones_size, ones_cut}
 
 -- ---- names
 
@@ -198,7 +194,7 @@ plain_fit (b ∷ bytes) all = let parts = and_parts (is_plain b) (list_all is_pl
 
 plain_value_cut : (value rest : List ℕ) → is_plain_value value ≡ true → EndsValue rest → IsCut context.ParameterValue true false kind.Value (plain value) rest
 plain_value_cut [] rest is ends = absurd (cc)
-plain_value_cut (b ∷ value) rest is ends = units_value (plain (b ∷ value)) rest (λ e. absurd (cc)) (omega arith) (plain_fit (b ∷ value) is) ends
+plain_value_cut (b ∷ value) rest is ends = units_value (plain (b ∷ value)) rest (λ e. absurd (cc)) (omega arith) (plain_fit (b ∷ value) (and_parts (nat_lt 0 (length (b ∷ value))) (list_all is_plain (b ∷ value)) is).1) ends
 
 some_units : (us : List LineUnit) → 0 < length (flat us) → us ≡ [] → ⊥
 some_units [] some e = absurd (omega arith)

@@ -1,25 +1,21 @@
 -- The list of parameters of a Defaults line as it is written is tokens of the line.
-use Rattle.std.proofs.Common.{◌≡◌, ◌≢◌, ℕ, Bool, true, false, List, [], ◌∷◌, ◌++◌, Some, None, refl, sym, ap, subst, ◌∙◌}
+use Rattle.std.proofs.Common.{◌≡◌, ◌≢◌, ℕ, Bool, true, false, List, [], ◌∷◌, Some, None, refl, sym, ap, subst}
 use Rattle.std.specs.Prelude.{Option}
 use Rattle.std.specs.List.{AllByRecursion, list_all}
 use Rattle.sudoers_text.specs.declared.token.TokenKind.TheVariants as kind
 use Rattle.sudoers_text.specs.declared.context.Context.{Context}
 use Rattle.sudoers_text.specs.declared.context.Context.TheVariants as context
 use Rattle.sudoers_text.specs.declared.context.ScopeList.{ScopeList}
-use Rattle.sudoers_text.specs.Unit.{Byte}
-use Rattle.sudoers_text.specs.Part.{one_if, is_value_byte, is_name_byte}
+use Rattle.sudoers_text.specs.Part.{one_if, is_name_byte}
 use Rattle.sudoers_text.specs.Context.{forms, behind, parameter_forms}
 use Rattle.sudoers_text.specs.Piece.{Form}
 use Rattle.sudoers_text.specs.Found.{found}
 use Rattle.sudoers_line.specs.declared.node.Setting.{Setting}
 use Rattle.sudoers_line.specs.declared.node.Param.{Param}
-use Rattle.sudoers_print.specs.Parameters.{operator_mark}
 use Rattle.sudoers_print_laws.specs.Writable.{AreSome, IsWritableParam}
-use Rattle.sudoers_print_laws.proofs.Written.{Written, flat, line_of, IsCut, AreCut}
+use Rattle.sudoers_print_laws.proofs.Written.{Written, flat, line_of, AreCut}
 use Rattle.sudoers_print_laws.proofs.Units.{plain}
-use Rattle.sudoers_print_laws.proofs.ListTokens.{mark}
-use Rattle.sudoers_print_laws.proofs.DefaultsTokens.{name_token, operator_token, param_units, param_value, setting_tokens, param_tokens, more_params, all_params}
-use Rattle.sudoers_print_laws.proofs.Words.{size_by}
+use Rattle.sudoers_print_laws.proofs.DefaultsTokens.{name_token, param_value, setting_tokens, param_tokens, more_params, all_params}
 use Rattle.sudoers_print_laws.proofs.UserCuts.{sign_cut}
 use Rattle.sudoers_print_laws.proofs.ParamCuts.{name_cut, operator_cut, operator_behind, operator_ends, EndsValue, value_cut}
 

@@ -1,5 +1,5 @@
 -- Patterns are read as they are written.
-use Rattle.std.proofs.Common.{◌≡◌, ℕ, Bool, true, false, ◌&&◌, ◌||◌, not, List, [], ◌∷◌, ◌++◌, refl, sym, ap, ◌∙◌, append-nil}
+use Rattle.std.proofs.Common.{◌≡◌, ℕ, Bool, true, false, ◌&&◌, ◌||◌, List, [], ◌∷◌, ◌++◌, refl, sym, ap, ◌∙◌, append-nil}
 use Rattle.std.specs.Prelude.{◌==◌, if◌then◌else◌}
 use Rattle.std.proofs.lemmas.List.{append_assoc}
 use Rattle.std.proofs.lemmas.Bool.{not-true, or_parts, and_parts, eqb-true}
@@ -14,7 +14,7 @@ use Rattle.sudoers_print_laws.specs.Writable.{is_pattern_byte, keeps_backslash, 
 use Rattle.sudoers_print_laws.proofs.Written.{flat}
 use Rattle.sudoers_print_laws.proofs.Units.{is_unit, AreUnitsOf}
 use Rattle.sudoers_print_laws.proofs.PatternUnits.{is_pattern_unit, ArePattern, escape, escape_all, pattern_units}
-use Rattle.sudoers_print_laws.proofs.Words.{IsEscaped, pair_escaped}
+use Rattle.sudoers_print_laws.proofs.Words.{IsEscaped}
 use Rattle.sudoers_print_laws.proofs.Cuts.{differs}
 
 -- ---- spellings without quotes

@@ -1,7 +1,7 @@
 -- The tokens of a command with what stands before it are these as they are printed.
-use Rattle.std.proofs.Common.{◌≡◌, ℕ, Bool, true, false, List, [], ◌∷◌, ◌++◌, Some, None, refl, sym, ap, ◌∙◌}
+use Rattle.std.proofs.Common.{◌≡◌, ℕ, Bool, true, false, List, [], ◌∷◌, ◌++◌, Some, None, refl, ap, ◌∙◌}
 use Rattle.std.specs.Prelude.{Option, codes}
-use Rattle.std.specs.List.{AllByRecursion, flat_map}
+use Rattle.std.specs.List.{AllByRecursion}
 use Rattle.std.proofs.lemmas.List.{append_assoc}
 use Rattle.sudoers_line.specs.declared.node.Kind.TheVariants.{Runas, Cmnd}
 use Rattle.sudoers_line.specs.declared.node.Tag.{Tag}
@@ -10,12 +10,12 @@ use Rattle.sudoers_line.specs.declared.node.Member.{Member}
 use Rattle.sudoers_line.specs.declared.node.RunasSpec.{RunasSpec}
 use Rattle.sudoers_line.specs.declared.node.CmdSpec.{CmdSpec}
 use Rattle.sudoers_print.specs.Members.{printed_member, printed_list}
-use Rattle.sudoers_print.specs.Commands.{printed_inside, printed_runas, printed_front, option_word, printed_option_value, printed_option, printed_tag, printed_options, printed_tags, printed_command}
+use Rattle.sudoers_print.specs.Commands.{printed_inside, printed_front, option_word, printed_option_value, printed_tag, printed_options, printed_tags, printed_command}
 use Rattle.sudoers_print_laws.specs.Writable.{IsUserMember, IsCommandMember, IsRunasList, IsCmd}
 use Rattle.sudoers_print_laws.proofs.Written.{Written, flat, gap, line_of}
 use Rattle.sudoers_print_laws.proofs.Units.{plain}
 use Rattle.sudoers_print_laws.proofs.ListTokens.{mark, list_tokens}
-use Rattle.sudoers_print_laws.proofs.CommandTokens.{value_token, tagged, optioned, runas_inside, runas_tokens, cmd_tokens}
+use Rattle.sudoers_print_laws.proofs.CommandTokens.{value_token, tagged, optioned, runas_inside, cmd_tokens}
 use Rattle.sudoers_print_laws.proofs.Values.{flat_words}
 use Rattle.sudoers_print_laws.proofs.Users.{flat_plain}
 use Rattle.sudoers_print_laws.proofs.PrintedLists.{list_text}

@@ -1,7 +1,7 @@
 -- The tokens of commands are these commands as they are printed.
-use Rattle.std.proofs.Common.{◌≡◌, ◌≢◌, ℕ, Bool, true, false, ◌&&◌, ◌||◌, not, List, [], ◌∷◌, ◌++◌, refl, sym, ap, subst, ◌∙◌, append-nil}
+use Rattle.std.proofs.Common.{◌≡◌, ℕ, Bool, true, false, ◌&&◌, ◌||◌, not, List, [], ◌∷◌, ◌++◌, refl, sym, ap, ◌∙◌}
 use Rattle.std.specs.Prelude.{◌==◌, if◌then◌else◌, codes}
-use Rattle.std.specs.List.{AllByRecursion, flat_map, join_by}
+use Rattle.std.specs.List.{AllByRecursion, flat_map}
 use Rattle.std.proofs.lemmas.List.{append_assoc}
 use Rattle.std.proofs.lemmas.Bool.{and_parts, or_parts, eqb-true}
 use Rattle.sudoers_text.specs.Unit.{LineUnit, Pair, Byte, text_of, is_blank}
@@ -13,14 +13,13 @@ use Rattle.sudoers_line.specs.declared.node.Atom.TheVariants as atom
 use Rattle.sudoers_line.specs.declared.node.Digest.{Digest}
 use Rattle.sudoers_line.specs.declared.node.Member.{Member}
 use Rattle.sudoers_line.specs.declared.pattern.Spelling.TheVariants.{Command}
-use Rattle.sudoers_line.specs.Pattern.{is_escaped_byte}
 use Rattle.sudoers_print.specs.Spelling.{escaped_byte, escaped}
 use Rattle.sudoers_print.specs.Members.{goes_on, spelled_args, printed_args, printed_atom, digest_word, printed_digest, printed_digests, sign, printed_member, printed_list}
 use Rattle.sudoers_print_laws.specs.Writable.{is_pattern_byte, keeps_backslash, is_pattern, IsArgs, IsCommandAtom, IsCommandMember}
 use Rattle.sudoers_print_laws.proofs.Written.{Written, flat, gap, line_of}
 use Rattle.sudoers_print_laws.proofs.Units.{plain}
 use Rattle.sudoers_print_laws.proofs.PatternUnits.{escape, escape_all, pattern_units}
-use Rattle.sudoers_print_laws.proofs.ArgumentUnits.{is_space, begins_word, in_first, argument_words, argument_tokens}
+use Rattle.sudoers_print_laws.proofs.ArgumentUnits.{begins_word, in_first, argument_words, argument_tokens}
 use Rattle.sudoers_print_laws.proofs.CommandTokens.{args_tokens, atom_tokens, signed_tokens, digest_tokens, more_digests, command_tokens, more_commands, list_of_commands}
 use Rattle.sudoers_print_laws.proofs.Users.{flat_plain}
 use Rattle.sudoers_print_laws.proofs.Patterns.{keeps, kept_is, escape_is, flat_escaped}

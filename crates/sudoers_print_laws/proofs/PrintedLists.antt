@@ -1,11 +1,11 @@
 -- The tokens of lists of users, runas users and hosts are these lists as they are printed.
-use Rattle.std.proofs.Common.{◌≡◌, ◌≢◌, ℕ, Bool, true, false, ◌&&◌, not, List, [], ◌∷◌, ◌++◌, refl, sym, ap, subst, ◌∙◌}
+use Rattle.std.proofs.Common.{◌≡◌, ◌≢◌, ℕ, Bool, true, false, ◌&&◌, not, List, [], ◌∷◌, ◌++◌, refl, sym, ap, ◌∙◌}
 use Rattle.std.specs.Prelude.{◌/◌, ◌%◌, if◌then◌else◌, codes}
-use Rattle.std.specs.List.{AllByRecursion, flat_map}
+use Rattle.std.specs.List.{flat_map}
 use Rattle.std.specs.Fmt.{decimal}
 use Rattle.std.proofs.lemmas.List.{append_assoc}
 use Rattle.sudoers_text.specs.declared.token.TokenKind.TheVariants as kind
-use Rattle.sudoers_text.specs.Unit.{LineUnit, Pair, Byte}
+use Rattle.sudoers_text.specs.Unit.{Pair}
 use Rattle.sudoers_line.specs.declared.node.Kind.{Kind}
 use Rattle.sudoers_line.specs.declared.node.Kind.TheVariants.{User, Runas, Host, Cmnd}
 use Rattle.sudoers_line.specs.declared.node.Atom.{Atom}
@@ -21,7 +21,7 @@ use Rattle.sudoers_print_laws.specs.Writable.{is_pattern, IsUser, IsHost}
 use Rattle.sudoers_print_laws.proofs.Written.{Written, flat, gap, line_of}
 use Rattle.sudoers_print_laws.proofs.Units.{word_units}
 use Rattle.sudoers_print_laws.proofs.PatternUnits.{escape_all, pattern_units}
-use Rattle.sudoers_print_laws.proofs.ListTokens.{name_units, user_units, backed, host_name_units, host_units, list_units, IsListAtom, list_token, member_tokens, more_tokens, list_tokens}
+use Rattle.sudoers_print_laws.proofs.ListTokens.{name_units, user_units, backed, host_name_units, host_units, list_units, IsListAtom, member_tokens, more_tokens, list_tokens}
 use Rattle.sudoers_print_laws.proofs.Values.{flat_words}
 use Rattle.sudoers_print_laws.proofs.Users.{flat_plain, backslash_reads}
 use Rattle.sudoers_print_laws.proofs.Patterns.{are_pattern, flat_escaped}

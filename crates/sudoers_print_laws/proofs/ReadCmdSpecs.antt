@@ -1,6 +1,6 @@
 -- A command with what stands before it as it is written is read so.
-use Rattle.std.proofs.Common.{◌≡◌, ℕ, Bool, true, false, ◌&&◌, ◌||◌, List, [], ◌∷◌, ◌++◌, Some, None, refl, sym, ap, subst, ◌∙◌}
-use Rattle.std.specs.Prelude.{Option, codes, if◌then◌else◌}
+use Rattle.std.proofs.Common.{◌≡◌, ℕ, Bool, true, false, ◌&&◌, ◌||◌, List, [], ◌∷◌, Some, None, refl, ap, subst, ◌∙◌}
+use Rattle.std.specs.Prelude.{Option, if◌then◌else◌}
 use Rattle.std.specs.List.{AllByRecursion}
 use Rattle.sudoers_text.specs.declared.token.TokenKind.{TokenKind}
 use Rattle.sudoers_text.specs.declared.token.TokenKind.TheVariants as kind
@@ -20,8 +20,8 @@ use Rattle.sudoers_print.specs.Commands.{option_word, printed_tag}
 use Rattle.sudoers_print_laws.specs.Writable.{IsUserMember, IsCommandMember, IsRunasList, IsOptionValue, IsCmd}
 use Rattle.sudoers_print_laws.specs.Same.{IsSameMember, AllSame, IsSameRunas, IsSameCmd}
 use Rattle.sudoers_print_laws.proofs.Written.{Written, flat, Shows}
-use Rattle.sudoers_print_laws.proofs.Units.{plain, word_units}
-use Rattle.sudoers_print_laws.proofs.ListTokens.{mark, word, list_tokens}
+use Rattle.sudoers_print_laws.proofs.Units.{plain}
+use Rattle.sudoers_print_laws.proofs.ListTokens.{mark, list_tokens}
 use Rattle.sudoers_print_laws.proofs.CommandTokens.{value_token, tagged, optioned, runas_inside, runas_tokens, cmd_tokens}
 use Rattle.sudoers_print_laws.proofs.Shown.{mark_read}
 use Rattle.sudoers_print_laws.proofs.Values.{word_value}

@@ -1,7 +1,6 @@
 -- Lists of commands as they are written are read as these lists.
-use Rattle.std.proofs.Common.{◌≡◌, ℕ, Bool, true, false, List, [], ◌∷◌, ◌++◌, Some, refl, sym, ap, ◌∙◌}
+use Rattle.std.proofs.Common.{◌≡◌, Bool, true, false, List, [], ◌∷◌, ◌++◌, Some, refl, sym, ap, ◌∙◌}
 use Rattle.std.specs.List.{AllByRecursion}
-use Rattle.sudoers_text.specs.declared.token.TokenKind.{TokenKind}
 use Rattle.sudoers_text.specs.declared.token.TokenKind.TheVariants as kind
 use Rattle.sudoers_line.specs.declared.node.Atom.{Atom}
 use Rattle.sudoers_line.specs.declared.node.Atom.TheVariants as atom
@@ -21,7 +20,7 @@ use Rattle.sudoers_print_laws.proofs.CommandTokens.{signed_tokens, digest_tokens
 use Rattle.sudoers_print_laws.proofs.Shown.{mark_read}
 use Rattle.sudoers_print_laws.proofs.Users.{flat_plain}
 use Rattle.sudoers_print_laws.proofs.ReadLists.{Read}
-use Rattle.sudoers_print_laws.proofs.ReadCommands.{AtomRead, atom_read}
+use Rattle.sudoers_print_laws.proofs.ReadCommands.{atom_read}
 
 -- A command is read back as it is.
 pub command_back : (a : Atom) → IsCommandAtom a → read_back a ≡ a

@@ -3,7 +3,7 @@ use Rattle.std.proofs.Common.{◌≡◌, ◌≢◌, ℕ, Bool, true, false, ◌&
 use Rattle.std.specs.Prelude.{◌==◌, if◌then◌else◌, codes}
 use Rattle.std.specs.List.{AllByRecursion, list_all}
 use Rattle.std.specs.Str.{bytes_eq}
-use Rattle.std.proofs.lemmas.Bool.{not-true, or_parts, and_parts, eqb-true}
+use Rattle.std.proofs.lemmas.Bool.{not-true, or_parts, and_parts}
 use Rattle.sudoers_text.specs.declared.token.TokenKind.{TokenKind}
 use Rattle.sudoers_text.specs.declared.token.TokenKind.TheVariants as kind
 use Rattle.sudoers_text.specs.Unit.{LineUnit, Continuation, Pair, Quoted, Comment, Byte, is_blank}
@@ -17,7 +17,7 @@ use Rattle.sudoers_line.specs.declared.pattern.Spelling.TheVariants.{Command}
 use Rattle.sudoers_line.specs.Pattern.{is_escaped_byte, pattern_of}
 use Rattle.sudoers_line.specs.Piece.{Piece, begins_with, ends_with, is_arg}
 use Rattle.sudoers_line.specs.Atom.{is_no_arguments, behind_blanks, args_of, bare_command, command_with, command_atom, command_word}
-use Rattle.sudoers_line.specs.Grammar.{IsArg, IsCommand, AreCommands, Many, Behind, stop_of, start_of}
+use Rattle.sudoers_line.specs.Grammar.{IsArg}
 use Rattle.sudoers_print_laws.proofs.Written.{Written, flat, Shows}
 use Rattle.sudoers_print_laws.proofs.PatternUnits.{is_pattern_unit, ArePattern, escape_all, pattern_units}
 use Rattle.sudoers_print_laws.proofs.ArgumentUnits.{is_space, begins_word, in_first, argument_words, argument_tokens, joined}

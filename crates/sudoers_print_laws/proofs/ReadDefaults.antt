@@ -1,9 +1,8 @@
 -- A Defaults line as it is written is read as this line.
-use Rattle.std.proofs.Common.{◌≡◌, ◌≢◌, ℕ, Bool, true, false, ◌&&◌, not, List, [], ◌∷◌, ◌++◌, Some, None, refl, sym, ap, subst, ◌∙◌, append-nil}
-use Rattle.std.specs.Prelude.{◌==◌, if◌then◌else◌, Option, codes}
+use Rattle.std.proofs.Common.{◌≡◌, ℕ, Bool, true, false, ◌&&◌, List, [], ◌∷◌, ◌++◌, length, Some, None, refl, sym, ap, ◌∙◌, append-nil}
+use Rattle.std.specs.Prelude.{◌==◌, nat_lt, if◌then◌else◌, Option}
 use Rattle.std.specs.List.{AllByRecursion, list_all}
 use Rattle.std.proofs.lemmas.Bool.{and_parts}
-use Rattle.sudoers_text.specs.declared.token.TokenKind.{TokenKind}
 use Rattle.sudoers_text.specs.declared.token.TokenKind.TheVariants as kind
 use Rattle.sudoers_text.specs.Unit.{Quoted}
 use Rattle.sudoers_text.specs.Value.{value_from, value_of}
@@ -15,17 +14,16 @@ use Rattle.sudoers_line.specs.declared.node.Operator.TheVariants as operator
 use Rattle.sudoers_line.specs.declared.node.Setting.{Setting}
 use Rattle.sudoers_line.specs.declared.node.Param.{Param}
 use Rattle.sudoers_line.specs.declared.node.Scope.{Scope}
-use Rattle.sudoers_line.specs.Piece.{Piece, is_punct, is_parameter, is_value, is_the_word, operator_of, scope_signs, looked_up, scope_sign}
-use Rattle.sudoers_line.specs.Grammar.{IsFlag, IsSetting, IsParamWith, IsParam, IsScope, IsScopeList, BeginsNoScope, PerhapsScope, IsDefaults, is_defaults, Many, Behind, Separated, stop_of, start_of}
+use Rattle.sudoers_line.specs.Piece.{Piece, is_punct, is_parameter, is_value, operator_of, scope_signs, looked_up, scope_sign}
+use Rattle.sudoers_line.specs.Grammar.{IsFlag, IsSetting, IsParamWith, IsParam, IsScopeList, PerhapsScope, Many, Behind, Separated, stop_of, start_of}
 use Rattle.sudoers_line.specs.Grammar.{IsScopeCommand as ReadsScopeCommand}
 use Rattle.sudoers_print.specs.Parameters.{operator_mark, is_plain, is_plain_value, fits_quotes}
 use Rattle.sudoers_print_laws.specs.Writable.{AreSome, IsScopeCommand, IsScopeMember, IsWritableScope, IsSettingOf, IsWritableParam}
 use Rattle.sudoers_print_laws.specs.Same.{IsSameMember, AllSame, IsSameScope}
 use Rattle.sudoers_print_laws.proofs.Written.{Written, flat, Shows}
 use Rattle.sudoers_print_laws.proofs.Units.{plain, word_units}
-use Rattle.sudoers_print_laws.proofs.ListTokens.{mark}
 use Rattle.sudoers_print_laws.proofs.CommandTokens.{signed_tokens}
-use Rattle.sudoers_print_laws.proofs.DefaultsTokens.{param_units, setting_tokens, param_tokens, more_params, all_params, sign_byte, more_scope_commands, scope_list, scope_tokens, scope_command}
+use Rattle.sudoers_print_laws.proofs.DefaultsTokens.{param_units, param_tokens, more_params, all_params, sign_byte, more_scope_commands, scope_list, scope_tokens, scope_command}
 use Rattle.sudoers_print_laws.proofs.Shown.{mark_read}
 use Rattle.sudoers_print_laws.proofs.Cuts.{differs}
 use Rattle.sudoers_print_laws.proofs.Values.{word_value}
@@ -55,7 +53,7 @@ quoted_from (b ∷ value) all =
 
 plain_some : (value : List ℕ) → is_plain_value value ≡ true → list_all is_plain value ≡ true
 plain_some [] is = absurd (cc)
-plain_some (b ∷ value) is = is
+plain_some (b ∷ value) is = (and_parts (nat_lt 0 (length (b ∷ value))) (list_all is_plain (b ∷ value)) is).1
 
 value_read : (value : List ℕ) → value_of (flat (param_units value)) ≡ value
 unfolding value_of

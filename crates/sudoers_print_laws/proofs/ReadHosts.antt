@@ -1,40 +1,20 @@
 -- Hosts as they are written are read as these hosts.
-use Rattle.std.proofs.Common.{◌≡◌, ◌≢◌, ℕ, zero, suc, ◌+◌, ◌*◌, ◌/◌, ◌%◌, ◌^◌, ◌≤◌, ◌<◌, Bool, true, false, ◌&&◌, ◌||◌, not, List, [], ◌∷◌, ◌++◌, length, get_or, Some, None, refl, sym, ap, subst, ◌∙◌, arith}
-use Rattle.std.specs.Prelude.{◌==◌, if◌then◌else◌, codes, nat_le, nat_lt, nat_eq, Option, option_map, option_and_then}
-use Rattle.std.specs.List.{list_all, list_any}
-use Rattle.std.specs.Str.{bytes_eq}
+use Rattle.std.proofs.Common.{◌≡◌, ℕ, zero, suc, ◌+◌, ◌*◌, ◌/◌, ◌%◌, ◌^◌, ◌≤◌, ◌<◌, Bool, true, false, ◌&&◌, ◌||◌, not, List, [], ◌∷◌, ◌++◌, length, get_or, Some, None, refl, ap, ◌∙◌, arith}
+use Rattle.std.specs.Prelude.{◌==◌, nat_le, nat_lt}
+use Rattle.std.specs.List.{list_all}
 use Rattle.std.specs.Fmt.{decimal}
-use Rattle.std.proofs.lemmas.Bool.{and_parts, or_parts, eqb-true, ne_eqb}
+use Rattle.std.proofs.lemmas.Bool.{and_parts, ne_eqb}
 use Rattle.std.proofs.lemmas.Fmt.{decimal_digit, first_decimal}
 use Rattle.std.proofs.lemmas.Bool.Decides.{nat_tests}
-use Rattle.std.proofs.lemmas.Slice.Eq.{bytes_eq-Decides}
-use Rattle.sudoers_text.specs.declared.token.TokenKind.TheVariants as kind
-use Rattle.sudoers_text.specs.Unit.{LineUnit, Continuation, Pair, Quoted, Comment, Byte, is_digit}
-use Rattle.sudoers_text.specs.Part.{is_word_byte, is_upper}
-use Rattle.sudoers_text.specs.Word.{is_name, is_alias_byte}
-use Rattle.sudoers_line.specs.declared.node.Atom.{Atom}
-use Rattle.sudoers_line.specs.declared.node.Atom.TheVariants as atom
-use Rattle.sudoers_line.specs.declared.node.Mask.{Mask}
-use Rattle.sudoers_line.specs.declared.node.Mask.TheVariants as mask
-use Rattle.sudoers_line.specs.declared.pattern.Spelling.TheVariants.{Host as HostName}
-use Rattle.sudoers_line.specs.Pattern.{pattern_of}
-use Rattle.sudoers_line.specs.Piece.{begins_with, ends_with, has_byte}
-use Rattle.sudoers_line.specs.Number.{id_limit, are_digits, up_to, plain_number, decimal as decimal_number, put_before, split_at, quad, address_number, mask_of, mask_of_bits, network_of, is_slashed}
-use Rattle.sudoers_line.specs.Atom.{filled, plain_host, unescaped_host, host_atom}
-use Rattle.sudoers_print.specs.Spelling.{escaped}
-use Rattle.sudoers_print.specs.Hosts.{dotted, printed_mask, reads_as_host, is_host}
-use Rattle.sudoers_print_laws.specs.Writable.{is_pattern, IsAddress, IsMask, IsHost}
-use Rattle.sudoers_print_laws.specs.Same.{read_back}
-use Rattle.sudoers_print_laws.proofs.Written.{flat}
-use Rattle.sudoers_print_laws.proofs.Units.{AreUnitsOf, plain}
-use Rattle.sudoers_print_laws.proofs.PatternUnits.{ArePattern, escape, escape_all, pattern_units}
-use Rattle.sudoers_print_laws.proofs.ListTokens.{backed, host_name_units, host_units}
+use Rattle.sudoers_text.specs.Unit.{is_digit}
+use Rattle.sudoers_line.specs.Piece.{begins_with, has_byte}
+use Rattle.sudoers_line.specs.Number.{id_limit, are_digits, plain_number, decimal as decimal_number, split_at, quad, address_number}
+use Rattle.sudoers_print.specs.Hosts.{dotted}
+use Rattle.sudoers_print_laws.specs.Writable.{IsAddress}
 use Rattle.sudoers_print_laws.proofs.Cuts.{differs}
-use Rattle.sudoers_print_laws.proofs.Words.{word_plain}
 use Rattle.sudoers_print_laws.proofs.Values.{le_true}
-use Rattle.sudoers_print_laws.proofs.Users.{flat_plain, filled_same, decimal_read}
-use Rattle.sudoers_print_laws.proofs.Patterns.{IsBare, are_pattern, flat_escaped, escaped_read}
-use Rattle.sudoers_print_laws.proofs.Hosts.{AreParts, parts_of, dots, dotted_is, dotted_word, dotted_some}
+use Rattle.sudoers_print_laws.proofs.Users.{decimal_read}
+use Rattle.sudoers_print_laws.proofs.Hosts.{parts_of, dots, dotted_is}
 
 -- ---- bytes
 

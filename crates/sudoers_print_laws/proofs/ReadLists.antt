@@ -1,6 +1,5 @@
 -- Lists of users, runas users and hosts as they are written are read as these lists.
 use Rattle.std.proofs.Common.{◌≡◌, Bool, true, false, List, [], ◌∷◌, Some, refl, sym, ap, ◌∙◌}
-use Rattle.std.specs.List.{AllByRecursion}
 use Rattle.sudoers_text.specs.declared.token.TokenKind.{TokenKind}
 use Rattle.sudoers_line.specs.declared.node.Kind.{Kind}
 use Rattle.sudoers_line.specs.declared.node.Kind.TheVariants.{User, Runas, Host, Cmnd}
@@ -13,7 +12,7 @@ use Rattle.sudoers_line.specs.Grammar.{IsMember, AreMembers, Many, Behind}
 use Rattle.sudoers_print_laws.specs.Writable.{IsUser, IsListMember}
 use Rattle.sudoers_print_laws.specs.Same.{read_back, IsSameMember, AllSame}
 use Rattle.sudoers_print_laws.proofs.Written.{Written, flat, Shows}
-use Rattle.sudoers_print_laws.proofs.ListTokens.{user_kind, user_units, host_units, list_units, IsListAtom, member_tokens, more_tokens, list_tokens}
+use Rattle.sudoers_print_laws.proofs.ListTokens.{user_kind, user_units, list_units, IsListAtom, member_tokens, more_tokens, list_tokens}
 use Rattle.sudoers_print_laws.proofs.ListCuts.{AreListed}
 use Rattle.sudoers_print_laws.proofs.Shown.{mark_read}
 use Rattle.sudoers_print_laws.proofs.Users.{user_read}

@@ -1,5 +1,5 @@
 -- The word `Defaults` and a scope as they are written are tokens of the line.
-use Rattle.std.proofs.Common.{◌≡◌, ◌≢◌, ℕ, Bool, true, false, ◌||◌, ◌&&◌, List, [], ◌∷◌, ◌++◌, length, take, Some, None, refl, sym, ap, subst, ◌∙◌, arith}
+use Rattle.std.proofs.Common.{◌≡◌, ℕ, Bool, true, false, ◌||◌, List, [], ◌∷◌, ◌++◌, take, Some, None, refl, sym, ap, subst, arith}
 use Rattle.std.specs.Prelude.{◌==◌, if◌then◌else◌, nat_lt, Option, codes}
 use Rattle.std.specs.List.{AllByRecursion, list_all}
 use Rattle.std.proofs.lemmas.Bool.{and_parts}
@@ -10,12 +10,12 @@ use Rattle.sudoers_text.specs.declared.context.Context.{Context}
 use Rattle.sudoers_text.specs.declared.context.Context.TheVariants as context
 use Rattle.sudoers_text.specs.declared.context.ScopeList.{ScopeList}
 use Rattle.sudoers_text.specs.declared.context.ScopeList.TheVariants as scope
-use Rattle.sudoers_text.specs.Unit.{LineUnit, Byte, begins_item, begun, defaults_word}
+use Rattle.sudoers_text.specs.Unit.{LineUnit, Byte, begun, defaults_word}
 use Rattle.sudoers_text.specs.Part.{run_size, is_path_byte, is_word_byte, is_upper}
 use Rattle.sudoers_text.specs.declared.token.TokenKind.{TokenKind}
 use Rattle.sudoers_text.specs.Piece.{begins_scope, first_word_size}
 use Rattle.std.specs.Str.{bytes_eq}
-use Rattle.sudoers_text.specs.Context.{behind, forms, command_forms, parameter_forms}
+use Rattle.sudoers_text.specs.Context.{behind, forms, parameter_forms}
 use Rattle.sudoers_text.specs.Word.{is_name, is_alias_byte, is_among, at_includes}
 use Rattle.sudoers_text.specs.LineMode.{line_mode}
 use Rattle.sudoers_text.specs.Found.{found, include_at, command_path_size}
@@ -23,7 +23,6 @@ use Rattle.sudoers_text.specs.Token.{passed}
 use Rattle.sudoers_line.specs.declared.node.Kind.{Kind}
 use Rattle.sudoers_line.specs.declared.node.Kind.TheVariants.{User, Runas, Host, Cmnd}
 use Rattle.sudoers_line.specs.declared.node.Args.{Args}
-use Rattle.sudoers_line.specs.declared.node.Args.TheVariants.{Any}
 use Rattle.sudoers_line.specs.declared.node.Atom.{Atom}
 use Rattle.sudoers_line.specs.declared.node.Atom.TheVariants as atom
 use Rattle.sudoers_line.specs.declared.node.Member.{Member}
@@ -34,7 +33,7 @@ use Rattle.sudoers_print_laws.proofs.Written.{Written, flat, line_of, Place, At,
 use Rattle.sudoers_print_laws.proofs.Units.{plain}
 use Rattle.sudoers_print_laws.proofs.ListTokens.{mark, word}
 use Rattle.sudoers_print_laws.proofs.CommandTokens.{path_token, args_tokens, atom_tokens, signed_tokens}
-use Rattle.sudoers_print_laws.proofs.DefaultsTokens.{sign_byte, more_scope_commands, scope_commands, scope_list, scope_tokens, defaults_tokens, all_params}
+use Rattle.sudoers_print_laws.proofs.DefaultsTokens.{sign_byte, more_scope_commands, scope_list, scope_tokens, defaults_tokens, all_params}
 use Rattle.sudoers_print_laws.proofs.Lines.{cut_from}
 use Rattle.sudoers_print_laws.proofs.Words.{IsPlain, plain_stands, size_by, run_closed, run_stands, word_apart, word_plain, plain_begins, command_word_found}
 use Rattle.sudoers_print_laws.proofs.Cuts.{differs, EndsWord, TakesWords, word_cut}

@@ -1,21 +1,18 @@
 -- A user specification as it is written is cut into its tokens, and read as this specification.
-use Rattle.std.proofs.Common.{◌≡◌, ℕ, Bool, true, false, List, [], ◌∷◌, refl, sym, ap, subst, ◌∙◌}
+use Rattle.std.proofs.Common.{◌≡◌, ℕ, Bool, true, false, List, [], ◌∷◌, refl, sym, subst}
 use Rattle.std.specs.List.{AllByRecursion}
-use Rattle.sudoers_text.specs.declared.token.TokenKind.TheVariants as kind
 use Rattle.sudoers_text.specs.declared.token.Mode.{Mode}
 use Rattle.sudoers_text.specs.declared.token.Mode.TheVariants as mode
 use Rattle.sudoers_text.specs.declared.context.Context.TheVariants as context
-use Rattle.sudoers_text.specs.Unit.{Byte}
 use Rattle.sudoers_text.specs.LineMode.{line_mode}
 use Rattle.sudoers_text.specs.Token.{HasTokens}
 use Rattle.sudoers_line.specs.declared.node.Kind.TheVariants.{User, Host}
 use Rattle.sudoers_line.specs.declared.node.Member.{Member}
 use Rattle.sudoers_line.specs.declared.node.CmdSpec.{CmdSpec}
 use Rattle.sudoers_line.specs.declared.node.HostGroup.{HostGroup}
-use Rattle.sudoers_line.specs.declared.node.Node.{Node}
 use Rattle.sudoers_line.specs.declared.node.Node.TheVariants as node
 use Rattle.sudoers_line.specs.Piece.{Piece, pieces}
-use Rattle.sudoers_line.specs.Grammar.{AreMembers, IsCmdSpec, IsHostGroup, IsUserSpec, Many, Behind, Separated, Reads}
+use Rattle.sudoers_line.specs.Grammar.{AreMembers, IsCmdSpec, IsHostGroup, Many, Behind, Separated, Reads}
 use Rattle.sudoers_print.specs.Lines.{printed_line}
 use Rattle.sudoers_print_laws.specs.Writable.{IsUserMember, IsHostMember, AreSome, IsCmd, IsGroup}
 use Rattle.sudoers_print_laws.specs.Same.{IsSameMember, IsSameCmd, IsSameGroup, AllSame, ReadsBack}
@@ -32,7 +29,7 @@ use Rattle.sudoers_print_laws.proofs.CommandLists.{comma_tail, end_cut}
 use Rattle.sudoers_print_laws.proofs.CmdSpecs.{cmd_cut}
 use Rattle.sudoers_print_laws.proofs.ReadCmdSpecs.{cmd_read}
 use Rattle.sudoers_print_laws.proofs.AliasLines.{CutLaw, nothing_left}
-use Rattle.sudoers_print_laws.proofs.FirstUsers.{BeginsPart, users_cut, users_mode, users_begin}
+use Rattle.sudoers_print_laws.proofs.FirstUsers.{users_cut, users_mode, users_begin}
 use Rattle.sudoers_print_laws.proofs.SpecTokens.{one_cmd, more_cmds, all_cmds, group_tokens, more_groups, all_groups, spec_tokens, spec_text}
 
 -- ---- the tokens

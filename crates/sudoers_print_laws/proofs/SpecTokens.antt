@@ -1,5 +1,5 @@
 -- User specifications, token by token, and as they are printed: a device of the laws.
-use Rattle.std.proofs.Common.{◌≡◌, ℕ, Bool, true, false, List, [], ◌∷◌, ◌++◌, refl, sym, ap, ◌∙◌, append-nil}
+use Rattle.std.proofs.Common.{◌≡◌, ℕ, Bool, true, false, List, [], ◌∷◌, ◌++◌, refl, sym, ap, ◌∙◌}
 use Rattle.std.specs.Prelude.{codes}
 use Rattle.std.specs.List.{AllByRecursion, flat_map, join_by}
 use Rattle.std.proofs.lemmas.List.{append_assoc}
@@ -10,9 +10,9 @@ use Rattle.sudoers_line.specs.declared.node.HostGroup.{HostGroup}
 use Rattle.sudoers_line.specs.declared.node.Node.TheVariants as node
 use Rattle.sudoers_print.specs.Members.{printed_list}
 use Rattle.sudoers_print.specs.Commands.{printed_command}
-use Rattle.sudoers_print.specs.Lines.{printed_group, printed_spec, printed_line}
+use Rattle.sudoers_print.specs.Lines.{printed_group, printed_line}
 use Rattle.sudoers_print_laws.specs.Writable.{IsUserMember, IsHostMember, AreSome, IsCmd, IsGroup}
-use Rattle.sudoers_print_laws.proofs.Written.{Written, gap, line_of}
+use Rattle.sudoers_print_laws.proofs.Written.{Written, line_of}
 use Rattle.sudoers_print_laws.proofs.ListTokens.{mark, list_tokens}
 use Rattle.sudoers_print_laws.proofs.CommandTokens.{cmd_tokens}
 use Rattle.sudoers_print_laws.proofs.PrintedLists.{list_text}

@@ -1,12 +1,11 @@
 -- Texts in which each backslash is that of a pair or of a continuation: what tokens are made of.
 use Rattle.std.proofs.Common.{◌≡◌, ℕ, zero, suc, ◌+◌, ◌≤◌, Bool, true, false, ◌&&◌, ◌||◌, not, List, [], ◌∷◌, ◌++◌, length, take, drop, refl, sym, ap, subst, ◌∙◌, arith, ◌⊎◌, inl, inr}
 use Rattle.std.specs.Prelude.{◌==◌, if◌then◌else◌}
-use Rattle.std.proofs.lemmas.List.{append_assoc, length-append}
-use Rattle.std.proofs.lemmas.Bool.{not-true, and_parts, or_parts, eqb-true}
-use Rattle.sudoers_text.specs.declared.part.Rule.{Rule}
+use Rattle.std.proofs.lemmas.List.{length-append}
+use Rattle.std.proofs.lemmas.Bool.{and_parts, or_parts, eqb-true}
 use Rattle.sudoers_text.specs.declared.part.Rule.TheVariants as rule
 use Rattle.sudoers_text.specs.Unit.{LineUnit, Continuation, Pair, Byte, text_of, escaped, begins_lf, begins_line_end}
-use Rattle.sudoers_text.specs.Part.{is_include_byte, is_word_byte, is_path_byte, is_value_byte, is_quoted_byte, is_clean_byte, one_if, or_else, by_backslash, pair_in, escape_in, past_unit, reach, unit_size, run_size, begins_with, between_quotes, argument_unit, whole_size}
+use Rattle.sudoers_text.specs.Part.{is_path_byte, is_quoted_byte, is_clean_byte, one_if, or_else, by_backslash, pair_in, escape_in, past_unit, reach, unit_size}
 use Rattle.sudoers_print_laws.proofs.Words.{IsEscaped}
 use Rattle.sudoers_print_laws.proofs.Cuts.{differs}
 
@@ -170,12 +169,6 @@ tidy_by test lf cr backslash b h =
     let c : (b == 13) ≡ false = differs test 13 b h cr in
     let d : (b == 92) ≡ false = differs test 92 b h backslash in
     rw (a, c, d) refl
-
-pub word_unit : IsUnit (unit_size rule.Word)
-word_unit = either_unit (one_if is_word_byte) (by_backslash pair_in) (one_unit is_word_byte (tidy_by is_word_byte refl refl refl)) (backslash_unit pair_in pairs_measure)
-
-pub include_unit : IsUnit (unit_size rule.IncludePath)
-include_unit = either_unit (one_if is_include_byte) (by_backslash pair_in) (one_unit is_include_byte (tidy_by is_include_byte refl refl refl)) (backslash_unit pair_in pairs_measure)
 
 pub path_unit : IsUnit (unit_size rule.Path)
 path_unit = either_unit (one_if is_path_byte) (by_backslash pair_in) (one_unit is_path_byte (tidy_by is_path_byte refl refl refl)) (backslash_unit pair_in pairs_measure)

@@ -1,8 +1,8 @@
 -- The pattern of a tidy text is a pattern.
-use Rattle.std.proofs.Common.{◌≡◌, ℕ, zero, suc, ◌+◌, ◌≤◌, Bool, true, false, ◌&&◌, ◌||◌, not, List, [], ◌∷◌, ◌++◌, length, drop, refl, sym, ap, subst, ◌∙◌, arith}
+use Rattle.std.proofs.Common.{◌≡◌, ℕ, zero, suc, ◌+◌, ◌≤◌, Bool, true, false, ◌&&◌, ◌||◌, not, List, [], ◌∷◌, ◌++◌, length, refl, sym, ap, subst, ◌∙◌, arith}
 use Rattle.std.specs.Prelude.{◌==◌, if◌then◌else◌}
 use Rattle.std.proofs.lemmas.List.{append_assoc}
-use Rattle.std.proofs.lemmas.Bool.{not-true, and_parts, or_parts, eqb-true}
+use Rattle.std.proofs.lemmas.Bool.{not-true, or_parts, eqb-true}
 use Rattle.sudoers_text.specs.Unit.{is_blank}
 use Rattle.sudoers_text.specs.Value.{blanks_size}
 use Rattle.sudoers_line.specs.declared.pattern.Spelling.{Spelling}
@@ -13,7 +13,7 @@ use Rattle.sudoers_print_laws.specs.Writable.{is_pattern_byte, keeps_backslash, 
 use Rattle.sudoers_print_laws.proofs.Words.{IsEscaped}
 use Rattle.sudoers_print_laws.proofs.Cuts.{differs}
 use Rattle.sudoers_print_laws.proofs.Patterns.{backslash_keeps}
-use Rattle.sudoers_print_laws.proofs.Tidy.{is_tidy_byte, Tidy, done, byte, by_lf, by_crlf}
+use Rattle.sudoers_print_laws.proofs.Tidy.{is_tidy_byte, Tidy, byte, by_lf, by_crlf}
 use Rattle.sudoers_print_laws.proofs.Tidy.{pair as a_pair}
 
 -- Before a pattern these bytes make a pattern.

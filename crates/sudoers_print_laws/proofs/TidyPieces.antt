@@ -1,24 +1,23 @@
 -- What the tokens of a line are made of, by their kinds.
-use Rattle.std.proofs.Common.{◌≡◌, ◌≢◌, ℕ, zero, suc, ◌+◌, ◌≤◌, ◌<◌, Bool, true, false, ◌&&◌, ◌||◌, not, List, [], ◌∷◌, ◌++◌, length, take, drop, refl, sym, ap, subst, ◌∙◌, arith, ◌⊎◌, inl, inr}
+use Rattle.std.proofs.Common.{◌≡◌, ◌≢◌, ℕ, zero, suc, ◌+◌, ◌≤◌, ◌<◌, Bool, true, false, ◌&&◌, ◌||◌, not, List, [], ◌∷◌, ◌++◌, length, take, drop, refl, sym, ap, subst, ◌∙◌, arith, inl, inr}
 use Rattle.std.specs.Prelude.{◌==◌, if◌then◌else◌, nat_lt}
 use Rattle.std.specs.List.{AllByRecursion, list_all}
 use Rattle.std.proofs.lemmas.List.{append_assoc, length-append, length-drop, length-take-le, take-append-drop, take_all, take-take, drop-take}
 use Rattle.std.proofs.Math.Seq.{take-append_seam}
 use Rattle.std.proofs.lemmas.Bool.{not-true, and_parts, or_parts, or_cases, eqb-true}
-use Rattle.std.proofs.lemmas.Bool.Decides.{nat_tests}
 use Rattle.sudoers_text.specs.declared.part.Rule.{Rule}
 use Rattle.sudoers_text.specs.declared.part.Rule.TheVariants as rule
 use Rattle.sudoers_text.specs.declared.token.TokenKind.{TokenKind}
 use Rattle.sudoers_text.specs.declared.token.TokenKind.TheVariants as kind
 use Rattle.sudoers_text.specs.Unit.{LineUnit, Continuation, Pair, Byte, begins_item, escaped, begins_lf, begins_line_end}
 use Rattle.sudoers_text.specs.Part.{is_digest_byte, is_name_byte, is_path_byte, one_if, or_else, by_backslash, pair_in, reach, unit_size, run_size, is_some_run, begins_with, past_unit, between_quotes, quoted_size, argument_unit, whole_size, broken_size}
-use Rattle.sudoers_text.specs.Piece.{Form, Mark, Operator, Number, NonUnixGroup, Run, CommandPath, QuotedPart, CommentPart, IncludeWord, FirstWord, Argument, QuotedRest, kind_of, is_hash_number, is_colon_number, is_number, is_colon_word, is_group_word, quoted_rest_size, is_argument, is_piece}
-use Rattle.sudoers_text.specs.Token.{IsToken, IsLongest}
+use Rattle.sudoers_text.specs.Piece.{Form, Mark, Operator, Number, NonUnixGroup, Run, CommandPath, QuotedPart, CommentPart, Argument, QuotedRest, kind_of, is_hash_number, is_colon_number, is_number, is_colon_word, is_group_word, quoted_rest_size, is_argument, is_piece}
+use Rattle.sudoers_text.specs.Token.{IsToken}
 use Rattle.sudoers_print_laws.proofs.Words.{IsEscaped}
 use Rattle.sudoers_print_laws.proofs.Tight.{Tight, word_tight, path_tight, tight_more}
 use Rattle.sudoers_print_laws.proofs.Values.{lt_tells}
 use Rattle.sudoers_print_laws.proofs.ParamCuts.{no_quoted}
-use Rattle.sudoers_print_laws.proofs.Tidy.{is_tidy_byte, tidy_by, Tidy, done, byte, tidy_join, TidyFront, IsUnit, either_unit, reach_tidy, word_unit, path_unit, quote_unit, clean_unit}
+use Rattle.sudoers_print_laws.proofs.Tidy.{is_tidy_byte, tidy_by, Tidy, done, byte, tidy_join, TidyFront, IsUnit, either_unit, reach_tidy, path_unit, quote_unit, clean_unit}
 
 -- ---- quoted parts and arguments
 
@@ -26,11 +25,6 @@ use Rattle.sudoers_print_laws.proofs.Tidy.{is_tidy_byte, tidy_by, Tidy, done, by
 run_front : (r : Rule) → IsUnit (unit_size r) → (bytes : List ℕ) → Tidy (take (run_size r bytes) bytes)
 unfolding run_size
 run_front r is bytes = reach_tidy (unit_size r) is (length bytes) bytes (omega arith)
-
-run_tidy : (r : Rule) → IsUnit (unit_size r) → (text : List ℕ) → is_some_run r text ≡ true → Tidy text
-run_tidy r is text h =
-    let size = eqb-true (run_size r text) (length text) (and_parts (nat_lt 0 (length text)) (run_size r text == length text) h).1 in
-    subst Tidy (ap (λ (n : ℕ). take n text) size ∙ take_all (length text) text (omega arith)) (run_front r is text)
 
 between_unit : (r : Rule) → IsUnit (unit_size r) → IsUnit (between_quotes r)
 unfolding between_quotes

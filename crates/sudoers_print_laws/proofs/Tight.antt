@@ -1,19 +1,16 @@
 -- Texts of bytes and pairs alone: what words and paths are made of.
-use Rattle.std.proofs.Common.{◌≡◌, ◌≢◌, ℕ, zero, suc, ◌≤◌, Bool, true, false, ◌||◌, ◌&&◌, not, List, [], ◌∷◌, ◌++◌, length, refl, sym, ap, subst, ◌∙◌, arith}
+use Rattle.std.proofs.Common.{◌≡◌, ◌≢◌, ℕ, zero, suc, ◌≤◌, Bool, true, false, ◌||◌, List, [], ◌∷◌, ◌++◌, length, refl, sym, ap, subst, ◌∙◌, arith}
 use Rattle.std.specs.Prelude.{◌==◌, if◌then◌else◌, nat_lt}
-use Rattle.std.specs.List.{AllByRecursion, list_all}
 use Rattle.std.proofs.lemmas.Bool.{not-true, or_parts, and_parts, eqb-true}
 use Rattle.sudoers_text.specs.Unit.{LineUnit, Continuation, Pair, Quoted, Comment, Byte, text_of, begins_lf, escaped}
 use Rattle.sudoers_text.specs.declared.part.Rule.TheVariants as rule
 use Rattle.sudoers_text.specs.Part.{run_size, is_some_run, or_else, by_backslash, pair_in, past_unit, reach, is_word_byte, is_path_byte}
 use Rattle.sudoers_line.specs.declared.pattern.Spelling.{Spelling}
-use Rattle.sudoers_line.specs.declared.pattern.Spelling.TheVariants.{Command, Host}
-use Rattle.sudoers_line.specs.Pattern.{is_escaped_byte, loses_backslash, pattern_from, pattern_of}
-use Rattle.sudoers_line.specs.Piece.{begins_with, ends_with, has_byte}
+use Rattle.sudoers_line.specs.Pattern.{loses_backslash, pattern_from, pattern_of}
+use Rattle.sudoers_line.specs.Piece.{ends_with}
 use Rattle.sudoers_print_laws.proofs.Written.{flat}
 use Rattle.sudoers_print_laws.proofs.Units.{is_unit, AreUnitsOf}
 use Rattle.sudoers_print_laws.proofs.Words.{size_by, pair_escaped}
-use Rattle.sudoers_print_laws.proofs.Cuts.{differs}
 use Rattle.sudoers_print_laws.proofs.Patterns.{IsBare, pair_from, plain_from, ends_past}
 use Rattle.sudoers_print_laws.proofs.Tidy.{is_tidy_byte, Tidy, done, byte, tidy_by}
 use Rattle.sudoers_print_laws.proofs.Tidy.{pair as a_pair}

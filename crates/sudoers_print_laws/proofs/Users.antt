@@ -7,9 +7,9 @@ use Rattle.std.proofs.lemmas.Bool.{or_parts, and_parts}
 use Rattle.std.proofs.lemmas.Bool.Decides.{eqb_tells}
 use Rattle.std.proofs.lemmas.Slice.Eq.{bytes_eq-Decides}
 use Rattle.sudoers_text.specs.Unit.{LineUnit, Pair, is_digit}
-use Rattle.sudoers_text.specs.Part.{is_word_byte, is_upper}
+use Rattle.sudoers_text.specs.Part.{is_word_byte}
 use Rattle.sudoers_text.specs.Value.{value_of}
-use Rattle.sudoers_text.specs.Word.{is_alias_byte, is_name}
+use Rattle.sudoers_text.specs.Word.{is_name}
 use Rattle.sudoers_line.specs.declared.node.Atom.{Atom}
 use Rattle.sudoers_line.specs.declared.node.Atom.TheVariants as atom
 use Rattle.std.specs.Fmt.{decimal}
@@ -27,10 +27,6 @@ use Rattle.sudoers_print_laws.specs.Writable.{IsUser}
 use Rattle.sudoers_print_laws.proofs.Values.{le_true, le_tells, Spells, by_pair, by_hex, by_itself, spells, word_value, word_value_from, pair_value, flat_join, flat_words}
 use Rattle.sudoers_print_laws.proofs.Cuts.{differs}
 use Rattle.sudoers_print_laws.proofs.Words.{pair_escaped}
-
-abbrev pub begins_by : (ℕ → Bool) → List ℕ → Bool
-begins_by test [] = false
-begins_by test (b ∷ bytes) = test b
 
 -- ---- plain bytes
 

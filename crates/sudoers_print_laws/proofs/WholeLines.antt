@@ -1,6 +1,6 @@
 -- Printed lines hold no NUL: each is one logical line alone, and several are cut into exactly these.
-use Rattle.std.proofs.Common.{◌≡◌, ◌≢◌, ℕ, zero, suc, Bool, true, false, not, List, [], ◌∷◌, ◌++◌, Some, None, refl, sym, ap, ◌∙◌, append-nil}
-use Rattle.std.specs.Prelude.{◌==◌, map, slice_get, if◌then◌else◌, Option, codes}
+use Rattle.std.proofs.Common.{◌≡◌, ◌≢◌, ℕ, zero, suc, Bool, true, false, not, List, [], ◌∷◌, ◌++◌, length, Some, None, refl, ap, append-nil}
+use Rattle.std.specs.Prelude.{◌==◌, map, slice_get, nat_lt, if◌then◌else◌, Option, codes}
 use Rattle.std.specs.List.{AllByRecursion, list_all, flat_map, join_by}
 use Rattle.std.proofs.lemmas.Bool.{not-true, and_parts}
 use Rattle.sudoers_text.specs.Part.{is_name_byte}
@@ -31,7 +31,7 @@ use Rattle.sudoers_print.specs.Members.{sign, printed_member, printed_list}
 use Rattle.sudoers_print.specs.Commands.{printed_inside, printed_runas, printed_front, option_word, printed_option_value, printed_option, tag_word, printed_tag, printed_options, printed_tags, printed_command}
 use Rattle.sudoers_print.specs.Parameters.{operator_mark, is_plain, is_plain_value, fits_quotes, printed_value, printed_setting, printed_param, printed_params, scope_mark, printed_scope, printed_defaults}
 use Rattle.sudoers_print.specs.Lines.{printed_def, printed_group, printed_spec, printed_line, printed_lines}
-use Rattle.sudoers_print_laws.specs.Writable.{IsMemberOf, IsUserMember, IsHostMember, IsCommandMember, AreSome, IsWritableDef, IsRunasList, IsCmd, IsGroup, IsScopeMember, IsWritableScope, IsWritableParam, IsWritable}
+use Rattle.sudoers_print_laws.specs.Writable.{IsMemberOf, IsUserMember, AreSome, IsWritableDef, IsRunasList, IsCmd, IsGroup, IsScopeMember, IsWritableScope, IsWritableParam, IsWritable}
 use Rattle.sudoers_print_laws.proofs.DefaultsTokens.{scope_command}
 use Rattle.sudoers_print_laws.proofs.NoNul.{is_some_byte, Clean, clean_join, clean_map, clean_by, clean_test, spelled_clean, name_clean, sign_clean, parts_clean, none_clean, command_clean, member_clean, list_clean}
 use Rattle.sudoers_print_laws.proofs.ParamCuts.{fits_byte}
@@ -123,7 +123,7 @@ value_clean value = by_plain (is_plain_value value) refl
   where
     plain_all : (v : List ℕ) → is_plain_value v ≡ true → Clean v
     plain_all [] h = refl
-    plain_all (b ∷ v) h = clean_test is_plain refl (b ∷ v) h
+    plain_all (b ∷ v) h = clean_test is_plain refl (b ∷ v) (and_parts (nat_lt 0 (length (b ∷ v))) (list_all is_plain (b ∷ v)) h).1
 
     by_quotes : (t : Bool) → fits_quotes value ≡ t → Clean (if t then codes "\"" ++ value ++ codes "\"" else spelled value)
     by_quotes true e = clean_join (codes "\"" ++ value) (codes "\"") (clean_test fits_byte refl value e) refl

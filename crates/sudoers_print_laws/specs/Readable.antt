@@ -1,5 +1,4 @@
 -- What a line without NUL is read as: all of it can be written, each definition of an alias on a line of its own.
-use Rattle.std.specs.Prelude.{List}
 use Rattle.sudoers_line.specs.declared.node.Node.{Node}
 use Rattle.sudoers_line.specs.declared.node.Node.TheVariants as node
 use Rattle.sudoers_print_laws.specs.Writable.{AreSome, IsUserMember, IsWritableDef, IsGroup, IsWritableScope, IsWritableParam}

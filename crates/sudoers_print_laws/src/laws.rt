@@ -53,8 +53,8 @@ pub fn read_can_be_written()
     words_agree();
 }
 
-/// What can be written stays so: a member with the other sign, a command with another Runas_Spec, other options and other tags, a list
-/// with fewer members.
+/// What can be written stays so. A member may get the other sign; a command another Runas_Spec, other options and other tags; a list may
+/// lose members.
 pub fn writable_is_kept()
     ensures sign { (kind : KindOf) (member : MemberOf) (negated : Bool) → IsMemberOf kind member
         → IsMemberOf kind (record member { negated = negated }) }
@@ -65,8 +65,7 @@ pub fn writable_is_kept()
         → filter test members ≢ [] → AreSome (IsMemberOf kind) (filter test members) }
 {}
 
-/// What a line without NUL is read as is printed, and read back as the same: each definition of an alias line on a line of its own, a user
-/// specification, a Defaults line.
+/// What a line without NUL is read as is printed, and read back as the same. Each definition of an alias has a line of its own.
 pub fn read_is_printed()
     ensures aliases { (line : List ℕ) (kind : KindOf) (defs : List DefOf) → has_byte 0 line ≡ false → ReadsLine line (node.Alias kind defs)
         → AllByRecursion (λ (def : DefOf). ReadsBack (printed_line (node.Alias kind (def ∷ []))) (node.Alias kind (def ∷ []))) defs }
