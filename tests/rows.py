@@ -135,9 +135,9 @@ def first_line(given, answer):
 
 
 def converted(given, wanted):
-    """`convert` of a policy on standard input. The words are those of the setting, and then a filter if there is one."""
-    words, filters, policy = given
-    return policy, wanted, False, "convert", *words.decode().split(" "), *filters, "-"
+    """`convert` of a policy on standard input, with the words of the setting."""
+    words, policy = given
+    return policy, wanted, False, "convert", *words.decode().split(" "), "-"
 
 
 def printed(given, answer):
@@ -169,8 +169,6 @@ FORMS = {
     "policy => first line": Form(("policy",), 1, first_line),
     "policy => printed": Form(("policy",), 1, printed),
     "policy => not printed": Form(("policy",), 1, not_printed),
-    "filter %% policy => printed": Form(("filter", "policy"), 1, printed),
-    "filter %% policy => not printed": Form(("filter", "policy"), 1, not_printed),
 }
 
 # What the settings of a table may name.
@@ -179,8 +177,6 @@ SHARED = {
     "policy => error": "script",
     "policy => printed": "words",
     "policy => not printed": "words",
-    "filter %% policy => printed": "words",
-    "filter %% policy => not printed": "words",
 }
 
 
@@ -222,7 +218,7 @@ class Table:
         if names == ("input",):
             return (texts["input"],)
         if missing == "words":
-            return texts["words"], [texts[name] for name in names if name == "filter"], texts["policy"]
+            return texts["words"], texts["policy"]
         return texts.get("script", b""), texts["policy"]
 
     def add(self, name, text):
@@ -333,8 +329,7 @@ MISTAKES = (
     "form = script %% policy => undo %% edited\nno_policy: a\\n %% # a\\n => b\\n\n",
     "form = policy => first line\nanother_line: # a\\n# b\\n => # b\\n\n",
     "form = policy => printed\nno_words: # a\\n =>\n",
-    "form = policy => not printed\nwords = -f json\nempty_answer: # a\\n =>\n",
-    "form = filter %% policy => printed\nwords = -f json -m\nno_filter: # a\\n => a\\n\n",
+    "form = policy => not printed\nwords = -f sudoers\nempty_answer: # a\\n =>\n",
 )
 
 
