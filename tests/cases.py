@@ -14,17 +14,19 @@ The files of a case, each of which may be missing:
                  case's input back, byte for byte
 
 The output of each other accepted edit, given as input again, has to give the
-case's policy back.
+case's policy back. The output of each conversion has to be right by itself
+(converting.py).
 """
 
 import os
 from dataclasses import dataclass
 
+import converting
 import way_back
 from program import Wanted, run
 
 FOLDER = os.path.join(os.path.dirname(os.path.abspath(__file__)), "cases")
-GROUPS = ("check", "edit", "show", "words")
+GROUPS = ("check", "convert", "edit", "show", "words")
 FILES = {"words", "stdin", "policy", "stdout", "stderr", "stdout_has", "stderr_has", "status", "back"}
 
 
@@ -91,8 +93,9 @@ def load_all():
 
 
 def run_case(program, tally, case):
-    """Runs a case, and the way back of an accepted edit."""
+    """Runs a case, the way back of an accepted edit, and what is printed of a policy once more."""
     problems = case.wanted.problems(run(program, case.words, case.stdin, folder=case.folder))
+    problems = problems or converting.problems(program, case.words, case.wanted)
     if way_back.is_accepted(case.words, case.wanted) and not problems:
         problems = way_back.problems(program, case.words, case.stdin, case.wanted.stdout, whole=case.back)
     tally.note(f"tests/rows/{case.table}: {case.name}" if case.table else case.name, problems)

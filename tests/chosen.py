@@ -20,6 +20,7 @@ EDIT = Input((), 4_000_000, fault("InputTooLarge"))
 SHOW = Input(("show", "-"), 1_048_576, fault("-: TooLarge"))
 CHECK = Input(("check", "-"), 1_048_576, Wanted(b"-: TooLarge\n", status=1))
 QUIET = Input(("check", "-q", "-"), 1_048_576, Wanted(status=1))
+CONVERT = Input(("convert", "-f", "sudoers", "-"), 1_048_576, fault("-: TooLarge"))
 
 # Folders and rows that run under every refusal and failure.
 EDITS = (
@@ -72,6 +73,14 @@ CHECKS = (
     "check_of_a_standard_input_with_an_error",
     "quiet_check_of_a_standard_input_with_an_error",
 )
+CONVERTS = (
+    "convert_of_standard_input",
+    "convert_of_an_empty_standard_input",
+    "convert_of_a_standard_input_with_an_error",
+    "each_form_of_runas_spec",
+    "defaults_values_that_become_words",
+    "options_are_inherited_one_by_one",
+)
 
 # Folders that run under every refusal of memory alone: they read no standard input.
 WORDS = (
@@ -103,6 +112,11 @@ WORDS = (
     "check_of_an_open_end",
     "check_of_a_nul",
     "quiet_check_of_a_second_definition",
+    "help_of_convert",
+    "convert_without_a_form",
+    "convert_of_a_file_that_is_not_there",
+    "convert_of_a_site_with_some_of_everything",
+    "convert_of_a_syntax_error",
 )
 
 
@@ -159,6 +173,20 @@ def many_notes_case():
     return cases.Case("check_of_eighty_notes", ("check", "-"), policy, wanted)
 
 
+def many_printed_lines_case():
+    """`convert` of twenty lines of each kind, so that every list grows often."""
+    numbers = range(1, 21)
+    policy = b"".join(
+        b"U%d, u h=(r, s : g)CWD=/x NOPASSWD:/a x  y,/b:i=list\nDefaults@h,i a=1,b\nUser_Alias U%d=x,!y:V%d=z\n" % (n, n, n)
+        for n in numbers
+    )
+    specification = b"U%d, u h = (r, s : g) CWD=/x NOPASSWD: /a x y, (r, s : g) CWD=/x NOPASSWD: /b : i = list\n"
+    text = b"Defaults@h, i a=1, b\n" * len(numbers)
+    text += b"".join(b"User_Alias U%d = x, !y\nUser_Alias V%d = z\n" % (n, n) for n in numbers)
+    text += b"".join(specification % n for n in numbers)
+    return cases.Case("convert_of_sixty_lines", CONVERT.words, policy, Wanted(text))
+
+
 def inputs_at_the_limit():
     """The greatest inputs that are read to their end."""
     script = b"#" * EDIT.limit
@@ -168,6 +196,7 @@ def inputs_at_the_limit():
     yield cases.Case("input_of_show_at_the_limit", SHOW.words, line * 16, Wanted(shown))
     yield cases.Case("input_of_check_at_the_limit", CHECK.words, line * 16, Wanted(b"-: parsed OK\n"))
     yield cases.Case("input_of_quiet_check_at_the_limit", QUIET.words, line * 16, Wanted())
+    yield cases.Case("input_of_convert_at_the_limit", CONVERT.words, line * 16, Wanted())
 
 
 @dataclass(frozen=True)
@@ -184,11 +213,12 @@ class Chosen:
     def load():
         """The cases of all folders and tables, chosen by their names."""
         by_name = rows.load_every()
-        edits, shows, checks, words = ([by_name[name] for name in names] for names in (EDITS, SHOWS, CHECKS, WORDS))
+        groups = (EDITS, SHOWS, CHECKS, CONVERTS, WORDS)
+        edits, shows, checks, converts, words = ([by_name[name] for name in names] for names in groups)
         return Chosen(
             every=tuple(by_name.values()),
-            read=(*edits, *shows, *checks),
+            read=(*edits, *shows, *checks, *converts),
             words=tuple(words),
-            some=(edits[1], edits[5], shows[0], shows[2], *checks[:2], *checks[4:]),
-            given=((edits[1], EDIT), (shows[0], SHOW), (checks[0], CHECK), (checks[1], QUIET)),
+            some=(edits[1], edits[5], shows[0], shows[2], *checks[:2], *checks[4:], *converts[:3]),
+            given=((edits[1], EDIT), (shows[0], SHOW), (checks[0], CHECK), (checks[1], QUIET), (converts[0], CONVERT)),
         )

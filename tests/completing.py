@@ -24,12 +24,12 @@ SECONDS = 60
 
 FILES = ("policy", "web team", "a file with blanks")
 FOLDER = "sub"
-COMMANDS = ("check", "edit", "help", "show")
+COMMANDS = ("check", "convert", "edit", "help", "show")
 ALL_FILES = (*FILES, FOLDER)
 
 ROWS = (
     (("",), COMMANDS),
-    (("c",), ("check",)),
+    (("c",), ("check", "convert")),
     (("ch",), ("check",)),
     (("sho",), ("show",)),
     (("x",), ()),
@@ -44,13 +44,24 @@ ROWS = (
     (("check", "-q", ""), ALL_FILES),
     (("check", "-q", "-s", "a"), ("a file with blanks",)),
     (("check", "policy", ""), ()),
+    (("co",), ("convert",)),
+    (("convert", "-"), ("-f", "--form", "-h", "--help")),
+    (("convert", "--f"), ("--form",)),
+    (("convert", "-f", ""), ("sudoers",)),
+    (("convert", "-f", "s"), ("sudoers",)),
+    (("convert", "-f", "x"), ()),
+    (("convert", "-f", "sudoers", ""), ALL_FILES),
+    (("convert", "--form", ""), ("sudoers",)),
+    (("convert", "--form", "sudoers", "w"), ("web team",)),
+    (("convert", ""), ALL_FILES),
+    (("convert", "-f", "sudoers", "policy", ""), ()),
     (("show", ""), ALL_FILES),
     (("show", "s"), ("sub",)),
     (("show", "--"), ("--help",)),
     (("show", "policy", "w"), ()),
     (("edit", ""), ()),
     (("edit", "--"), ("--help",)),
-    (("help", ""), ("check", "edit", "show")),
+    (("help", ""), ("check", "convert", "edit", "show")),
     (("help", "s"), ("show",)),
     (("help", "show", ""), ()),
 )
@@ -58,6 +69,7 @@ ROWS = (
 # zsh offers the options if there is nothing else to offer.
 ZSH_ROWS = {
     ("check", "policy", ""): ("-h", "--help", "-q", "-s"),
+    ("convert", "-f", "sudoers", "policy", ""): ("-h", "--help"),
     ("edit", ""): ("-h", "--help"),
 }
 
@@ -204,7 +216,8 @@ def run_lists(program, tally):
     whole, each = helps(program)
     tally.note("completed commands", difference("commands", commands_of_help(whole), set(COMMANDS)))
     options = dict(ROWS)
-    wanted = {"check": set(options["check", "-"]), "edit": {"-h", "--help"}, "show": {"-h", "--help"}}
+    wanted = {name: set(options[name, "-"]) for name in ("check", "convert")}
+    wanted |= {name: {"-h", "--help"} for name in ("edit", "show")}
     tally.note("completed options", difference("options", options_of_help(whole), set(options[("-",)])))
     for name, text in each.items():
         tally.note(f"completed options of {name}", difference("options", options_of_help(text), wanted.get(name)))

@@ -8,9 +8,10 @@ version SUDO is not installed. A block `console` shows commands that prove, buil
 or install, each after `$ `: it may hold only those of ELSEWHERE, which other
 tests or the gate run. Any other block is a picture.
 
-A table whose first header cell is `Policy` and whose last is `` `check` prints ``
-or `` `show` prints `` is run row by row: the first cell holds the file `policy`,
-and the last one what the command prints. In a column `sudo` the cells `reads`
+A table whose first header cell is `Policy` and whose last is `` `check` prints ``,
+`` `show` prints `` or `` `convert -f sudoers` prints `` is run row by row:
+the first cell holds the file `policy`, and the last one what the command prints of
+it. An output of `convert` has to be right by itself too (converting.py). In a column `sudo` the cells `reads`
 and `refuses` are compared with the answer of visudo, if it is of that version.
 """
 
@@ -23,6 +24,7 @@ import subprocess
 import tempfile
 from dataclasses import dataclass, field
 
+import converting
 from program import Wanted, run
 from tally import difference
 
@@ -56,7 +58,7 @@ SYSTEM_PATH = "/usr/local/bin:/usr/bin:/bin:/usr/sbin:/sbin"
 # The version of sudo that the documents speak of.
 SUDO = b"1.9.13p3"
 
-PRINTS = re.compile(r"`(check|show)` prints")
+PRINTS = re.compile(r"`(check|show|convert -f sudoers)` prints")
 ESCAPES = {"n": b"\n", "r": b"\r", "t": b"\t", "0": b"\0", "\\": b"\\", "|": b"|"}
 
 
@@ -205,10 +207,10 @@ def run_commands(document, program, tally):
 
 
 def wanted_of_row(row):
-    """Returns what a row has to answer: an error of `show` is printed on standard error."""
-    if row.command == "show" and row.printed.startswith(b"sudoers_tool: "):
+    """Returns what a row has to answer: only `check` prints an error on standard output."""
+    if row.command != "check" and row.printed.startswith(b"sudoers_tool: "):
         return Wanted(stderr=row.printed, status=1)
-    accepted = row.command == "show" or row.printed.endswith(b": parsed OK\n")
+    accepted = row.command != "check" or row.printed.endswith(b": parsed OK\n")
     return Wanted(row.printed, status=0 if accepted else 1)
 
 
@@ -227,7 +229,9 @@ def run_rows(document, program, tally):
         with tempfile.TemporaryDirectory() as folder:
             with open(os.path.join(folder, "policy"), "wb") as file:
                 file.write(row.policy)
-            problems = wanted_of_row(row).problems(run(program, (row.command, "policy"), folder=folder))
+            words, wanted = (*row.command.split(" "), "policy"), wanted_of_row(row)
+            problems = wanted.problems(run(program, words, folder=folder))
+            problems = problems or converting.problems(program, words, wanted)
             problems += sudo_problems(row, folder)
         tally.note(f"{document.name}:{row.line}, a row", problems)
 

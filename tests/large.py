@@ -1,15 +1,16 @@
 """The table of cases at the limits, whose inputs are too big for a folder or a row.
 
 The modules large_*.py enter their cases. Each function returns the input of one
-case, what is wanted and the words of `show` or `check`, if there are any; its
-name is the case's name. Every accepted edit is also run back: to the input, or,
-if it prunes, to the policy alone, since other edits undo a `prune`.
+case, what is wanted and the words of `show`, `check` or `convert`, if there are
+any; its name is the case's name. Every accepted edit is also run back: to the
+input, or, if it prunes, to the policy alone, since other edits undo a `prune`.
 """
 
 import glob
 import importlib
 import os
 
+import converting
 import way_back
 from program import Wanted, fault, run
 
@@ -89,12 +90,12 @@ def many_edits(count=EDIT_LIMIT):
 
 
 def run_all(program, tally):
-    """Runs each case of each module, and the way back of each accepted edit."""
+    """Runs each case of each module, the way back of each accepted edit, and what is printed of a policy once more."""
     for path in sorted(glob.glob(os.path.join(os.path.dirname(os.path.abspath(__file__)), "large_*.py"))):
         importlib.import_module(os.path.basename(path).removesuffix(".py"))
     for make in CASES:
         stdin, wanted, *words = make()
-        problems = wanted.problems(run(program, words, stdin))
+        problems = wanted.problems(run(program, words, stdin)) or converting.problems(program, words, wanted)
         if way_back.is_accepted(words, wanted) and not problems:
             problems = way_back.problems(program, words, stdin, wanted.stdout, whole=make not in PRUNES)
         tally.note(make.__name__, problems)

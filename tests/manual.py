@@ -5,8 +5,9 @@ to the end of its here-document, and the lines after it are its output. All
 sessions run in order in one shell and one folder. The folder /etc/sudoers.d of
 the page is a scratch folder.
 
-DIAGNOSTICS has to list each error that the sources know: each variant of the
-fault types, with the text that FaultText.antt states for it.
+DIAGNOSTICS has to list each error that the program can print: each variant of
+the fault types but those of NEVER_PRINTED, with the text that FaultText.antt
+states for it.
 """
 
 import glob
@@ -27,7 +28,16 @@ SUDOERS_D = "/etc/sudoers.d"
 ESCAPES = {"-": "-", "e": "\\", "&": "", "(aq": "'", "(dq": '"', "(ha": "^", "(ti": "~", "(ga": "`"}
 
 # The fault types, and what DIAGNOSTICS writes for each term of their texts.
-FAULTS = ("TextFault", "Why", "ReadFault", "ScriptFault", "EditFault", "LayerFault", "ToolFault")
+FAULTS = (
+    "TextFault",
+    "Why",
+    "ReadFault",
+    "ScriptFault",
+    "EditFault",
+    "CvtFault",
+    "LayerFault",
+    "ToolFault",
+)
 TERMS = (
     (r'codes "(.*)"', r"\1"),
     (r"file", "FILE"),
@@ -39,9 +49,12 @@ TERMS = (
     (r"why_name why", "CAUSE"),
     (r'script_text line \(codes "(.*)"\)', r"script:LINE: \1"),
     (r'edit_name place \(codes "(.*)"\)', r"edit N: \1"),
-    (r"text_of_\w+ .*", "ERROR"),
+    (r"(text_of_\w+|cvt_name) .*", "ERROR"),
 )
 CARRIED = "ERROR"
+
+# Variants with a text that no command prints: DIAGNOSTICS says nothing of them.
+NEVER_PRINTED = {("CvtFault", "Cycle"), ("CvtFault", "NotUtf8")}
 
 # What mandoc says about the other pages of the machine, and not about this one.
 OF_THE_MACHINE = ("referenced manual not found", "outdated mandoc.db")
@@ -185,7 +198,7 @@ def texts():
     types = {short: name for name, short in re.findall(r"declared\.\w+\.(\w+)\.TheVariants as (\w+)", source)}
     found = {}
     for row in re.sub(r"\n +", " ", source).splitlines():
-        match = re.match(r"(?:text_of_\w+|why_name) .*?\b(\w+)\.(\w+)[^=]*= (.*)", row)
+        match = re.match(r"(?:text_of_\w+|why_name|cvt_name) .*?\b(\w+)\.(\w+)[^=]*= (.*)", row)
         if match and match[1] in types:
             found[types[match[1]], match[2]] = "".join(map(text_of, match[3].split(" ++ ")))
     return found
@@ -206,7 +219,10 @@ def run_errors(tally):
     known = texts()
     named = sorted((name, variant) for name, names in declared.items() for variant in names)
     tally.note("manual page, variants", difference("variants", named, sorted(known)))
-    wanted = set(known.values()) - {CARRIED} | set(notes())
+    unknown = sorted(NEVER_PRINTED - set(known))
+    tally.note("manual page, variants that are never printed", difference("variants", [], unknown))
+    printed = {text for variant, text in known.items() if variant not in NEVER_PRINTED}
+    wanted = printed - {CARRIED} | set(notes())
     items = [line[len(".It ") :].replace('"', "") for line in section("DIAGNOSTICS") if line.startswith(".It ")]
     problems = [f"{item!r} is missing" for item in sorted(wanted - set(items))]
     problems += [f"nothing prints {item!r}" for item in sorted(set(items) - wanted)]

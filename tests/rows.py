@@ -6,6 +6,7 @@ A table is a text file NAME.rows, in printable ASCII. It has these lines:
     form = FORM         what the rows after it hold, one of FORMS
     policy = POLICY     the policy of the rows after it, whose form names none
     script = SCRIPT     their script, likewise
+    words = WORDS       the words of `convert` before FILE, one blank between two
     NAME: CELLS         a row, whose cells are those of the form
 
 A name is of small letters, digits and `_`, and no two cases have the same one. A row may go on in lines that are
@@ -29,7 +30,7 @@ FOLDER = os.path.join(os.path.dirname(os.path.abspath(__file__)), "rows")
 MARK = b"%%\n"
 ESCAPES = {"n": b"\n", "r": b"\r", "t": b"\t", "0": b"\0", "\\": b"\\"}
 
-SETTING = re.compile(r"(form|policy|script) =(?: (.*))?")
+SETTING = re.compile(r"(form|policy|script|words) =(?: (.*))?")
 ROW = re.compile(r"([a-z0-9_]+):(?: +(.*))?")
 PIECE = re.compile(r"\\\{([1-9][0-9]*)\*([^}]+)\}|\\x([0-9a-f]{2})|\\(.)|([^\\])")
 
@@ -133,6 +134,22 @@ def first_line(given, answer):
     return accepted((b"delete 1\n", policy), (b"insert 1\n" + payload(line), policy[len(line) :]))
 
 
+def converted(given, wanted):
+    """`convert` of a policy on standard input, with the words of the setting."""
+    words, policy = given
+    return policy, wanted, False, "convert", *words.decode().split(" "), "-"
+
+
+def printed(given, answer):
+    """A policy and what it is converted to."""
+    return converted(given, Wanted(answer[0]))
+
+
+def not_printed(given, answer):
+    """A policy that is not converted, and the error."""
+    return converted(given, error_of(answer[0]))
+
+
 @dataclass(frozen=True)
 class Form:
     """What a row holds before and after `=>`, and the case that it makes."""
@@ -150,10 +167,17 @@ FORMS = {
     "script %% policy => undo %% edited": Form(("script", "policy"), 2, accepted),
     "pruning script %% policy => undo %% edited": Form(("script", "policy"), 2, pruned),
     "policy => first line": Form(("policy",), 1, first_line),
+    "policy => printed": Form(("policy",), 1, printed),
+    "policy => not printed": Form(("policy",), 1, not_printed),
 }
 
 # What the settings of a table may name.
-SHARED = {"script => error": "policy", "policy => error": "script"}
+SHARED = {
+    "script => error": "policy",
+    "policy => error": "script",
+    "policy => printed": "words",
+    "policy => not printed": "words",
+}
 
 
 # ---- tables ------------------------------------------------------------------
@@ -193,6 +217,8 @@ class Table:
             self.unused.discard(missing)
         if names == ("input",):
             return (texts["input"],)
+        if missing == "words":
+            return texts["words"], texts["policy"]
         return texts.get("script", b""), texts["policy"]
 
     def add(self, name, text):
@@ -202,8 +228,8 @@ class Table:
         self.unused.discard("form")
         form = FORMS[self.form]
         given, answer = cells_of(text, form)
-        stdin, wanted, back = form.make(self.given(given), answer)
-        self.rows.append(cases.Case(name, (), stdin, wanted, back, table=self.name))
+        stdin, wanted, back, *words = form.make(self.given(given), answer)
+        self.rows.append(cases.Case(name, tuple(words), stdin, wanted, back, table=self.name))
 
 
 def statements(text):
@@ -302,6 +328,8 @@ MISTAKES = (
     "form = script => error\nno_policy: a\\n => a\n",
     "form = script %% policy => undo %% edited\nno_policy: a\\n %% # a\\n => b\\n\n",
     "form = policy => first line\nanother_line: # a\\n# b\\n => # b\\n\n",
+    "form = policy => printed\nno_words: # a\\n =>\n",
+    "form = policy => not printed\nwords = -f sudoers\nempty_answer: # a\\n =>\n",
 )
 
 

@@ -4,7 +4,19 @@
 function __sudoers_tool_argument_of
     set -l words (commandline -opc)
     set -e words[1]
-    set -l plain (string match --invert -- '-?*' $words)
+    set -l plain
+    set -l option
+    for word in $words
+        if test -n "$option"
+            set option
+        else if string match --quiet -- '-?*' $word
+            # This option of convert takes the next word.
+            contains -- convert $plain; and contains -- $word -f --form; and set option $word
+        else
+            set -a plain $word
+        end
+    end
+    test -z "$option"; or return 1
     test (count $plain) -eq 1; and contains -- $plain[1] $argv
 end
 
@@ -12,10 +24,12 @@ complete -c sudoers_tool -f
 complete -c sudoers_tool -s h -l help -d 'Print help'
 complete -c sudoers_tool -n __fish_use_subcommand -s V -l version -d 'Print the version'
 complete -c sudoers_tool -n __fish_use_subcommand -a check -d 'Check a policy'
+complete -c sudoers_tool -n __fish_use_subcommand -a convert -d 'Print the rules of a policy anew, as text without comments'
 complete -c sudoers_tool -n __fish_use_subcommand -a edit -d 'Apply an edit script to a policy'
 complete -c sudoers_tool -n __fish_use_subcommand -a help -d 'Print help'
 complete -c sudoers_tool -n __fish_use_subcommand -a show -d 'Print the lines of a policy'
 complete -c sudoers_tool -n '__fish_seen_subcommand_from check' -s q -d 'Print nothing; only set the exit status'
 complete -c sudoers_tool -n '__fish_seen_subcommand_from check' -s s -d 'Treat undefined and cyclic aliases as errors'
-complete -c sudoers_tool -n '__sudoers_tool_argument_of check show' -F
-complete -c sudoers_tool -n '__sudoers_tool_argument_of help' -a 'check edit show'
+complete -c sudoers_tool -n '__fish_seen_subcommand_from convert' -s f -l form -x -a sudoers -d 'Form of the output: sudoers'
+complete -c sudoers_tool -n '__sudoers_tool_argument_of check convert show' -F
+complete -c sudoers_tool -n '__sudoers_tool_argument_of help' -a 'check convert edit show'
