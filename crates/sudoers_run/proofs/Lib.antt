@@ -1,2 +1,3 @@
 mod ProgramLemmas
 mod ShowLemmas
+mod ConvertLemmas

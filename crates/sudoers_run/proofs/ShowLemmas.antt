@@ -16,7 +16,7 @@ use Rattle.sudoers_run.specs.LayerOf.{layer_of_read}
 use Rattle.sudoers_run.specs.Program.{TellsLayer}
 use Rattle.sudoers_run.specs.Show.{show_read, show_output, TellsShow}
 
-read_large : (input : List ℕ) → text_limit < length input → read_of input ≡ Err (read.Text text.TooLarge)
+pub read_large : (input : List ℕ) → text_limit < length input → read_of input ≡ Err (read.Text text.TooLarge)
 unfolding read_of cut_of
 read_large input large = rw (lt-ltb text_limit (length input) large) refl
 
