@@ -10,4 +10,5 @@ mod rules;
 
 pub use fault::CvtFault;
 pub use printing::{print, print_command};
+pub use rule::Rule;
 pub use rules::Rules;

@@ -13,6 +13,6 @@ mod words;
 pub use lists::append_list;
 pub use members::append_member;
 pub use numbers::append_number;
-pub use parameters::append_defaults;
+pub use parameters::{append_defaults, append_param, scope_mark};
 pub use runas::append_runas;
 pub use words::{append_option, append_tag};

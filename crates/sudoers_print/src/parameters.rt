@@ -66,7 +66,11 @@ fn append_value(out: &mut Vec<u8>, value: &[u8]) -> Result<(), AllocError>
 }
 
 /// Appends a parameter.
-fn append_param(out: &mut Vec<u8>, param: &Param<'_>) -> Result<(), AllocError>
+///
+/// # Errors
+///
+/// Memory ran out.
+pub fn append_param(out: &mut Vec<u8>, param: &Param<'_>) -> Result<(), AllocError>
     ensures { OnOk result (out.new.items ≡ out.old.items ++ printed_param (param_shown param.now)) }
 {
     if param.negated {
@@ -99,7 +103,7 @@ fn append_params(out: &mut Vec<u8>, params: &Rows<'_, ParamRow>) -> Result<(), A
 }
 
 /// Returns the sign of a scope.
-fn scope_mark(kind: Kind) -> &'static [u8]
+pub fn scope_mark(kind: Kind) -> &'static [u8]
     ensures { result.now ≡ scope_mark kind }
 {
     match kind {

@@ -1,0 +1,4 @@
+pub mod Passing
+pub mod Held
+pub mod Floats
+pub mod Parts
