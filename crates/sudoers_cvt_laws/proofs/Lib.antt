@@ -1,0 +1,5 @@
+mod Clean
+mod Heads
+mod RuleLines
+mod Keys
+mod ReadLines

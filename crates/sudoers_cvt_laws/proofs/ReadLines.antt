@@ -1,0 +1,127 @@
+-- The printed text of the rules of a policy is a policy.
+use Rattle.std.proofs.Common.{◌≡◌, ℕ, ◌≤◌, ◌<◌, ◌&&◌, true, nat_le, List, [], ◌∷◌, ◌++◌, length, map, Result, Ok, refl, sym, ap, subst, ◌∙◌, arith}
+use Rattle.std.specs.List.{AllByRecursion, list_all}
+use Rattle.std.proofs.lemmas.Bool.{and_parts}
+use Rattle.std.proofs.lemmas.Bool.Decides.{nat_tests}
+use Rattle.sudoers_text.specs.Line.{join, Cuts, IsOpen}
+use Rattle.sudoers_text.specs.declared.fault.TextFault.{TextFault}
+use Rattle.sudoers_text.specs.declared.fault.TextFault.TheVariants.{TooLarge, LineTooLong, Nul, OpenContinuation, NoMemory}
+use Rattle.sudoers_text.specs.Fault.{text_limit, line_limit, StandsIn, IsCut}
+use Rattle.sudoers_text.specs.Whole.{IsLogicalLine}
+use Rattle.sudoers_line.specs.declared.node.Node.{Node}
+use Rattle.sudoers_tree.specs.Line.{Line}
+use Rattle.sudoers_tree.specs.declared.fault.ReadFault.{ReadFault}
+use Rattle.sudoers_tree.specs.Definition.{definitions}
+use Rattle.sudoers_tree.specs.Policy.{alias_limit, texts, SaysSo, IsPolicy}
+use Rattle.sudoers_tree.specs.Reading.{read_of, IsOutcome}
+use Rattle.sudoers_print.specs.Lines.{printed_line, printed_lines}
+use Rattle.sudoers_print_laws.specs.Writable.{IsWritable}
+use Rattle.sudoers_print_laws.specs.Same.{AllSame, IsSame, ReadsBack}
+use Rattle.sudoers_cvt.specs.Rules.{rules_of, lines_of, printed, fits}
+use Rattle.sudoers_cvt_laws.specs.ReadAs.{said_by, IsReadAs}
+use Rattle.sudoers_cvt_laws.proofs.Clean.{NoNul, none_of_clean, join_clean}
+use Rattle.sudoers_cvt_laws.proofs.Keys.{keys_of, node_keys, same_free, same_count, same_once, keys_since, rules_keys, same_keys}
+
+-- what the laws of printed lines say
+abbrev pub PrintLaw : Type 0
+PrintLaw = (n : Node) → IsWritable n → ReadsBack (printed_line n) n
+
+abbrev pub AloneLaw : Type 0
+AloneLaw = (n : Node) → IsWritable n → IsLogicalLine (printed_line n)
+
+abbrev pub CutLaw : Type 0
+CutLaw = (ns : List Node) → AllByRecursion IsWritable ns → Cuts (printed_lines ns) (map printed_line ns)
+
+-- what the laws of policies say
+abbrev pub ReadLaw : Type 0
+ReadLaw = (text : List ℕ) → IsOutcome text (read_of text)
+
+abbrev pub OneLaw : Type 0
+OneLaw = (text : List ℕ) (outcome other : Result (List Line) ReadFault) → IsOutcome text outcome → IsOutcome text other → outcome ≡ other
+
+-- ---- the cut
+
+at_place : {X : Type 0} → (P : X → Type 0) (xs before : List X) (x : X) (after : List X) → AllByRecursion P xs → xs ≡ before ++ x ∷ after → P x
+at_place {X = X} P xs before x after all e = at before (subst (AllByRecursion P) e all)
+  where
+    at : (before : List X) → AllByRecursion P (before ++ x ∷ after) → P x
+    at [] all = all.0
+    at (first ∷ before) all = at before all.1
+
+each_line : (P : List ℕ → Type 0) (Q : Node → Type 0) → ((n : Node) → Q n → P (printed_line n)) → (ns : List Node) → AllByRecursion Q ns → AllByRecursion P (map printed_line ns)
+each_line P Q law [] all = tt
+each_line P Q law (n ∷ ns) all = (law n all.0, each_line P Q law ns all.1)
+
+within : (m n : ℕ) → nat_le m n ≡ true → m ≤ n
+within m n e = grind (arith, nat_tests)
+
+too_long : (m n : ℕ) → m ≤ n → n < m → ⊥
+too_long m n e f = omega arith
+
+each_within : (ns : List Node) → list_all (λ n. nat_le (length (printed_line n)) line_limit) ns ≡ true → AllByRecursion (λ (t : List ℕ). length t ≤ line_limit) (map printed_line ns)
+each_within [] e = tt
+each_within (n ∷ ns) e =
+    let parts = and_parts (nat_le (length (printed_line n)) line_limit) (list_all (λ n. nat_le (length (printed_line n)) line_limit) ns) e in
+    (within (length (printed_line n)) line_limit parts.0, each_within ns parts.1)
+
+no_fault : AloneLaw → (ns : List Node) → AllByRecursion IsWritable ns → AllByRecursion (λ (t : List ℕ). length t ≤ line_limit) (map printed_line ns) → (fault : TextFault) (at : ℕ) → StandsIn (map printed_line ns) fault at → ⊥
+no_fault law ns all size TooLarge at is = is
+no_fault law ns all size (LineTooLong number) at is = too_long (length is.line) line_limit (at_place (λ (t : List ℕ). length t ≤ line_limit) (map printed_line ns) is.before is.line is.after size is.place) is.long
+no_fault law ns all size (Nul byte) at is = none_of_clean (join (map printed_line ns)) (join_clean (map printed_line ns) (each_line NoNul IsWritable (λ n h. (law n h).clean) ns all)) byte is.1
+no_fault law ns all size OpenContinuation at is = at_place (λ (t : List ℕ). IsOpen t → ⊥) (map printed_line ns) is.1.before is.1.last [] (each_line (λ (t : List ℕ). IsOpen t → ⊥) IsWritable (λ n h. (law n h).closed) ns all) is.1.place is.1.unfinished
+no_fault law ns all size NoMemory at is = is
+
+is_cut : AloneLaw → CutLaw → (ns : List Node) → AllByRecursion IsWritable ns → length (printed_lines ns) ≤ text_limit → list_all (λ n. nat_le (length (printed_line n)) line_limit) ns ≡ true → IsCut (printed_lines ns) (map printed_line ns)
+is_cut alone cut ns all size each = record { fits = size; cuts = cut ns all; sound = no_fault alone ns all (each_within ns each) }
+
+-- ---- the lines
+
+-- lines of the printed texts, which say the same
+record AreRead (ns : List Node) : Type 0 where
+  read : List Line
+  texts_are : texts read ≡ map printed_line ns
+  says : AllByRecursion SaysSo read
+  same : AllSame IsSame ns (said_by read)
+
+are_read : PrintLaw → (ns : List Node) → AllByRecursion IsWritable ns → AreRead ns
+are_read law [] all = record { read = []; texts_are = refl; says = tt; same = tt }
+are_read law (n ∷ ns) all =
+    let one = law n all.0 in
+    let more = are_read law ns all.1 in
+    record {
+      read = record { text = printed_line n; node = one.read } ∷ more.read;
+      texts_are = ap (λ ts. printed_line n ∷ ts) more.texts_are;
+      says = (one.reads, more.says);
+      same = (one.same, more.same);
+    }
+
+-- ---- the policy
+
+read_policy : (lines read : List Line) (ns : List Node) → IsPolicy lines → ns ≡ lines_of (rules_of lines) → IsCut (printed_lines ns) (map printed_line ns) → texts read ≡ map printed_line ns → AllByRecursion SaysSo read → AllSame IsSame ns (said_by read) → IsPolicy read
+read_policy lines read ns is e cut texts_are says same =
+    let keys : keys_of (definitions lines) ≡ keys_of (definitions read) =
+    keys_since 0 lines ∙ sym (rules_keys lines) ∙ sym (ap node_keys e) ∙ same_keys ns (said_by read) same ∙ sym (keys_since 0 read) in
+    record {
+      cut = subst (λ (ts : List (List ℕ)). IsCut (join ts) ts) (sym texts_are) (subst (λ (t : List ℕ). IsCut t (map printed_line ns)) (sym cut.cuts.joined) cut);
+      says = says;
+      free = same_free (definitions lines) (definitions read) keys is.free;
+      once = same_once (definitions lines) (definitions read) keys is.once;
+      few = λ k. subst (λ n. n ≤ alias_limit) (same_count k (definitions lines) (definitions read) keys) (is.few k);
+    }
+
+read_back : PrintLaw → AloneLaw → CutLaw → ReadLaw → OneLaw → (lines : List Line) (ns : List Node) → IsPolicy lines → ns ≡ lines_of (rules_of lines) → AllByRecursion IsWritable ns → (nat_le (length (printed_lines ns)) text_limit && list_all (λ n. nat_le (length (printed_line n)) line_limit) ns) ≡ true → IsReadAs (printed_lines ns) ns
+read_back print alone cut read one lines ns is e all size =
+    let both = and_parts (nat_le (length (printed_lines ns)) text_limit) (list_all (λ n. nat_le (length (printed_line n)) line_limit) ns) size in
+    let there = are_read print ns all in
+    let cut_there = is_cut alone cut ns all (within (length (printed_lines ns)) text_limit both.0) both.1 in
+    let policy = read_policy lines there.read ns is e cut_there there.texts_are there.says there.same in
+    let joined : join (texts there.read) ≡ printed_lines ns = ap join there.texts_are ∙ cut_there.cuts.joined in
+    record {
+      read = there.read;
+      is = one (printed_lines ns) (read_of (printed_lines ns)) (Ok there.read) (read (printed_lines ns)) (policy, joined);
+      same = there.same;
+    }
+
+-- The printed text of the rules of a policy is read as lines that say the same.
+pub rules_read : PrintLaw → AloneLaw → CutLaw → ReadLaw → OneLaw → ((lines : List Line) → IsPolicy lines → AllByRecursion IsWritable (lines_of (rules_of lines))) → (lines : List Line) → IsPolicy lines → fits (rules_of lines) ≡ true → IsReadAs (printed (rules_of lines)) (lines_of (rules_of lines))
+rules_read print alone cut read one written lines is size = read_back print alone cut read one lines (lines_of (rules_of lines)) is refl (written lines is) size

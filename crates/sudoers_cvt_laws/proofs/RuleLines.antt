@@ -1,0 +1,78 @@
+-- Each line of the rules of a policy can be written.
+use Rattle.std.proofs.Common.{◌≡◌, ℕ, false, List, [], ◌∷◌, ◌++◌, map, refl}
+use Rattle.std.specs.List.{AllByRecursion, flat_map}
+use Rattle.sudoers_line.specs.declared.node.Kind.{Kind}
+use Rattle.sudoers_line.specs.declared.node.Def.{Def}
+use Rattle.sudoers_line.specs.declared.node.Node.{Node}
+use Rattle.sudoers_line.specs.declared.node.Node.TheVariants as node
+use Rattle.sudoers_line.specs.Line.{ReadsLine}
+use Rattle.sudoers_line.specs.Piece.{has_byte}
+use Rattle.sudoers_text.specs.Line.{join}
+use Rattle.sudoers_text.specs.declared.fault.TextFault.TheVariants.{Nul}
+use Rattle.sudoers_tree.specs.Line.{Line}
+use Rattle.sudoers_tree.specs.Policy.{texts, SaysSo, IsPolicy}
+use Rattle.sudoers_print_laws.specs.Writable.{AreSome, IsWritableDef, IsWritable}
+use Rattle.sudoers_print_laws.specs.Readable.{IsReadable}
+use Rattle.sudoers_cvt.specs.Rules.{defaults_in, specs_in, one_def, defs_in, rules_of, lines_of}
+use Rattle.sudoers_cvt_laws.proofs.Clean.{NoNul, clean_of, each_clean}
+use Rattle.sudoers_cvt_laws.proofs.Heads.{all_append, groups_may}
+
+-- what the law of what is read says
+abbrev pub GivenLaw : Type 0
+GivenLaw = (line : List ℕ) (n : Node) → has_byte 0 line ≡ false → ReadsLine line n → IsReadable n
+
+-- ---- what one line gives
+
+each_def : (k : Kind) (ds : List Def) → AllByRecursion (IsWritableDef k) ds → AllByRecursion IsWritable (map (one_def k) ds)
+each_def k [] all = tt
+each_def k (d ∷ ds) all = (all.0, each_def k ds all.1)
+
+all_of : {X : Type 0} → (P : X → Type 0) (xs : List X) → AreSome P xs → AllByRecursion P xs
+all_of P [] some = tt
+all_of P (x ∷ xs) some = some
+
+defaults_written : (n : Node) → IsReadable n → AllByRecursion IsWritable (defaults_in n)
+defaults_written (node.Defaults scope params) is = (is, tt)
+defaults_written (node.Alias k ds) is = tt
+defaults_written (node.Spec users groups) is = tt
+defaults_written node.Blank is = tt
+defaults_written node.Comment is = tt
+defaults_written (node.Include dir path) is = tt
+
+defs_written : (n : Node) → IsReadable n → AllByRecursion IsWritable (defs_in n)
+defs_written (node.Defaults scope params) is = tt
+defs_written (node.Alias k ds) is = each_def k ds (all_of (IsWritableDef k) ds is)
+defs_written (node.Spec users groups) is = tt
+defs_written node.Blank is = tt
+defs_written node.Comment is = tt
+defs_written (node.Include dir path) is = tt
+
+specs_written : (n : Node) → IsReadable n → AllByRecursion IsWritable (specs_in n)
+specs_written (node.Defaults scope params) is = tt
+specs_written (node.Alias k ds) is = tt
+specs_written (node.Spec users groups) is = ((is.0, groups_may groups is.1), tt)
+specs_written node.Blank is = tt
+specs_written node.Comment is = tt
+specs_written (node.Include dir path) is = tt
+
+-- ---- what all lines give
+
+each_readable : GivenLaw → (lines : List Line) → AllByRecursion (λ (text : List ℕ). has_byte 0 text ≡ false) (texts lines) → AllByRecursion SaysSo lines → AllByRecursion (λ (line : Line). IsReadable line.node) lines
+each_readable law [] clean says = tt
+each_readable law (line ∷ lines) clean says = (law line.text line.node clean.0 says.0, each_readable law lines clean.1 says.1)
+
+from_each : (from : Node → List Node) → ((n : Node) → IsReadable n → AllByRecursion IsWritable (from n)) → (lines : List Line) → AllByRecursion (λ (line : Line). IsReadable line.node) lines → AllByRecursion IsWritable (flat_map (λ (line : Line). from line.node) lines)
+from_each from each [] all = tt
+from_each from each (line ∷ lines) all = all_append IsWritable (from line.node) (flat_map (λ (l : Line). from l.node) lines) (each line.node all.0) (from_each from each lines all.1)
+
+no_nul : (lines : List Line) → IsPolicy lines → NoNul (join (texts lines))
+no_nul lines is at e = is.cut.sound (Nul at) at (refl, e)
+
+-- Each line of the rules can be written.
+pub rules_written : GivenLaw → (lines : List Line) → IsPolicy lines → AllByRecursion IsWritable (lines_of (rules_of lines))
+rules_written law lines is =
+    let all = each_readable law lines (each_clean (texts lines) (clean_of (join (texts lines)) (no_nul lines is))) is.says in
+    let r = rules_of lines in
+    all_append IsWritable (r.defaults ++ r.defs) r.specs
+    (all_append IsWritable r.defaults r.defs (from_each defaults_in defaults_written lines all) (from_each defs_in defs_written lines all))
+    (from_each specs_in specs_written lines all)

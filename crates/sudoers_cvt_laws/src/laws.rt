@@ -1,0 +1,35 @@
+//! Laws of printed rules. Each is the contract of a function that does nothing.
+
+ghost use Rattle.std.specs.Prelude.{◌≡◌, true, List};
+ghost use Rattle.std.specs.List.{AllByRecursion};
+ghost use Rattle.sudoers_tree.specs.Line.{Line as LineOf};
+ghost use Rattle.sudoers_tree.specs.Policy.{IsPolicy};
+ghost use Rattle.sudoers_print_laws.specs.Writable.{IsWritable};
+ghost use Rattle.sudoers_cvt.specs.Rules.{rules_of, lines_of, printed, fits};
+ghost use Rattle.sudoers_cvt_laws.specs.ReadAs.{IsReadAs};
+
+use sudoers_print_laws::{
+    printed_line_is_line, printed_line_is_read, printed_lines_are_cut, read_can_be_written,
+};
+use sudoers_tree::{one_outcome, read_is};
+
+/// Each line of the rules of a policy can be written.
+pub fn rules_can_be_written()
+    ensures { (lines : List LineOf) → IsPolicy lines → AllByRecursion IsWritable (lines_of (rules_of lines)) }
+{
+    read_can_be_written();
+}
+
+/// The text that is printed of the rules of a policy, if it is within the limits, is a policy. Its lines say the same as those of the
+/// rules, one by one.
+pub fn printed_rules_are_read()
+    ensures { (lines : List LineOf) → IsPolicy lines → fits (rules_of lines) ≡ true
+        → IsReadAs (printed (rules_of lines)) (lines_of (rules_of lines)) }
+{
+    rules_can_be_written();
+    printed_line_is_read();
+    printed_line_is_line();
+    printed_lines_are_cut();
+    read_is();
+    one_outcome();
+}

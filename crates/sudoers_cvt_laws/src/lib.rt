@@ -1,0 +1,6 @@
+//! Laws of printed rules: what `sudoers_cvt` prints is a policy, of the rules that were printed.
+#![tactic(auto)]
+
+mod laws;
+
+pub use laws::{printed_rules_are_read, rules_can_be_written};
