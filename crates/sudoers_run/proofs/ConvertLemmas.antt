@@ -6,10 +6,11 @@ use Rattle.sudoers_tree.specs.declared.fault.ReadFault.TheVariants as read
 use Rattle.sudoers_run.specs.declared.fault.LayerFault.TheVariants as layer
 use Rattle.sudoers_run.specs.declared.fault.ToolFault.{ToolFault}
 use Rattle.sudoers_run.specs.declared.fault.ToolFault.TheVariants as tool
+use Rattle.sudoers_run.specs.declared.form.Form.{Form}
 use Rattle.sudoers_run.specs.Convert.{convert_read, TellsConvert}
 use Rattle.sudoers_run.proofs.ShowLemmas.{read_large}
 
-pub tells_large : (known : Option (List ℕ)) (fault : ToolFault) → fault ≡ tool.Layer (layer.Policy (read.Text text.TooLarge))
-    → IfSome known (λ (input : List ℕ). text_limit < length input) → IfSome known (TellsConvert fault)
-tells_large None fault is large = tt
-tells_large (Some input) fault is large = subst (λ f. TellsConvert f input) (sym is) (inr (ap convert_read (read_large input large)))
+pub tells_large : (f : Form) (known : Option (List ℕ)) (fault : ToolFault) → fault ≡ tool.Layer (layer.Policy (read.Text text.TooLarge))
+    → IfSome known (λ (input : List ℕ). text_limit < length input) → IfSome known (TellsConvert f fault)
+tells_large f None fault is large = tt
+tells_large f (Some input) fault is large = subst (λ x. TellsConvert f x input) (sym is) (inr (ap (convert_read f) (read_large input large)))

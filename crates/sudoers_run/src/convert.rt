@@ -1,4 +1,4 @@
-//! The rules of a policy, printed anew.
+//! The rules of a policy, in another form.
 ghost use Rattle.std.specs.Prelude.{◌≡◌, ◌≢◌, ◌⊎◌, ◌+◌, ◌<◌, ◌≤◌, length, Ok, Err, IfOk, IfErr, IfSome, IsOkAnd, MatchResult, min, ◌-◌, ◌^◌};
 ghost use Rattle.std.specs.Io.KnownBytes.{Keeps, Appends};
 ghost use Rattle.sudoers_text.specs.Fault.{text_limit};
@@ -6,39 +6,42 @@ ghost use Rattle.sudoers_cvt.specs.Rules.{rules_of};
 ghost use Rattle.sudoers_run.specs.Device.{Rose, Reads, Writes, AppendsFront, counted_by};
 ghost use Rattle.sudoers_run.specs.Program.{pull_limit, TellsLayer};
 ghost use Rattle.sudoers_run.specs.Show.{StopsShow, NeedsShowEnd};
-ghost use Rattle.sudoers_run.specs.Convert.{convert_output, converted, TellsConvert, IsRulesFault, IsConvertFault};
+ghost use Rattle.sudoers_run.specs.Convert.{convert_output, converted, form_fault, TellsConvert, IsRulesFault, IsConvertFault};
 
 use crate::device::{Sink, Source};
 use crate::fault::{LayerFault, ToolFault};
+use crate::form::Form;
 use crate::program::{read_all, write_all};
 use crate::show::too_large;
 use std::alloc::Global;
-use sudoers_cvt::{CvtFault, Rules, print};
+use sudoers_cvt::{Rules, print};
+use sudoers_json::json;
 use sudoers_text::{TEXT_LIMIT, TextFault};
 use sudoers_tree::{Policy, ReadFault};
 
-/// Reads a policy file, and writes its rules anew as the text of a policy: all Defaults lines, then all definitions of aliases, then
-/// all user specifications (cvtsudoers(1)).
+/// Reads a policy file, and writes its rules in the form `form`: as the text of a policy, all Defaults lines, then all definitions of
+/// aliases, then all user specifications; or as JSON (cvtsudoers(1)).
 ///
 /// # Errors
 ///
-/// [`ToolFault`]: of reading, then of the file, then of the limits of what is printed, then of writing. Nothing is written before a
-/// fault other than `Write`.
+/// [`ToolFault`]: of reading, then of the file, then of the limits of a policy or of bytes that are no UTF-8, then of writing. Nothing
+/// is written before a fault other than `Write`.
 pub fn run_convert<R: Source, W: Sink>(
     alloc: Global,
     reader: &mut R,
+    form: Form,
     writer: &mut W,
 ) -> Result<u8, ToolFault>
     // Status 0, and what is written is the stated function of what is read.
     ensures ok { IfOk result (λ status. (status ≡ 0) × IfSome (R.remaining reader.old) (λ input.
-        IsOkAnd (convert_output input) (Appends (W.contents writer.old) (W.contents writer.new)))) }
+        IsOkAnd (convert_output form input) (Appends (W.contents writer.old) (W.contents writer.new)))) }
     // A fault of the file is the stated one.
-    ensures fault { IfErr result (λ fault. IfSome (R.remaining reader.old) (TellsConvert fault)) }
+    ensures fault { IfErr result (λ fault. IfSome (R.remaining reader.old) (TellsConvert form fault)) }
     // There are no other faults.
-    ensures named { IfErr result IsConvertFault }
+    ensures named { IfErr result (IsConvertFault form) }
     // After `Write`, what was written is a beginning of the output.
     ensures front { result ≡ Err ToolFault.Write → IfSome (R.remaining reader.old) (λ input.
-        IsOkAnd (convert_output input) (AppendsFront (W.contents writer.old) (W.contents writer.new))) }
+        IsOkAnd (convert_output form input) (AppendsFront (W.contents writer.old) (W.contents writer.new))) }
     // `Read` means that the reader failed, and `Write` that the writer failed, as their counts show. The reader is asked at most
     // `pull_limit` times. `NoEnd` comes only after that many calls with room for a byte.
     ensures reads { Reads pull_limit result (R.Source.failures reader.old) (R.Source.failures reader.new)
@@ -57,27 +60,29 @@ pub fn run_convert<R: Source, W: Sink>(
         Err(ToolFault::InputTooLarge) => return Err(too_large()),
         Err(fault) => return Err(fault),
     };
-    let output = convert_text(alloc, input.as_slice())?;
+    let output = convert_text(alloc, input.as_slice(), form)?;
     write_all(writer, output.as_slice())?;
     Ok(0)
 }
 
-/// Returns the rules of the policy that a text is, printed anew.
-fn convert_text(alloc: Global, input: &[u8]) -> Result<Vec<u8>, LayerFault>
-    ensures converted { MatchResult result (λ out. convert_output input.now ≡ Ok out.items)
-        (λ fault. TellsLayer fault (convert_output input.now) × IsRulesFault fault) }
+/// Returns the rules of the policy that a text is, in this form.
+fn convert_text(alloc: Global, input: &[u8], form: Form) -> Result<Vec<u8>, LayerFault>
+    ensures converted { MatchResult result (λ out. convert_output form input.now ≡ Ok out.items)
+        (λ fault. TellsLayer fault (convert_output form input.now) × IsRulesFault form fault) }
     ensures size { IfErr result (λ fault. fault ≡ LayerFault.Policy (ReadFault.Text TextFault.TooLarge) → text_limit < length input.now) }
 {
     let policy = Policy::read(alloc, input)?;
-    convert_policy(alloc, &policy)
+    convert_policy(alloc, &policy, form)
 }
 
-/// Returns the rules of a policy, printed anew.
-fn convert_policy(alloc: Global, policy: &Policy) -> Result<Vec<u8>, LayerFault>
-    ensures { MatchResult result (λ out. converted (rules_of policy.now) ≡ Ok out.items)
-        (λ fault. (fault ≡ LayerFault.NoMemory) ⊎ ((converted (rules_of policy.now) ≡ Err fault) × (fault ≡ LayerFault.Convert CvtFault.TooLarge))) }
+/// Returns the rules of a policy in this form.
+fn convert_policy(alloc: Global, policy: &Policy, form: Form) -> Result<Vec<u8>, LayerFault>
+    ensures { MatchResult result (λ out. converted form (rules_of policy.now) ≡ Ok out.items)
+        (λ fault. (fault ≡ LayerFault.NoMemory) ⊎ ((converted form (rules_of policy.now) ≡ Err fault) × (fault ≡ LayerFault.Convert (form_fault form)))) }
 {
     let rules = Rules::of(alloc, policy)?;
-    let text = print(alloc, &rules)?;
-    Ok(text)
+    match form {
+        Form::Sudoers => Ok(print(alloc, &rules)?),
+        Form::Json => Ok(json(alloc, &rules)?),
+    }
 }

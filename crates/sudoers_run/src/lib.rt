@@ -5,6 +5,7 @@ mod check;
 mod convert;
 mod device;
 mod fault;
+mod form;
 mod program;
 mod show;
 
@@ -12,5 +13,6 @@ pub use check::run_check;
 pub use convert::run_convert;
 pub use device::{Counted, DeviceFailed, Pulled, Sink, Source};
 pub use fault::{LayerFault, ToolFault, fault_text};
+pub use form::Form;
 pub use program::run_edit;
 pub use show::run_show;

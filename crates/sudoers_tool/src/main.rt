@@ -7,7 +7,9 @@ use std::alloc::{AllocError, Global};
 use std::io::Write;
 use std::process::ExitCode;
 use std::{fs, io};
-use sudoers_run::{Counted, ToolFault, fault_text, run_check, run_convert, run_edit, run_show};
+use sudoers_run::{
+    Counted, Form, ToolFault, fault_text, run_check, run_convert, run_edit, run_show,
+};
 
 /// The policy's name in the texts of the faults of `edit`.
 const POLICY: &str = "policy";
@@ -16,7 +18,7 @@ const POLICY: &str = "policy";
 const STDIN: &str = "-";
 
 /// The forms in which `convert` prints.
-static FORMS: [&str; 1] = ["sudoers"];
+static FORMS: [&str; 2] = ["sudoers", "json"];
 
 /// What `--version` prints after the program's name.
 const VERSION: &str = "0.5.0";
@@ -69,7 +71,7 @@ fn obey(rt: &HostRuntime, matches: &ArgMatches<'_>) -> ExitCode {
         }
         Some(("convert", words)) => {
             let file = words.get_str("FILE").unwrap_or(STDIN);
-            (file, convert_file(rt, file))
+            (file, convert_file(rt, file, form_of(words)))
         }
         _ => (POLICY, edit_streams(rt)),
     };
@@ -123,7 +125,7 @@ fn convert_words<'a>(alloc: Global) -> Result<Command<'a>, AllocError> {
         .long("form")
         .required(true)
         .value_parser(FORMS.as_slice())
-        .help("Form of the output: sudoers")
+        .help("Form of the output: sudoers or json")
         .hide_possible_values(true);
     Command::new(alloc, "convert")
         .about("Print the rules of a policy anew, as text without comments")
@@ -172,14 +174,22 @@ fn show_file(rt: &HostRuntime, file: &str) -> Result<u8, ToolFault> {
     run_show(rt.alloc(), &mut Counted::new(opened), &mut writer)
 }
 
+/// Returns the form that the words of `convert` name.
+fn form_of(words: &ArgMatches<'_>) -> Form {
+    match words.get_str("FORM") {
+        Some("json") => Form::Json,
+        _ => Form::Sudoers,
+    }
+}
+
 /// Converts a file, or standard input.
-fn convert_file(rt: &HostRuntime, file: &str) -> Result<u8, ToolFault> {
+fn convert_file(rt: &HostRuntime, file: &str, form: Form) -> Result<u8, ToolFault> {
     let mut writer = Counted::new(rt.stdout());
     if file == STDIN {
-        return run_convert(rt.alloc(), &mut Counted::new(rt.stdin()), &mut writer);
+        return run_convert(rt.alloc(), &mut Counted::new(rt.stdin()), form, &mut writer);
     }
     let opened = open(rt, file)?;
-    run_convert(rt.alloc(), &mut Counted::new(opened), &mut writer)
+    run_convert(rt.alloc(), &mut Counted::new(opened), form, &mut writer)
 }
 
 /// Checks a file, or standard input.
