@@ -41,7 +41,7 @@ option_back option.Timeout = refl
 option_back option.Cwd = refl
 option_back option.Chroot = refl
 
-same_option : (name other : OptionName) → (option_place name == option_place other) ≡ true → name ≡ other
+pub same_option : (name other : OptionName) → (option_place name == option_place other) ≡ true → name ≡ other
 same_option name other e = sym (option_back name) ∙ ap option_at (eqb-true (option_place name) (option_place other) e) ∙ option_back other
 
 -- the option may have what is said of it

@@ -3,3 +3,6 @@ mod Heads
 mod RuleLines
 mod Keys
 mod ReadLines
+mod Prints
+mod Twice
+mod Second

@@ -1,9 +1,10 @@
 //! Laws of printed rules. Each is the contract of a function that does nothing.
 
-ghost use Rattle.std.specs.Prelude.{◌≡◌, true, List};
+ghost use Rattle.std.specs.Prelude.{◌≡◌, true, List, Ok};
 ghost use Rattle.std.specs.List.{AllByRecursion};
 ghost use Rattle.sudoers_tree.specs.Line.{Line as LineOf};
 ghost use Rattle.sudoers_tree.specs.Policy.{IsPolicy};
+ghost use Rattle.sudoers_tree.specs.Reading.{read_of};
 ghost use Rattle.sudoers_print_laws.specs.Writable.{IsWritable};
 ghost use Rattle.sudoers_cvt.specs.Rules.{rules_of, lines_of, printed, fits};
 ghost use Rattle.sudoers_cvt_laws.specs.ReadAs.{IsReadAs};
@@ -32,4 +33,12 @@ pub fn printed_rules_are_read()
     printed_lines_are_cut();
     read_is();
     one_outcome();
+}
+
+/// What is read of the printed rules of a policy gives rules that are printed as the same text.
+pub fn second_printing_is_same()
+    ensures { (lines read : List LineOf) → IsPolicy lines → fits (rules_of lines) ≡ true
+        → read_of (printed (rules_of lines)) ≡ Ok read → printed (rules_of read) ≡ printed (rules_of lines) }
+{
+    printed_rules_are_read();
 }

@@ -3,4 +3,4 @@
 
 mod laws;
 
-pub use laws::{printed_rules_are_read, rules_can_be_written};
+pub use laws::{printed_rules_are_read, rules_can_be_written, second_printing_is_same};
