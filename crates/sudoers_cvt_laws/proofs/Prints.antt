@@ -129,8 +129,7 @@ same_filled h g (c ∷ cs) [] runas options tags same = absurd same
 same_filled h g (c ∷ cs) (d ∷ ds) runas options tags same =
     let head = same_runas_or c.runas d.runas h.runas g.runas same.0.runas runas in
     let os = ap₂ (λ x y. x ++ y) options same.0.options in
-    let ts = ap₂ (λ x y. x ++ y) tags same.0.tags in
-    (
+    let ts = ap₂ (λ x y. x ++ y) tags same.0.tags in (
       record { runas = head; options = ap (λ all. listed (option_of all)) os; tags = ap (λ all. listed_tags (tag_of all)) ts; member = same.0.member },
       same_filled (inherit h c) (inherit g d) cs ds head os ts same.1,
     )
