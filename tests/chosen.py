@@ -80,6 +80,8 @@ CONVERTS = (
     "each_form_of_runas_spec",
     "defaults_values_that_become_words",
     "options_are_inherited_one_by_one",
+    "convert_of_standard_input_to_json",
+    "json_of_a_path_that_is_no_utf_8",
 )
 
 # Folders that run under every refusal of memory alone: they read no standard input.

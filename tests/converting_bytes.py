@@ -5,10 +5,11 @@ goes there raw, after a backslash, in quotes or by its number. Each place makes 
 that may be there. Line by line its output has to be what the rules say.
 """
 
+import json
 import re
 from dataclasses import dataclass
 
-from program import Wanted, run
+from program import Wanted, fault, run
 from tally import difference
 
 ALL = frozenset(range(256))
@@ -262,3 +263,35 @@ def run_sudoers(program, tally):
         problems += difference("lines", len(lines), len(came))
         problems += Wanted(answer.stdout).problems(run(program, words, answer.stdout))
         tally.note(f"sudoers, {place.name}", problems)
+
+
+def texts_of(value):
+    """The texts of a JSON value, without its keys, in their order."""
+    if isinstance(value, str):
+        return [value]
+    parts = value.values() if isinstance(value, dict) else value if isinstance(value, list) else []
+    return [text for part in parts for text in texts_of(part)]
+
+
+def json_problems(text, lines):
+    """Where the texts of a JSON value are not those of the printed lines: one alias, Defaults line or specification a line."""
+    value = json.loads(text)
+    entries = value["defaults"] + value["aliases"] + value["specs"]
+    problems = difference("entries", len(lines), len(entries))
+    for entry, line in zip(entries, lines):
+        problems += [f"{part!r} is not in {line!r}" for part in texts_of(entry) if part.encode() not in line]
+    return problems
+
+
+def run_json(program, tally):
+    """Prints each byte of ASCII in each place as JSON. No other byte is UTF-8 alone."""
+    words = ("convert", "-f", "json", "-")
+    ascii_bytes = frozenset(range(128))
+    for place in PLACES:
+        policy, lines = policy_of(place, ascii_bytes)
+        answer = run(program, words, policy)
+        problems = Wanted(None).problems(answer) or json_problems(answer.stdout, lines)
+        tally.note(f"json, {place.name}", problems)
+        for byte in sorted(place.bytes - ascii_bytes):
+            answer = run(program, words, place.line(byte) + b"\n")
+            tally.note(f"json, {place.name}, byte {byte}", fault("NotUtf8").problems(answer))

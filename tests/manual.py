@@ -54,7 +54,7 @@ TERMS = (
 CARRIED = "ERROR"
 
 # Variants with a text that no command prints: DIAGNOSTICS says nothing of them.
-NEVER_PRINTED = {("CvtFault", "Cycle"), ("CvtFault", "NotUtf8")}
+NEVER_PRINTED = {("CvtFault", "Cycle")}
 
 # What mandoc says about the other pages of the machine, and not about this one.
 OF_THE_MACHINE = ("referenced manual not found", "outdated mandoc.db")

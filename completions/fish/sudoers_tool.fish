@@ -30,6 +30,6 @@ complete -c sudoers_tool -n __fish_use_subcommand -a help -d 'Print help'
 complete -c sudoers_tool -n __fish_use_subcommand -a show -d 'Print the lines of a policy'
 complete -c sudoers_tool -n '__fish_seen_subcommand_from check' -s q -d 'Print nothing; only set the exit status'
 complete -c sudoers_tool -n '__fish_seen_subcommand_from check' -s s -d 'Treat undefined and cyclic aliases as errors'
-complete -c sudoers_tool -n '__fish_seen_subcommand_from convert' -s f -l form -x -a sudoers -d 'Form of the output: sudoers'
+complete -c sudoers_tool -n '__fish_seen_subcommand_from convert' -s f -l form -x -a 'json sudoers' -d 'Form of the output: sudoers or json'
 complete -c sudoers_tool -n '__sudoers_tool_argument_of check convert show' -F
 complete -c sudoers_tool -n '__sudoers_tool_argument_of help' -a 'check convert edit show'
