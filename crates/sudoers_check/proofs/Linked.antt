@@ -298,10 +298,10 @@ refuted : (b : Bool) → (b ≡ true → ⊥) → b ≡ false
 refuted true h = absurd (h refl)
 refuted false h = refl
 
-pub used_marks : (lines : List Line) (marks : List Bool) → IsPolicy lines
+pub used_marks : (lines : List Line) (marks : List Bool) → AreOnce (definitions lines)
     → Marks (IsReached (graph_of (definitions lines)) (roots_since (definitions lines) 0 lines)) (length (graph_of (definitions lines))) marks
     → marks ≡ map (is_used lines) (definitions lines)
-used_marks lines marks policy are =
+used_marks lines marks once are =
     marks_are (is_used lines) marks (definitions lines) (are.size ∙ graph_length (definitions lines)) each
   where
     each : (i : ℕ) (d : Definition) (b : Bool) → slice_get (definitions lines) i ≡ Some d → slice_get marks i ≡ Some b → is_used lines d ≡ b
@@ -310,7 +310,7 @@ used_marks lines marks policy are =
         (names_led (definitions lines) (Has (roots_since (definitions lines) 0 lines)) (λ k. Has (roots k lines)) (roots_begun lines) i (are.holds i mark) d at)))
     each i d false at mark =
         ap not (decided (is_unused lines d) (λ e. are.fails i mark
-        (numbers_led (definitions lines) policy.once (Has (roots_since (definitions lines) 0 lines)) d.kind (Has (roots d.kind lines))
+        (numbers_led (definitions lines) once (Has (roots_since (definitions lines) 0 lines)) d.kind (Has (roots d.kind lines))
         (λ name j h number. said_roots (definitions lines) 0 lines d.kind name j h number) d.def.name
         (used_is lines d (at_has (definitions lines) i d at) e) i d at refl refl)))
 

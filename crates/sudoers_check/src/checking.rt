@@ -2,7 +2,7 @@
 
 ghost use Rattle.std.specs.Prelude.{◌≡◌, ◌++◌, ◌⊎◌, ◌↔◌, IsTrue, List, true, false, length, map, Ok, Err, IfOk, IfErr, OnOk};
 ghost use Rattle.sudoers_reader.specs.View.{node_shown};
-ghost use Rattle.sudoers_tree.specs.Line.{Line as LineOf};
+ghost use Rattle.sudoers_tree.specs.Line.{Line as LineOf, lines_shown};
 ghost use Rattle.sudoers_tree.specs.Definition.{definitions, Definition};
 ghost use Rattle.sudoers_tree.specs.Reading.{read_of};
 ghost use Rattle.sudoers_check.specs.Chains.{HasReachableCycle};
@@ -19,7 +19,7 @@ use crate::numbers::Numbers;
 use crate::report::Report;
 use crate::walk::Walk;
 use std::alloc::{AllocError, Global};
-use sudoers_tree::{Kind, Node, Place, Policy, ReadFault};
+use sudoers_tree::{Kind, LineRow, Node, Place, Policy, ReadFault, Rows};
 
 /// Returns what is to be noted of the aliases of a policy (visudo(8)).
 ///
@@ -31,7 +31,7 @@ pub fn check(alloc: Global, policy: &Policy) -> Result<Report, AllocError>
 {
     let numbers = Numbers::new(alloc, policy)?;
     let graph = numbers.graph(alloc)?;
-    let reached = reached(alloc, &numbers, &graph)?;
+    let reached = reached(alloc, &numbers, &graph, &policy.lines())?;
     let cyclic = cyclic(alloc, &numbers, &graph)?;
     Ok(Report {
         undefined: undefined_notes(alloc, policy)?,
@@ -65,7 +65,7 @@ pub fn unused(alloc: Global, policy: &Policy) -> Result<Vec<(Kind, Place)>, Allo
 {
     let numbers = Numbers::new(alloc, policy)?;
     let graph = numbers.graph(alloc)?;
-    let reached = reached(alloc, &numbers, &graph)?;
+    let reached = reached(alloc, &numbers, &graph, &policy.lines())?;
     unmarked(alloc, policy, reached.as_slice())
 }
 
@@ -112,13 +112,39 @@ fn unmarked(
     Ok(places)
 }
 
-/// Returns a mark for each definition: whether a user specification or a Defaults line leads to it.
-fn reached(alloc: Global, numbers: &Numbers<'_>, graph: &Graph) -> Result<Vec<bool>, AllocError>
-    requires { graph.now ≡ graph_of (definitions numbers.now.policy.now) }
-    ensures { IfOk result (λ marks. marks.items ≡ map (is_used numbers.now.policy.now) (definitions numbers.now.policy.now)) }
+/// Returns a mark for each definition of `policy`: whether a user specification or a Defaults line among `lines` leads to it. The lines
+/// define what the policy defines.
+///
+/// # Errors
+///
+/// Memory ran out.
+pub fn mark_used(
+    alloc: Global,
+    policy: &Policy,
+    lines: &Rows<'_, LineRow>,
+) -> Result<Vec<bool>, AllocError>
+    requires { definitions (lines_shown lines.now) ≡ definitions policy.now }
+    ensures { IfOk result (λ marks. marks.items ≡ map (is_used (lines_shown lines.now)) (definitions (lines_shown lines.now))) }
+{
+    let numbers = Numbers::new(alloc, policy)?;
+    let graph = numbers.graph(alloc)?;
+    reached(alloc, &numbers, &graph, lines)
+}
+
+/// Returns a mark for each definition: whether a user specification or a Defaults line among `lines` leads to it. The lines define what
+/// the policy defines.
+fn reached(
+    alloc: Global,
+    numbers: &Numbers<'_>,
+    graph: &Graph,
+    lines: &Rows<'_, LineRow>,
+) -> Result<Vec<bool>, AllocError>
+    requires graph { graph.now ≡ graph_of (definitions numbers.now.policy.now) }
+    requires same { definitions (lines_shown lines.now) ≡ definitions numbers.now.policy.now }
+    ensures { IfOk result (λ marks. marks.items ≡ map (is_used (lines_shown lines.now)) (definitions (lines_shown lines.now))) }
 {
     numbers.policy.is_policy();
-    let roots = numbers.roots(alloc)?;
+    let roots = numbers.roots(alloc, lines)?;
     let marks = graph.reached(alloc, roots.as_slice())?;
     Ok(marks)
 }

@@ -4,6 +4,7 @@ ghost use Rattle.std.specs.Prelude.{◌≡◌, ◌≢◌, ◌<◌, ◌≤◌, �
 ghost use Rattle.sudoers_line.specs.declared.node.Def.{Def as DefOf};
 ghost use Rattle.sudoers_reader.specs.View.{defs_shown, members_shown, node_shown};
 ghost use Rattle.sudoers_tree.specs.Definition.{definitions, definitions_in};
+ghost use Rattle.sudoers_tree.specs.Line.{lines_shown};
 ghost use Rattle.sudoers_check.specs.Chains.{names_in};
 ghost use Rattle.sudoers_check.specs.declared.numbers.First.{First as FirstOf};
 ghost use Rattle.sudoers_check.specs.Numbers.{first_of, firsts_since, number_of, numbers_of, nodes_of, graph_of, roots_since, numbers_among};
@@ -13,7 +14,7 @@ use crate::graph::Graph;
 use crate::lines::{count_definitions, is_rooting};
 use crate::mentioned::mentioned_in;
 use std::alloc::{AllocError, Global};
-use sudoers_tree::{Atom, DefRow, Kind, MemberRow, Node, Policy, Rows};
+use sudoers_tree::{Atom, DefRow, Kind, LineRow, MemberRow, Node, Policy, Rows};
 
 /// A line that defines aliases, and how many definitions stand before it.
 #[derive(Clone, Copy)]
@@ -172,13 +173,12 @@ impl<'a> Numbers<'a> {
         Ok(numbers)
     }
 
-    /// Returns the numbers of the definitions that user specifications and Defaults lines mention.
-    pub fn roots(&self, alloc: Global) -> Result<Vec<usize>, AllocError>
+    /// Returns the numbers of the definitions that the user specifications and Defaults lines among `lines` mention.
+    pub fn roots(&self, alloc: Global, lines: &Rows<'_, LineRow>) -> Result<Vec<usize>, AllocError>
         ensures { IfOk result (λ roots. roots.items
-            ≡ roots_since (definitions self.now.policy.now) 0 self.now.policy.now) }
+            ≡ roots_since (definitions self.now.policy.now) 0 (lines_shown lines.now)) }
     {
         let mut roots = Vec::new(alloc);
-        let lines = self.policy.lines();
         for (number, row) in lines.rows.iter().enumerate() {
             let node = lines.tables.node(&row.node);
             if is_rooting(&node) {

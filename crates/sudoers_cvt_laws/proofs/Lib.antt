@@ -1,8 +1,17 @@
-mod Clean
-mod Heads
-mod RuleLines
-mod Keys
-mod ReadLines
-mod Prints
-mod Twice
-mod Second
+pub mod Clean
+pub mod Heads
+pub mod RuleLines
+pub mod Parts
+pub mod ReadBack
+pub mod Aliases
+pub mod Keys
+pub mod ReadLines
+pub mod Prints
+pub mod Twice
+pub mod Second
+pub mod SettingsAlike
+pub mod HeadsAlike
+pub mod RowsAlike
+pub mod RootsAlike
+pub mod SameAnswers
+pub mod SameCycles

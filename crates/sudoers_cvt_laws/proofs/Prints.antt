@@ -1,8 +1,10 @@
 -- Lines that say the same are printed alike, and so are their rules.
-use Rattle.std.proofs.Common.{◌≡◌, ℕ, Bool, true, false, List, [], ◌∷◌, ◌++◌, Option, Some, None, map, refl, sym, ap, ap₂, ◌∙◌, append_assoc}
+use Rattle.std.proofs.Common.{◌≡◌, ℕ, Bool, true, false, List, [], ◌∷◌, ◌++◌, Option, Some, None, map, refl, sym, ap, ap₂, ◌∙◌}
 use Rattle.std.specs.Prelude.{◌&&◌, not, codes, if◌then◌else◌}
 use Rattle.std.specs.Option.{option_or}
 use Rattle.std.specs.List.{flat_map, join_by}
+use Rattle.std.proofs.lemmas.List.{map-append}
+use Rattle.sudoers_text.specs.Line.{join}
 use Rattle.sudoers_line.specs.declared.node.Kind.{Kind}
 use Rattle.sudoers_line.specs.declared.node.Kind.TheVariants.{User, Runas, Host, Cmnd}
 use Rattle.sudoers_line.specs.declared.node.Atom.{Atom}
@@ -23,10 +25,10 @@ use Rattle.sudoers_print.specs.Spelling.{escaped, guarded}
 use Rattle.sudoers_print.specs.Hosts.{reads_as_host, printed_host}
 use Rattle.sudoers_print.specs.Members.{printed_atom, printed_digests, sign, printed_member, printed_list}
 use Rattle.sudoers_print.specs.Commands.{printed_inside, printed_front, printed_options, printed_tags, printed_command}
-use Rattle.sudoers_print.specs.Parameters.{scope_mark, printed_scope, printed_params, printed_defaults}
-use Rattle.sudoers_print.specs.Lines.{printed_def, printed_group, printed_spec, printed_line, printed_lines}
+use Rattle.sudoers_print.specs.Parameters.{scope_mark, printed_scope, printed_params}
+use Rattle.sudoers_print.specs.Lines.{printed_def, printed_group, printed_line, printed_lines}
 use Rattle.sudoers_print_laws.specs.Same.{read_back, IsSameMember, AllSame, IsSameDef, IsSameRunas, IsSameCmd, IsSameGroup, IsSameScope, IsSame}
-use Rattle.sudoers_cvt.specs.Effective.{listed_tags, effective_command, effective_commands, effective_group, effective}
+use Rattle.sudoers_cvt.specs.Effective.{listed_tags, effective_command, effective_group}
 use Rattle.sudoers_cvt.specs.Rules.{defaults_in, specs_in, one_def, defs_in}
 
 -- ---- members
@@ -154,44 +156,45 @@ same_scope (Some s) (Some t) same =
 same_def : (k : Kind) (d e : Def) → IsSameDef d e → printed_def k d ≡ printed_def k e
 same_def k d e same = ap₂ (λ (x y : List ℕ). x ++ codes " = " ++ y) same.name (same_list false k d.members e.members same.members)
 
-same_defs : (k : Kind) (ds es : List Def) → AllSame IsSameDef ds es → printed_lines (map (one_def k) ds) ≡ printed_lines (map (one_def k) es)
+same_defs : (k : Kind) (ds es : List Def) → AllSame IsSameDef ds es → map printed_line (map (one_def k) ds) ≡ map printed_line (map (one_def k) es)
 same_defs k [] [] same = refl
 same_defs k [] (e ∷ es) same = absurd same
 same_defs k (d ∷ ds) [] same = absurd same
-same_defs k (d ∷ ds) (e ∷ es) same = ap₂ (λ (x y : List ℕ). (kind_name k ++ codes " " ++ (x ++ []) ++ codes "\n") ++ y) (same_def k d e same.0) (same_defs k ds es same.1)
+same_defs k (d ∷ ds) (e ∷ es) same = ap₂ (λ (x : List ℕ) (y : List (List ℕ)). (kind_name k ++ codes " " ++ (x ++ []) ++ codes "\n") ∷ y) (same_def k d e same.0) (same_defs k ds es same.1)
 
 -- Lines that say the same give rules that are printed alike.
-pub same_defaults_in : (n m : Node) → IsSame n m → printed_lines (defaults_in n) ≡ printed_lines (defaults_in m)
+pub same_defaults_in : (n m : Node) → IsSame n m → map printed_line (defaults_in n) ≡ map printed_line (defaults_in m)
 same_defaults_in (node.Defaults scope params) (node.Defaults other settings) same =
-    ap₂ (λ (x y : List ℕ). (codes "Defaults" ++ x ++ codes " " ++ y ++ codes "\n") ++ []) (same_scope scope other same.0) (ap printed_params same.1)
+    ap₂ (λ (x y : List ℕ). (let line : List ℕ = codes "Defaults" ++ x ++ codes " " ++ y ++ codes "\n" in line) ∷ []) (same_scope scope other same.0) (ap printed_params same.1)
 same_defaults_in (node.Alias k ds) (node.Alias j es) same = refl
 same_defaults_in (node.Spec users groups) (node.Spec others places) same = refl
 same_defaults_in n m same = absurd same
 
-pub same_defs_in : (n m : Node) → IsSame n m → printed_lines (defs_in n) ≡ printed_lines (defs_in m)
+pub same_defs_in : (n m : Node) → IsSame n m → map printed_line (defs_in n) ≡ map printed_line (defs_in m)
 same_defs_in (node.Defaults scope params) (node.Defaults other settings) same = refl
-same_defs_in (node.Alias k ds) (node.Alias j es) same = same_defs k ds es same.1 ∙ ap (λ (i : Kind). printed_lines (map (one_def i) es)) same.0
+same_defs_in (node.Alias k ds) (node.Alias j es) same = same_defs k ds es same.1 ∙ ap (λ (i : Kind). map printed_line (map (one_def i) es)) same.0
 same_defs_in (node.Spec users groups) (node.Spec others places) same = refl
 same_defs_in n m same = absurd same
 
-pub same_specs_in : (n m : Node) → IsSame n m → printed_lines (specs_in n) ≡ printed_lines (specs_in m)
+pub same_specs_in : (n m : Node) → IsSame n m → map printed_line (specs_in n) ≡ map printed_line (specs_in m)
 same_specs_in (node.Defaults scope params) (node.Defaults other settings) same = refl
 same_specs_in (node.Alias k ds) (node.Alias j es) same = refl
 same_specs_in (node.Spec users groups) (node.Spec others places) same =
-    ap₂ (λ (x y : List ℕ). (x ++ codes " " ++ y ++ codes "\n") ++ []) (same_list true User users others same.0)
+    ap₂ (λ (x y : List ℕ). (let line : List ℕ = x ++ codes " " ++ y ++ codes "\n" in line) ∷ []) (same_list true User users others same.0)
     (same_join IsSameGroup printed_group (codes " : ") same_group (map effective_group groups) (map effective_group places) (same_effective groups places same.1))
 same_specs_in n m same = absurd same
 
-pub lines_append : (ns ms : List Node) → printed_lines (ns ++ ms) ≡ printed_lines ns ++ printed_lines ms
-lines_append [] ms = refl
-lines_append (n ∷ ns) ms = ap (λ (t : List ℕ). printed_line n ++ t) (lines_append ns ms) ∙ sym (append_assoc (printed_line n) (printed_lines ns) (printed_lines ms))
+-- Lines are printed alike where each of them is.
+pub lines_are : (ns : List Node) → printed_lines ns ≡ join (map printed_line ns)
+lines_are [] = refl
+lines_are (n ∷ ns) = ap (λ (t : List ℕ). printed_line n ++ t) (lines_are ns)
 
-pub same_rules : (from : Node → List Node) → ((n m : Node) → IsSame n m → printed_lines (from n) ≡ printed_lines (from m)) → (ns ms : List Node) → AllSame IsSame ns ms
-    → printed_lines (flat_map from ns) ≡ printed_lines (flat_map from ms)
+pub same_rules : (from : Node → List Node) → ((n m : Node) → IsSame n m → map printed_line (from n) ≡ map printed_line (from m)) → (ns ms : List Node) → AllSame IsSame ns ms
+    → map printed_line (flat_map from ns) ≡ map printed_line (flat_map from ms)
 same_rules from each [] [] same = refl
 same_rules from each [] (m ∷ ms) same = absurd same
 same_rules from each (n ∷ ns) [] same = absurd same
 same_rules from each (n ∷ ns) (m ∷ ms) same =
-    lines_append (from n) (flat_map from ns)
-    ∙ ap₂ (λ (x y : List ℕ). x ++ y) (each n m same.0) (same_rules from each ns ms same.1)
-    ∙ sym (lines_append (from m) (flat_map from ms))
+    map-append printed_line (from n) (flat_map from ns)
+    ∙ ap₂ (λ (x y : List (List ℕ)). x ++ y) (each n m same.0) (same_rules from each ns ms same.1)
+    ∙ sym (map-append printed_line (from m) (flat_map from ms))

@@ -8,11 +8,12 @@ use Rattle.sudoers_text.specs.declared.fault.TextFault.{TextFault}
 use Rattle.sudoers_text.specs.declared.fault.TextFault.TheVariants.{TooLarge, LineTooLong, Nul, OpenContinuation, NoMemory}
 use Rattle.sudoers_text.specs.Fault.{text_limit, line_limit, StandsIn, IsCut}
 use Rattle.sudoers_text.specs.Whole.{IsLogicalLine}
+use Rattle.sudoers_line.specs.declared.node.Kind.{Kind}
 use Rattle.sudoers_line.specs.declared.node.Node.{Node}
 use Rattle.sudoers_tree.specs.Line.{Line}
 use Rattle.sudoers_tree.specs.declared.fault.ReadFault.{ReadFault}
-use Rattle.sudoers_tree.specs.Definition.{definitions}
-use Rattle.sudoers_tree.specs.Policy.{alias_limit, texts, SaysSo, IsPolicy}
+use Rattle.sudoers_tree.specs.Definition.{Definition, definitions}
+use Rattle.sudoers_tree.specs.Policy.{alias_limit, texts, count_of, SaysSo, IsFree, AreOnce, IsPolicy}
 use Rattle.sudoers_tree.specs.Reading.{read_of, IsOutcome}
 use Rattle.sudoers_print.specs.Lines.{printed_line, printed_lines}
 use Rattle.sudoers_print_laws.specs.Writable.{IsWritable}
@@ -20,7 +21,8 @@ use Rattle.sudoers_print_laws.specs.Same.{AllSame, IsSame, ReadsBack}
 use Rattle.sudoers_cvt.specs.Rules.{rules_of, lines_of, printed, fits}
 use Rattle.sudoers_cvt_laws.specs.ReadAs.{said_by, IsReadAs}
 use Rattle.sudoers_cvt_laws.proofs.Clean.{NoNul, none_of_clean, join_clean}
-use Rattle.sudoers_cvt_laws.proofs.Keys.{keys_of, node_keys, same_free, same_count, same_once, keys_since, rules_keys, same_keys}
+use Rattle.sudoers_cvt_laws.proofs.Aliases.{said_alike}
+use Rattle.sudoers_cvt_laws.proofs.Keys.{keys_of, keys_same, same_free, same_count, same_once}
 
 -- what the laws of printed lines say
 abbrev pub PrintLaw : Type 0
@@ -97,10 +99,16 @@ are_read law (n ∷ ns) all =
 
 -- ---- the policy
 
-read_policy : (lines read : List Line) (ns : List Node) → IsPolicy lines → ns ≡ lines_of (rules_of lines) → IsCut (printed_lines ns) (map printed_line ns) → texts read ≡ map printed_line ns → AllByRecursion SaysSo read → AllSame IsSame ns (said_by read) → IsPolicy read
+-- The definitions can stand behind one another in a policy.
+pub record MayStand (ds : List Definition) : Type 0 where
+  pub free : AllByRecursion IsFree ds
+  pub once : AreOnce ds
+  pub few : (k : Kind) → count_of k ds ≤ alias_limit
+
+read_policy : (lines read : List Line) (ns : List Node) → MayStand (definitions lines) → ns ≡ lines_of (rules_of lines) → IsCut (printed_lines ns) (map printed_line ns) → texts read ≡ map printed_line ns → AllByRecursion SaysSo read → AllSame IsSame ns (said_by read) → IsPolicy read
 read_policy lines read ns is e cut texts_are says same =
     let keys : keys_of (definitions lines) ≡ keys_of (definitions read) =
-    keys_since 0 lines ∙ sym (rules_keys lines) ∙ sym (ap node_keys e) ∙ same_keys ns (said_by read) same ∙ sym (keys_since 0 read) in
+    keys_same (definitions lines) (definitions read) (said_alike lines read (subst (λ (ms : List Node). AllSame IsSame ms (said_by read)) e same)) in
     record {
       cut = subst (λ (ts : List (List ℕ)). IsCut (join ts) ts) (sym texts_are) (subst (λ (t : List ℕ). IsCut t (map printed_line ns)) (sym cut.cuts.joined) cut);
       says = says;
@@ -109,7 +117,7 @@ read_policy lines read ns is e cut texts_are says same =
       few = λ k. subst (λ n. n ≤ alias_limit) (same_count k (definitions lines) (definitions read) keys) (is.few k);
     }
 
-read_back : PrintLaw → AloneLaw → CutLaw → ReadLaw → OneLaw → (lines : List Line) (ns : List Node) → IsPolicy lines → ns ≡ lines_of (rules_of lines) → AllByRecursion IsWritable ns → (nat_le (length (printed_lines ns)) text_limit && list_all (λ n. nat_le (length (printed_line n)) line_limit) ns) ≡ true → IsReadAs (printed_lines ns) ns
+read_back : PrintLaw → AloneLaw → CutLaw → ReadLaw → OneLaw → (lines : List Line) (ns : List Node) → MayStand (definitions lines) → ns ≡ lines_of (rules_of lines) → AllByRecursion IsWritable ns → (nat_le (length (printed_lines ns)) text_limit && list_all (λ n. nat_le (length (printed_line n)) line_limit) ns) ≡ true → IsReadAs (printed_lines ns) ns
 read_back print alone cut read one lines ns is e all size =
     let both = and_parts (nat_le (length (printed_lines ns)) text_limit) (list_all (λ n. nat_le (length (printed_line n)) line_limit) ns) size in
     let there = are_read print ns all in
@@ -122,6 +130,12 @@ read_back print alone cut read one lines ns is e all size =
       same = there.same;
     }
 
+-- The printed text of rules is read as lines that say the same, if the rules can be written and their definitions can stand.
+pub rules_read_of : PrintLaw → AloneLaw → CutLaw → ReadLaw → OneLaw → (lines : List Line) → MayStand (definitions lines) → AllByRecursion IsWritable (lines_of (rules_of lines))
+    → fits (rules_of lines) ≡ true → IsReadAs (printed (rules_of lines)) (lines_of (rules_of lines))
+rules_read_of print alone cut read one lines may written size = read_back print alone cut read one lines (lines_of (rules_of lines)) may refl written size
+
 -- The printed text of the rules of a policy is read as lines that say the same.
 pub rules_read : PrintLaw → AloneLaw → CutLaw → ReadLaw → OneLaw → ((lines : List Line) → IsPolicy lines → AllByRecursion IsWritable (lines_of (rules_of lines))) → (lines : List Line) → IsPolicy lines → fits (rules_of lines) ≡ true → IsReadAs (printed (rules_of lines)) (lines_of (rules_of lines))
-rules_read print alone cut read one written lines is size = read_back print alone cut read one lines (lines_of (rules_of lines)) is refl (written lines is) size
+rules_read print alone cut read one written lines is size =
+    rules_read_of print alone cut read one lines (record { free = is.free; once = is.once; few = is.few }) (written lines is) size

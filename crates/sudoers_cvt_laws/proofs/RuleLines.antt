@@ -27,7 +27,7 @@ each_def : (k : Kind) (ds : List Def) → AllByRecursion (IsWritableDef k) ds �
 each_def k [] all = tt
 each_def k (d ∷ ds) all = (all.0, each_def k ds all.1)
 
-all_of : {X : Type 0} → (P : X → Type 0) (xs : List X) → AreSome P xs → AllByRecursion P xs
+pub all_of : {X : Type 0} → (P : X → Type 0) (xs : List X) → AreSome P xs → AllByRecursion P xs
 all_of P [] some = tt
 all_of P (x ∷ xs) some = some
 
@@ -68,11 +68,17 @@ from_each from each (line ∷ lines) all = all_append IsWritable (from line.node
 no_nul : (lines : List Line) → IsPolicy lines → NoNul (join (texts lines))
 no_nul lines is at e = is.cut.sound (Nul at) at (refl, e)
 
--- Each line of the rules can be written.
-pub rules_written : GivenLaw → (lines : List Line) → IsPolicy lines → AllByRecursion IsWritable (lines_of (rules_of lines))
-rules_written law lines is =
-    let all = each_readable law lines (each_clean (texts lines) (clean_of (join (texts lines)) (no_nul lines is))) is.says in
+-- What the lines of a policy say was read.
+pub readable_lines : GivenLaw → (lines : List Line) → IsPolicy lines → AllByRecursion (λ (line : Line). IsReadable line.node) lines
+readable_lines law lines is = each_readable law lines (each_clean (texts lines) (clean_of (join (texts lines)) (no_nul lines is))) is.says
+
+-- Each line of the rules of such lines can be written.
+pub rules_of_readable : (lines : List Line) → AllByRecursion (λ (line : Line). IsReadable line.node) lines → AllByRecursion IsWritable (lines_of (rules_of lines))
+rules_of_readable lines all =
     let r = rules_of lines in
     all_append IsWritable (r.defaults ++ r.defs) r.specs
     (all_append IsWritable r.defaults r.defs (from_each defaults_in defaults_written lines all) (from_each defs_in defs_written lines all))
     (from_each specs_in specs_written lines all)
+
+pub rules_written : GivenLaw → (lines : List Line) → IsPolicy lines → AllByRecursion IsWritable (lines_of (rules_of lines))
+rules_written law lines is = rules_of_readable lines (readable_lines law lines is)

@@ -1,6 +1,9 @@
 -- The rules of what is read of printed rules are printed as these.
-use Rattle.std.proofs.Common.{◌≡◌, ℕ, true, List, [], ◌∷◌, ◌++◌, map, Ok, refl, sym, ap, ap₂, subst, ◌∙◌, append_assoc, append-nil}
-use Rattle.std.specs.List.{flat_map}
+use Rattle.std.proofs.Common.{◌≡◌, ℕ, ◌&&◌, nat_le, true, List, [], ◌∷◌, ◌++◌, length, map, Ok, refl, sym, ap, ap₂, subst, ◌∙◌, append_assoc, append-nil}
+use Rattle.std.specs.List.{flat_map, list_all}
+use Rattle.std.proofs.lemmas.List.{map-append}
+use Rattle.sudoers_text.specs.Fault.{text_limit, line_limit}
+use Rattle.sudoers_text.specs.Line.{join}
 use Rattle.sudoers_line.specs.declared.node.Kind.{Kind}
 use Rattle.sudoers_line.specs.declared.node.Def.{Def}
 use Rattle.sudoers_line.specs.declared.node.Node.{Node}
@@ -8,11 +11,11 @@ use Rattle.sudoers_line.specs.declared.node.Node.TheVariants as node
 use Rattle.sudoers_tree.specs.Line.{Line}
 use Rattle.sudoers_tree.specs.Policy.{IsPolicy}
 use Rattle.sudoers_tree.specs.Reading.{read_of}
-use Rattle.sudoers_print.specs.Lines.{printed_lines}
+use Rattle.sudoers_print.specs.Lines.{printed_line}
 use Rattle.sudoers_print_laws.specs.Same.{AllSame, IsSame}
 use Rattle.sudoers_cvt.specs.Rules.{defaults_in, specs_in, one_def, defs_in, rules_of, lines_of, printed, fits}
 use Rattle.sudoers_cvt_laws.specs.ReadAs.{said_by, IsReadAs}
-use Rattle.sudoers_cvt_laws.proofs.Prints.{same_defaults_in, same_defs_in, same_specs_in, lines_append, same_rules}
+use Rattle.sudoers_cvt_laws.proofs.Prints.{same_defaults_in, same_defs_in, same_specs_in, lines_are, same_rules}
 use Rattle.sudoers_cvt_laws.proofs.Twice.{groups_twice}
 
 flat_append : (f : Node → List Node) (xs ys : List Node) → flat_map f (xs ++ ys) ≡ flat_map f xs ++ flat_map f ys
@@ -83,24 +86,55 @@ specs_of_specs n = refl
 three : (f : Node → List Node) (x y z p q r : List Node) → flat_map f x ≡ p → flat_map f y ≡ q → flat_map f z ≡ r → flat_map f ((x ++ y) ++ z) ≡ (p ++ q) ++ r
 three f x y z p q r a b c = flat_append f (x ++ y) z ∙ ap₂ (λ (s t : List Node). s ++ t) (flat_append f x y ∙ ap₂ (λ (s t : List Node). s ++ t) a b) c
 
-again : (lines read : List Line) → AllSame IsSame (lines_of (rules_of lines)) (said_by read) → printed (rules_of read) ≡ printed (rules_of lines)
-again lines read same =
+-- the lines that are printed of rules, one by one
+texts_again : (lines read : List Line) → AllSame IsSame (lines_of (rules_of lines)) (said_by read)
+    → map printed_line (lines_of (rules_of read)) ≡ map printed_line (lines_of (rules_of lines))
+texts_again lines read same =
     let r = rules_of lines in
     let o = rules_of read in
-    let d = ap printed_lines (of_lines defaults_in read) ∙ sym (same_rules defaults_in same_defaults_in (lines_of r) (said_by read) same)
-    ∙ ap printed_lines (three defaults_in r.defaults r.defs r.specs r.defaults [] [] (stays defaults_in defaults_of_defaults lines) (gone defs_in defaults_in defaults_of_defs lines) (gone specs_in defaults_in defaults_of_specs lines) ∙ append-nil (r.defaults ++ []) ∙ append-nil r.defaults) in
-    let a = ap printed_lines (of_lines defs_in read) ∙ sym (same_rules defs_in same_defs_in (lines_of r) (said_by read) same)
-    ∙ ap printed_lines (three defs_in r.defaults r.defs r.specs [] r.defs [] (gone defaults_in defs_in defs_of_defaults lines) (stays defs_in defs_of_defs lines) (gone specs_in defs_in defs_of_specs lines) ∙ append-nil r.defs) in
-    let s = ap printed_lines (of_lines specs_in read) ∙ sym (same_rules specs_in same_specs_in (lines_of r) (said_by read) same)
-    ∙ ap printed_lines (three specs_in r.defaults r.defs r.specs [] [] r.specs (gone defaults_in specs_in specs_of_defaults lines) (gone defs_in specs_in specs_of_defs lines) (stays specs_in specs_of_specs lines)) in
-    lines_append (o.defaults ++ o.defs) o.specs
-    ∙ ap₂ (λ (x y : List ℕ). x ++ y) (lines_append o.defaults o.defs ∙ ap₂ (λ (x y : List ℕ). x ++ y) d a ∙ sym (lines_append r.defaults r.defs)) s
-    ∙ sym (lines_append (r.defaults ++ r.defs) r.specs)
+    let d = ap (map printed_line) (of_lines defaults_in read) ∙ sym (same_rules defaults_in same_defaults_in (lines_of r) (said_by read) same)
+    ∙ ap (map printed_line) (three defaults_in r.defaults r.defs r.specs r.defaults [] [] (stays defaults_in defaults_of_defaults lines) (gone defs_in defaults_in defaults_of_defs lines) (gone specs_in defaults_in defaults_of_specs lines) ∙ append-nil (r.defaults ++ []) ∙ append-nil r.defaults) in
+    let a = ap (map printed_line) (of_lines defs_in read) ∙ sym (same_rules defs_in same_defs_in (lines_of r) (said_by read) same)
+    ∙ ap (map printed_line) (three defs_in r.defaults r.defs r.specs [] r.defs [] (gone defaults_in defs_in defs_of_defaults lines) (stays defs_in defs_of_defs lines) (gone specs_in defs_in defs_of_specs lines) ∙ append-nil r.defs) in
+    let s = ap (map printed_line) (of_lines specs_in read) ∙ sym (same_rules specs_in same_specs_in (lines_of r) (said_by read) same)
+    ∙ ap (map printed_line) (three specs_in r.defaults r.defs r.specs [] [] r.specs (gone defaults_in specs_in specs_of_defaults lines) (gone defs_in specs_in specs_of_defs lines) (stays specs_in specs_of_specs lines)) in
+    map-append printed_line (o.defaults ++ o.defs) o.specs
+    ∙ ap₂ (λ (x y : List (List ℕ)). x ++ y)
+    (map-append printed_line o.defaults o.defs ∙ ap₂ (λ (x y : List (List ℕ)). x ++ y) d a ∙ sym (map-append printed_line r.defaults r.defs)) s
+    ∙ sym (map-append printed_line (r.defaults ++ r.defs) r.specs)
 
--- A second printing gives the same text.
-pub second : ((lines : List Line) → IsPolicy lines → fits (rules_of lines) ≡ true → IsReadAs (printed (rules_of lines)) (lines_of (rules_of lines)))
-    → (lines read : List Line) → IsPolicy lines → fits (rules_of lines) ≡ true → read_of (printed (rules_of lines)) ≡ Ok read → printed (rules_of read) ≡ printed (rules_of lines)
-second law lines read is size e =
+again : (lines read : List Line) → AllSame IsSame (lines_of (rules_of lines)) (said_by read) → printed (rules_of read) ≡ printed (rules_of lines)
+again lines read same = lines_are (lines_of (rules_of read)) ∙ ap join (texts_again lines read same) ∙ sym (lines_are (lines_of (rules_of lines)))
+
+-- whether each line is within the limit
+each_within : (ns : List Node) → list_all (λ n. nat_le (length (printed_line n)) line_limit) ns ≡ list_all (λ text. nat_le (length text) line_limit) (map printed_line ns)
+each_within [] = refl
+each_within (n ∷ ns) = ap (λ t. nat_le (length (printed_line n)) line_limit && t) (each_within ns)
+
+fits_again : (lines read : List Line) → AllSame IsSame (lines_of (rules_of lines)) (said_by read) → fits (rules_of read) ≡ fits (rules_of lines)
+fits_again lines read same =
+    ap₂ (λ text t. nat_le (length text) text_limit && t) (again lines read same)
+    (each_within (lines_of (rules_of read)) ∙ ap (list_all (λ text. nat_le (length text) line_limit)) (texts_again lines read same)
+    ∙ sym (each_within (lines_of (rules_of lines))))
+
+-- what the law of printed rules says
+abbrev pub ReadLaw : Type 0
+ReadLaw = (lines : List Line) → IsPolicy lines → fits (rules_of lines) ≡ true → IsReadAs (printed (rules_of lines)) (lines_of (rules_of lines))
+
+-- what is read is what was printed
+pub same_read : ReadLaw → (lines read : List Line) → IsPolicy lines → fits (rules_of lines) ≡ true → read_of (printed (rules_of lines)) ≡ Ok read
+    → AllSame IsSame (lines_of (rules_of lines)) (said_by read)
+same_read law lines read is size e =
     let there = law lines is size in
     let one : there.read ≡ read = let both = sym there.is ∙ e in cc in
-    again lines read (subst (λ (ls : List Line). AllSame IsSame (lines_of (rules_of lines)) (said_by ls)) one there.same)
+    subst (λ (ls : List Line). AllSame IsSame (lines_of (rules_of lines)) (said_by ls)) one there.same
+
+-- A second printing gives the same text.
+pub second : ReadLaw → (lines read : List Line) → IsPolicy lines → fits (rules_of lines) ≡ true → read_of (printed (rules_of lines)) ≡ Ok read
+    → printed (rules_of read) ≡ printed (rules_of lines)
+second law lines read is size e = again lines read (same_read law lines read is size e)
+
+-- It is within the limits.
+pub second_fits : ReadLaw → (lines read : List Line) → IsPolicy lines → fits (rules_of lines) ≡ true → read_of (printed (rules_of lines)) ≡ Ok read
+    → fits (rules_of read) ≡ true
+second_fits law lines read is size e = fits_again lines read (same_read law lines read is size e) ∙ size

@@ -2,7 +2,7 @@
 use Rattle.std.proofs.Common.{◌≡◌, ℕ, Bool, true, false, List, [], ◌∷◌, ◌++◌, Option, Some, None, map, refl, sym, ap, ap₂, ◌∙◌}
 use Rattle.std.specs.Prelude.{◌==◌, ◌||◌, if◌then◌else◌}
 use Rattle.std.specs.Option.{option_map, option_or}
-use Rattle.std.specs.List.{filter_map, cons_option, list_any}
+use Rattle.std.specs.List.{cons_option, list_any}
 use Rattle.std.proofs.lemmas.Bool.{eqb-true}
 use Rattle.sudoers_line.specs.declared.node.OptionName.{OptionName}
 use Rattle.sudoers_line.specs.declared.node.OptionName.TheVariants as option
@@ -27,12 +27,12 @@ or_assoc None b c = refl
 or_assoc (Some v) b c = refl
 
 -- what is inherited twice is inherited once
-or_again : {V : Type 0} → (own before : Option V) → option_or (option_or own before) before ≡ option_or own before
+pub or_again : {V : Type 0} → (own before : Option V) → option_or (option_or own before) before ≡ option_or own before
 or_again None None = refl
 or_again None (Some v) = refl
 or_again (Some v) before = refl
 
-last_append : {N V : Type 0} → (is_it : N → Bool) (xs ys : List (N × V)) → last_said is_it (xs ++ ys) ≡ option_or (last_said is_it ys) (last_said is_it xs)
+pub last_append : {N V : Type 0} → (is_it : N → Bool) (xs ys : List (N × V)) → last_said is_it (xs ++ ys) ≡ option_or (last_said is_it ys) (last_said is_it xs)
 last_append is_it [] ys = sym (or_none (last_said is_it ys))
 last_append is_it (x ∷ xs) ys =
     ap (λ o. option_or o (if is_it x.0 then Some x.1 else None)) (last_append is_it xs ys)
@@ -115,12 +115,12 @@ any_tag tag.Mail = refl
 any_tag tag.Passwd = refl
 any_tag tag.Setenv = refl
 
-option_listed : (said : OptionName → Option (List ℕ)) (name : OptionName) → option_of (said_list said option_names) name ≡ said name
+pub option_listed : (said : OptionName → Option (List ℕ)) (name : OptionName) → option_of (said_list said option_names) name ≡ said name
 option_listed said name =
     last_of_list (λ other. option_place name == option_place other) name (same_option name) said option_names
     ∙ ap (λ (t : Bool). if t then said name else None) (any_option name)
 
-tag_listed : (said : Tag → Option Bool) (name : Tag) → tag_of (said_list said tag_names) name ≡ said name
+pub tag_listed : (said : Tag → Option Bool) (name : Tag) → tag_of (said_list said tag_names) name ≡ said name
 tag_listed said name =
     last_of_list (λ other. tag_place name == tag_place other) name (same_tag name) said tag_names
     ∙ ap (λ (t : Bool). if t then said name else None) (any_tag name)

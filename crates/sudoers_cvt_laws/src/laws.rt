@@ -35,10 +35,12 @@ pub fn printed_rules_are_read()
     one_outcome();
 }
 
-/// What is read of the printed rules of a policy gives rules that are printed as the same text.
+/// What is read of the printed rules of a policy gives rules that are printed as the same text, which is within the limits again.
 pub fn second_printing_is_same()
-    ensures { (lines read : List LineOf) → IsPolicy lines → fits (rules_of lines) ≡ true
+    ensures text { (lines read : List LineOf) → IsPolicy lines → fits (rules_of lines) ≡ true
         → read_of (printed (rules_of lines)) ≡ Ok read → printed (rules_of read) ≡ printed (rules_of lines) }
+    ensures size { (lines read : List LineOf) → IsPolicy lines → fits (rules_of lines) ≡ true
+        → read_of (printed (rules_of lines)) ≡ Ok read → fits (rules_of read) ≡ true }
 {
     printed_rules_are_read();
 }

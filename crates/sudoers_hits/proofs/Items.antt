@@ -1,15 +1,13 @@
 -- What items match, one after another.
-use Rattle.std.proofs.Common.{◌≡◌, ◌≢◌, ◌↔◌, ℕ, zero, suc, ◌+◌, ◌-◌, ◌≤◌, ◌<◌, Bool, true, false, not, List, [], ◌∷◌, ◌++◌, length, drop, take, refl, sym, ap, subst, ◌∙◌, arith, append_assoc, get_or, Option, Some, None}
+use Rattle.std.proofs.Common.{◌≡◌, ◌≢◌, ℕ, zero, suc, ◌+◌, ◌-◌, ◌<◌, Bool, true, false, List, [], ◌∷◌, ◌++◌, length, drop, refl, sym, ap, subst, ◌∙◌, arith, get_or, Option, Some, None}
 use Rattle.std.specs.Prelude.{◌==◌, if◌then◌else◌}
-use Rattle.std.specs.List.{AllByRecursion}
 use Rattle.std.proofs.lemmas.Bool.{false≢true, ne_eqb}
 use Rattle.std.proofs.lemmas.List.{drop_more}
 use Rattle.sudoers_hits.specs.declared.set.SetItem.{SetItem}
 use Rattle.sudoers_hits.specs.Sets.{set_at}
 use Rattle.sudoers_hits.specs.declared.wildcards.GlobMode.{GlobMode}
-use Rattle.sudoers_hits.specs.declared.wildcards.GlobMode.TheVariants.{Path, Args}
-use Rattle.sudoers_hits.specs.Wildcard.{Item, Star, Byte, Any, Set, may_take, takes, escaped, set_or_byte, bracket, item_at, items_from, items_of}
-use Rattle.sudoers_hits.specs.Run.{Take, Passed, ToStar, MayStand, ItemsMatch, Matches}
+use Rattle.sudoers_hits.specs.Wildcard.{Item, Star, Byte, Any, Set, takes, escaped, set_or_byte, bracket, item_at, items_from, items_of}
+use Rattle.sudoers_hits.specs.Run.{Take, ItemsMatch}
 
 -- ---- the items of a pattern
 

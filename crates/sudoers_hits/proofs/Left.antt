@@ -1,8 +1,8 @@
 -- What is left to match behind the last `*`.
-use Rattle.std.proofs.Common.{◌≡◌, ◌≢◌, ℕ, zero, suc, ◌+◌, ◌-◌, ◌≤◌, ◌<◌, Bool, true, false, List, [], ◌∷◌, ◌++◌, length, drop, take, get_or, refl, sym, ap, subst, ◌∙◌, arith}
+use Rattle.std.proofs.Common.{◌≡◌, ℕ, true, List, [], ◌∷◌, ◌++◌, refl, sym, subst}
 use Rattle.sudoers_hits.specs.declared.wildcards.GlobMode.{GlobMode}
-use Rattle.sudoers_hits.specs.Wildcard.{Item, Star, may_take, items_of}
-use Rattle.sudoers_hits.specs.Run.{Take, ToStar, IsLeft, ItemsMatch, Matches}
+use Rattle.sudoers_hits.specs.Wildcard.{Star, may_take, items_of}
+use Rattle.sudoers_hits.specs.Run.{ToStar, IsLeft, ItemsMatch, Matches}
 use Rattle.sudoers_hits.proofs.Items.{take_then, behind_take}
 use Rattle.sudoers_hits.proofs.Stars.{last_star, star_before, byte_more, byte_before}
 

@@ -7,3 +7,4 @@ pub mod Items
 pub mod Stars
 pub mod Passing
 pub mod Left
+pub mod Plain

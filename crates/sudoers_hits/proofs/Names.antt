@@ -1,5 +1,5 @@
 -- Names, letter case ignored.
-use Rattle.std.proofs.Common.{◌≡◌, ℕ, Bool, true, false, List, map, bytes_eq, refl, sym, ap, ◌∙◌}
+use Rattle.std.proofs.Common.{◌≡◌, ℕ, Bool, List, map}
 use Rattle.std.specs.Prelude.{◌↔◌, IsTrue}
 use Rattle.std.proofs.lemmas.Bool.Decides.{same_from_decides}
 use Rattle.std.specs.Char.{to_ascii_lowercase}

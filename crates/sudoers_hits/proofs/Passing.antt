@@ -1,10 +1,9 @@
 -- How far items that take one byte each go.
-use Rattle.std.proofs.Common.{◌≡◌, ◌≢◌, ℕ, zero, suc, ◌+◌, ◌-◌, ◌≤◌, ◌<◌, Bool, true, false, List, [], ◌∷◌, ◌++◌, length, drop, take, get_or, refl, sym, ap, subst, ◌∙◌, arith, append_assoc, append-nil}
+use Rattle.std.proofs.Common.{◌≡◌, ◌≢◌, ℕ, ◌<◌, true, false, List, [], ◌∷◌, ◌++◌, drop, refl, sym, ap, subst, ◌∙◌, append_assoc}
 use Rattle.std.proofs.lemmas.Bool.{false≢true}
-use Rattle.std.proofs.lemmas.List.{drop_more, drop-drop, length-drop, drop_all, take_rest}
 use Rattle.sudoers_hits.specs.declared.wildcards.GlobMode.{GlobMode}
-use Rattle.sudoers_hits.specs.Wildcard.{Item, Star, Byte, Any, Set, takes, item_at, items_from, items_of}
-use Rattle.sudoers_hits.specs.Run.{Take, Passed, ToStar, ItemsMatch, Matches}
+use Rattle.sudoers_hits.specs.Wildcard.{Star, takes, item_at, items_of}
+use Rattle.sudoers_hits.specs.Run.{Passed, ItemsMatch, Matches}
 use Rattle.sudoers_hits.proofs.Items.{items_front, one_byte, take_then, take_one, behind_take}
 
 pub none_passed : (mode : GlobMode) (pattern text : List ℕ) → Passed mode pattern text pattern text

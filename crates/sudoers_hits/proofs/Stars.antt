@@ -1,13 +1,12 @@
 -- Of several `*` the last alone has to be tried again.
-use Rattle.std.proofs.Common.{◌≡◌, ◌≢◌, ◌⊎◌, ◌↔◌, inl, inr, ℕ, zero, suc, ◌+◌, ◌-◌, ◌≤◌, ◌<◌, Bool, true, false, not, ◌&&◌, List, [], ◌∷◌, ◌++◌, length, drop, take, refl, sym, ap, subst, ◌∙◌, arith, append_assoc, append-nil}
+use Rattle.std.proofs.Common.{◌≡◌, inl, inr, ℕ, Bool, true, false, not, ◌&&◌, List, [], ◌∷◌, ◌++◌, refl, sym, ap, subst, ◌∙◌, append_assoc}
 use Rattle.std.specs.Prelude.{◌==◌}
-use Rattle.std.specs.List.{AllByRecursion}
 use Rattle.std.proofs.lemmas.Bool.{false≢true}
 use Rattle.std.proofs.lemmas.Bool.Decides.{eqb_tells}
 use Rattle.sudoers_hits.specs.declared.wildcards.GlobMode.{GlobMode}
 use Rattle.sudoers_hits.specs.declared.wildcards.GlobMode.TheVariants.{Path, Args}
-use Rattle.sudoers_hits.specs.Wildcard.{Item, Star, Byte, Any, Set, may_take, takes, items_of}
-use Rattle.sudoers_hits.specs.Run.{Take, ToStar, MayStand, ItemsMatch, Matches}
+use Rattle.sudoers_hits.specs.Wildcard.{Item, Star, Byte, Any, Set, may_take, takes}
+use Rattle.sudoers_hits.specs.Run.{Take, MayStand, ItemsMatch}
 use Rattle.sudoers_hits.proofs.Items.{take_then, behind_take, taken_of}
 
 left_of : (p q : Bool) → (p && q) ≡ true → p ≡ true

@@ -1,5 +1,5 @@
 -- Bytes as they are, or with ASCII letters in lower case.
-use Rattle.std.specs.Prelude.{ℕ, ◌+◌, Bool, true, false, ◌&&◌, nat_le, List, map, if◌then◌else◌}
+use Rattle.std.specs.Prelude.{ℕ, ◌+◌, Bool, true, false, List, map, if◌then◌else◌}
 use Rattle.sudoers_hits.specs.Class.{is_upper}
 
 unfoldable pub folded : Bool → ℕ → ℕ

@@ -1,6 +1,5 @@
 -- The items of a set of bytes, as `[a-z_]` has them, and where the set ends.
-use Rattle.std.specs.Prelude.{◌≡◌, ℕ, zero, suc, ◌+◌, ◌-◌, Bool, ◌||◌, ◌==◌, List, [], ◌∷◌, Option, Some, None, if◌then◌else◌, length, drop}
-use Rattle.std.specs.List.{list_any}
+use Rattle.std.specs.Prelude.{ℕ, zero, suc, ◌+◌, ◌-◌, Bool, ◌==◌, List, [], ◌∷◌, Option, Some, None, if◌then◌else◌, length, drop}
 use Rattle.sudoers_hits.specs.declared.class.Class.{Class}
 use Rattle.sudoers_hits.specs.declared.set.SetItem.{SetItem}
 use Rattle.sudoers_hits.specs.declared.set.SetItem.TheVariants.{Of, Range}

@@ -11,6 +11,6 @@ mod wildcards;
 
 pub use asked::{CommandLine, Group, Person, Who};
 pub use hits::{belongs_to_number, command_hits, group_hits, host_hits, is_same_name, user_hits};
-pub use laws::{escaped_is, star_is};
+pub use laws::{escaped_is, plain_first_is, star_is};
 pub use network::{Interface, network_hits};
 pub use wildcards::{GlobMode, glob, glob_as_read};

@@ -26,5 +26,6 @@ pub use node::{
     Address, Args, Atom, CmdSpec, Def, Digest, DigestKind, HostGroup, Kind, Mask, Member, Node,
     Operator, OptionName, Param, RunasSpec, Scope, Setting, Tag,
 };
+pub use number::{are_digits, is_stamp, network as network_of, number_up_to};
 pub use part::{Part, begins_with, ends_with, part_of};
 pub use pattern::{Spelling, pattern as pattern_of};

@@ -10,3 +10,6 @@ pub mod Rowed
 pub mod Existing
 pub mod Runases
 pub mod Stamps
+pub mod Alike
+pub mod OneAnswer
+pub mod GroupsAlike

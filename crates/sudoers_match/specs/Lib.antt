@@ -13,3 +13,4 @@ pub mod Runas
 pub mod Rows
 pub mod Answer
 pub mod Question
+pub mod Alike

@@ -8,6 +8,7 @@ mod groups;
 mod head;
 mod moment;
 mod options;
+mod policies;
 mod question;
 mod request;
 mod rules;
@@ -18,7 +19,12 @@ pub use answering::answer;
 pub use defaults::runas_default;
 pub use groups::{GroupPlace, host_groups};
 pub use head::Head;
+pub use moment::stamp_number;
 pub use options::Options;
+pub use policies::{
+    alike_defaults_are_same, alike_rows_answer, alike_rows_fit, alike_specs_have_same_groups,
+    one_answer,
+};
 pub use request::Request;
 pub use rules::Answer;
 pub use sudoers_hits::{Group, Interface, Person, Who};

@@ -21,7 +21,7 @@ fn digit_at(stamp: &[u8], place: usize) -> u64
 }
 
 /// Returns a time stamp as a number of 14 digits. Digits that are missing are zero (sudoers(5), Date_Spec).
-fn stamp_number(stamp: &[u8]) -> u64
+pub fn stamp_number(stamp: &[u8]) -> u64
     ensures { result ≡ stamp_number stamp.now }
 {
     let mut number: u64 = 0;

@@ -30,10 +30,10 @@ pub use laws::{descent_is, growth_goes_on, one_reading, outcome_is, some_outcome
 pub use list::{Rows, rows_in};
 pub use reading::{Reading, parse, read_line};
 pub use rows::{
-    CommandRow, DefRow, DigestRow, GroupRow, MemberRow, NodeRow, OptionRow, ParamRow, Tables,
-    TagRow, Text,
+    AtomRow, CommandRow, DefRow, DigestRow, GroupRow, MemberRow, NodeRow, OptionRow, ParamRow,
+    Range, RunasRow, ScopeRow, Tables, TagRow, Text,
 };
-pub use tables::keep_text;
+pub use tables::{keep_rows, keep_text};
 pub use view::{
     Args, Atom, CmdSpec, Def, Digest, HostGroup, Member, Node, Param, RunasSpec, Scope, Setting,
 };

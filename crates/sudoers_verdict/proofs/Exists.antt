@@ -6,7 +6,8 @@ use Rattle.sudoers_line.specs.declared.node.Member.{Member}
 use Rattle.sudoers_tree.specs.Line.{Line}
 use Rattle.sudoers_tree.specs.Definition.{definitions}
 use Rattle.sudoers_check.specs.Chain.{Has, Chain, here, onward}
-use Rattle.sudoers_verdict.specs.Flat.{Signed, signed, turn, IsFlat, none, one, many}
+use Rattle.sudoers_verdict.specs.Flat.{Signed, signed, turn, IsFlat}
+use Rattle.sudoers_verdict.proofs.Depth.{FlatIn, none, one, many, is_flat}
 use Rattle.sudoers_verdict.specs.Search.{number_in, members_at, aliases_in, Leads, LeadsRound}
 use Rattle.sudoers_verdict.specs.Cycle.{LeadsToCycle}
 use Rattle.sudoers_verdict.proofs.Named.{round_is}
@@ -33,15 +34,16 @@ not_past (x ∷ xs) zero h e = cc
 not_past (x ∷ xs) (suc i) h e = not_past xs i (omega arith) e
 
 module _ (kd : Kind) (lines : List Line) where
-  abbrev Found : List Member → Type 0
-  Found ms = ((fs : List Signed) × IsFlat kd lines ms fs) ⊎ LeadsRound kd lines ms
+  -- It has a flat list, whose aliases are no deeper than this.
+  abbrev Found : ℕ → List Member → Type 0
+  Found n ms = ((fs : List Signed) × FlatIn kd lines n ms fs) ⊎ LeadsRound kd lines ms
 
   -- Whatever is marked leads to the aliases of the list, by one or more steps.
   abbrev Context : List Bool → List Member → Type 0
   Context marks ms = (v j : ℕ) → slice_get marks v ≡ Some true → Has (aliases_in kd lines ms) j → Chain (Leads kd lines) (Leads kd lines v) j
 
   abbrev Deeper : ℕ → Type 0
-  Deeper n = (marks : List Bool) → length marks ≡ length (definitions lines) → unmarked marks < n → (ms : List Member) → Context marks ms → Found ms
+  Deeper n = (marks : List Bool) → length marks ≡ length (definitions lines) → unmarked marks ≤ n → (ms : List Member) → Context marks ms → Found n ms
 
   from_some : (P Q : ℕ → Type 0) → ((x : ℕ) → P x → Q x) → (x : ℕ) → Chain (Leads kd lines) P x → Chain (Leads kd lines) Q x
   from_some P Q to x (here y p) = here y (to y p)
@@ -73,39 +75,55 @@ module _ (kd : Kind) (lines : List Line) where
     | inr old ↦ onward k j (c v k old.1 (at_front m ms k e)) h
   ]
 
-  list_found : (n : ℕ) → Deeper n → (marks : List Bool) → length marks ≡ length (definitions lines) → unmarked marks ≤ n → (ms : List Member) → Context marks ms → Found ms
-  list_found n deeper marks size few [] c = inl ([], none)
+  -- a list with one alias more in front
+  front_found : (n : ℕ) (m : Member) (ms : List Member) (k : ℕ) → number_in kd lines m.atom ≡ Some k → Found n (members_at lines k) → Found (suc n) ms → Found (suc n) (m ∷ ms)
+  front_found n m ms k e (inr l) rest = inr (cycle_inside m ms k e l)
+  front_found n m ms k e (inl i) (inr l) = inr (cycle_behind m ms l)
+  front_found n m ms k e (inl i) (inl f) =
+      inl (map (turn m.negated) i.0 ++ f.0, many n m ms (members_at lines k) i.0 f.0 (alias_some kd lines m.atom k e) i.1 f.1)
+
+  one_found : (n : ℕ) (m : Member) (ms : List Member) → number_in kd lines m.atom ≡ None → Found n ms → Found n (m ∷ ms)
+  one_found n m ms e (inl f) = inl (signed m ∷ f.0, one n m ms f.0 (alias_none kd lines m.atom e) f.1)
+  one_found n m ms e (inr l) = inr (cycle_behind m ms l)
+
+  list_found : (n : ℕ) → ((below : ℕ) → n ≡ suc below → Deeper below) → (marks : List Bool) → length marks ≡ length (definitions lines) → unmarked marks ≤ n → (ms : List Member) → Context marks ms → Found n ms
+  list_found n deeper marks size few [] c = inl ([], none n)
   list_found n deeper marks size few (m ∷ ms) c =
-      let rest = list_found n deeper marks size few ms (λ v j is h. c v j is (behind_front m ms j h)) in
-      elim (number_in kd lines m.atom) as (λ o. number_in kd lines m.atom ≡ o → Found (m ∷ ms)) [
-        | None ↦ (λ e. elim rest [ inl f ↦ inl (signed m ∷ f.0, one m ms f.0 (alias_none kd lines m.atom e) f.1) | inr l ↦ inr (cycle_behind m ms l) ])
-        | Some k ↦ (λ e. elim (slice_get marks k) as (λ o. slice_get marks k ≡ o → Found (m ∷ ms)) [
+      let rest : Found n ms = list_found n deeper marks size few ms (λ v j is h. c v j is (behind_front m ms j h)) in
+      elim (number_in kd lines m.atom) as (λ o. number_in kd lines m.atom ≡ o → Found n (m ∷ ms)) [
+        | None ↦ (λ e. one_found n m ms e rest)
+        | Some k ↦ (λ e. elim (slice_get marks k) as (λ o. slice_get marks k ≡ o → Found n (m ∷ ms)) [
           | None ↦ (λ is. absurd (not_past marks k (let h = number_within kd lines m.atom k e in omega (arith, size, h)) is))
-          | Some t ↦ (λ is. elim t as (λ b. slice_get marks k ≡ Some b → Found (m ∷ ms)) [
+          | Some t ↦ (λ is. elim t as (λ b. slice_get marks k ≡ Some b → Found n (m ∷ ms)) [
             | true ↦ (λ is. inr (record { alias = k; reached = here k (at_front m ms k e); cyclic = c k k is (at_front m ms k e) }))
-            | false ↦ (λ is.
-                let less = mark_one marks k is in
-                elim (deeper (set marks k true) (length-set marks k true ∙ size) (omega (arith, less)) (members_at lines k) (inner_context marks m ms k e c)) [
-                  | inl i ↦ elim rest [ inl f ↦ inl (map (turn m.negated) i.0 ++ f.0, many m ms (members_at lines k) i.0 f.0 (alias_some kd lines m.atom k e) i.1 f.1) | inr l ↦ inr (cycle_behind m ms l) ]
-                  | inr l ↦ inr (cycle_inside m ms k e l)
-                ])
+            | false ↦ (λ is. elim n as (λ j. n ≡ j → Found n (m ∷ ms)) [
+              | zero ↦ (λ no. absurd (let less = mark_one marks k is in omega (arith, less, no, few)))
+              | suc below ↦ (λ here.
+                  let less = mark_one marks k is in
+                  let inner = deeper below here (set marks k true) (length-set marks k true ∙ size) (omega (arith, less, here, few)) (members_at lines k) (inner_context marks m ms k e c) in
+                  subst (λ j. Found j (m ∷ ms)) (sym here) (front_found below m ms k e inner (subst (λ j. Found j ms) here rest)))
+            ] refl)
           ] is)
         ] refl)
       ] refl
 
   found_to : (n : ℕ) → Deeper n
-  found_to zero marks size less ms c = absurd (omega arith)
-  found_to (suc n) marks size less ms c = list_found n (found_to n) marks size (omega arith) ms c
+  found_to zero = list_found zero (λ below e. absurd cc)
+  found_to (suc n) = list_found (suc n) (λ below e. subst Deeper (let same : n ≡ below = cc in same) (found_to n))
 
   no_mark : (n v : ℕ) → slice_get (replicate n false) v ≡ Some true → ⊥
   no_mark zero v e = cc
   no_mark (suc n) zero e = cc
   no_mark (suc n) (suc v) e = no_mark n v e
 
-  pub flat_or_cycle : (ms : List Member) → Found ms
+  unmarked_all : (n : ℕ) → unmarked (replicate n false) ≡ n
+  unmarked_all zero = refl
+  unmarked_all (suc n) = ap suc (unmarked_all n)
+
+  pub flat_or_cycle : (ms : List Member) → Found (length (definitions lines)) ms
   flat_or_cycle ms =
-      let marks = replicate (length (definitions lines)) false in
-      found_to (suc (unmarked marks)) marks (length-replicate (length (definitions lines)) false) (omega arith) ms (λ v j is h. absurd (no_mark (length (definitions lines)) v is))
+      let n = length (definitions lines) in
+      found_to n (replicate n false) (length-replicate n false) (let all = unmarked_all n in omega (arith, all)) ms (λ v j is h. absurd (no_mark n v is))
 
 pub found_or_round : (k : Kind) (lines : List Line) (ms : List Member) → ((fs : List Signed) × IsFlat k lines ms fs) ⊎ LeadsToCycle k lines ms
-found_or_round k lines ms = elim (flat_or_cycle k lines ms) [ inl f ↦ inl f | inr l ↦ inr (round_is k lines ms l) ]
+found_or_round k lines ms = elim (flat_or_cycle k lines ms) [ inl f ↦ inl (f.0, is_flat k lines (length (definitions lines)) ms f.0 f.1) | inr l ↦ inr (round_is k lines ms l) ]

@@ -8,5 +8,7 @@ pub mod Walking
 pub mod Steps
 pub mod Whole
 pub mod Unique
+pub mod Depth
 pub mod Exists
 pub mod Said
+pub mod Alike

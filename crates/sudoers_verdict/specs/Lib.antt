@@ -1,3 +1,5 @@
 pub mod Flat
 pub mod Cycle
 pub mod Search
+pub mod Flattened
+pub mod Alike

@@ -1,6 +1,6 @@
 //! Laws of flat lists and verdicts. Each is the contract of a function that does nothing.
 
-ghost use Rattle.std.specs.Prelude.{◌≡◌, ◌⊎◌, ◌++◌, ◌∷◌, [], Bool, true, None, Some, List};
+ghost use Rattle.std.specs.Prelude.{◌≡◌, ◌⊎◌, ◌++◌, ◌∷◌, [], Bool, true, None, Some, List, map};
 ghost use Rattle.sudoers_line.specs.declared.node.Atom.{Atom as AtomOf};
 ghost use Rattle.sudoers_check.specs.Chain.{Has};
 ghost use Rattle.sudoers_verdict.specs.declared.verdict.Verdict.{Verdict as VerdictOf};
@@ -9,7 +9,8 @@ ghost use Rattle.sudoers_line.specs.declared.node.Kind.{Kind as KindOf};
 ghost use Rattle.sudoers_line.specs.declared.node.Member.{Member as MemberOf};
 ghost use Rattle.sudoers_tree.specs.Line.{Line as LineOf};
 ghost use Rattle.sudoers_tree.specs.Policy.{IsPolicy};
-ghost use Rattle.sudoers_verdict.specs.Flat.{IsFlat, IsVerdict, Signed, alias_of, hit_of, later_said, opposite};
+ghost use Rattle.sudoers_verdict.specs.Flat.{IsFlat, IsVerdict, Signed, signed, alias_of, hit_of, later_said, opposite};
+ghost use Rattle.sudoers_verdict.specs.Flattened.{flattened};
 ghost use Rattle.sudoers_verdict.specs.Cycle.{LeadsToCycle};
 
 use sudoers_check::numbers_are;
@@ -24,6 +25,13 @@ pub fn flat_then_no_cycle()
     ensures { (k : KindOf) (lines : List LineOf) → IsPolicy lines → (ms : List MemberOf) (fs : List Signed) → IsFlat k lines ms fs → LeadsToCycle k lines ms → ⊥ }
 {
     numbers_are();
+}
+
+/// In a policy the flat list of a list is what replacing its aliases comes to.
+pub fn flattened_is_flat()
+    ensures { (k : KindOf) (lines : List LineOf) → IsPolicy lines → (ms : List MemberOf) (fs : List Signed) → IsFlat k lines ms fs → fs ≡ map signed (flattened k lines ms) }
+{
+    flat_then_no_cycle();
 }
 
 /// A list has one flat list.

@@ -10,6 +10,6 @@ pub returns : goal.returns
 returns c =
     let lines : List Line = c.args.policy.now in
     let marks : c.as_slice.result.now ≡ map (is_used lines) (definitions lines) =
-    c.as_slice.ensures.value ∙ c.in_ok-reached.ensures ∙ ap (λ ls. map (is_used ls) (definitions ls)) c.in_ok-numbers.ensures in
+    c.as_slice.ensures.value ∙ c.in_ok-reached.ensures ∙ ap (λ ls. map (is_used ls) (definitions ls)) c.lines.ensures in
     subst (λ ds. IfOk c.unmarked.result (λ places. places.items ≡ map (λ (d : Definition). (d.kind, d.place)) ds))
     (ap (λ ms. picked false ms (definitions lines)) marks ∙ picked_others (is_unused lines) (definitions lines)) c.unmarked.ensures

@@ -1,4 +1,4 @@
-use Rattle.std.proofs.Common.{◌≡◌, ◌∙◌, ◌-◌, ◌+◌, ◌<◌, ◌≤◌, ℕ, false, true, List, length, take, drop, get_or, ap, sym, subst, arith, rules, not}
+use Rattle.std.proofs.Common.{◌≡◌, ◌∙◌, ◌-◌, ◌+◌, ◌<◌, ◌≤◌, ℕ, false, List, length, take, drop, get_or, ap, sym, subst, arith}
 use Rattle.sudoers_hits.specs.Hits.{directory_of}
 use Rattle.sudoers_hits.proofs.Directories.{has_slash, cut_start, cut_behind}
 use Rattle.sudoers_hits.proofs.hits.directory_of.Goals as goal

@@ -1,4 +1,4 @@
-use Rattle.std.proofs.Common.{◌≡◌, ◌≤◌, ℕ, false, length, drop}
+use Rattle.std.proofs.Common.{◌≡◌, ◌≤◌, false, length, drop}
 use Rattle.sudoers_hits.proofs.Directories.{has_slash}
 use Rattle.sudoers_hits.proofs.hits.directory_of.Given as goal
 

@@ -1,6 +1,6 @@
-use Rattle.std.proofs.Common.{◌≡◌, ◌≤◌, ◌<◌, ◌+◌, ◌-◌, ◌*◌, ◌^◌, ◌%◌, ℕ, arith, lit≤, rules, sym, ap, subst, ◌∙◌}
+use Rattle.std.proofs.Common.{◌≤◌, ◌*◌, ◌^◌, ◌%◌, ℕ, arith, lit≤, rules}
 use Rattle.std.proofs.lemmas.Nat.{one_shl}
-use Rattle.std.proofs.Math.Nat.{pow-le-pow_right, one-le-pow}
+use Rattle.std.proofs.Math.Nat.{pow-le-pow_right}
 use Rattle.sudoers_hits.proofs.network.mask_number.Goals as goal
 
 small : (rest : ℕ) → rest ≤ 32 → 1 * 2 ^ rest % 2 ^ 64 ≤ 2 ^ 32

@@ -1,8 +1,7 @@
-use Rattle.std.proofs.Common.{◌≡◌, ℕ, ◌+◌, ◌-◌, ◌≤◌, ◌<◌, Bool, true, false, ◌&&◌, List, [], ◌∷◌, length, drop, take, Option, Some, None, refl, sym, ap, subst, ◌∙◌, arith, get_or}
+use Rattle.std.proofs.Common.{◌≡◌, ℕ, ◌-◌, ◌≤◌, Bool, true, false, ◌&&◌, List, [], ◌∷◌, length, drop, take, Option, Some, None, refl, sym, ap, subst, ◌∙◌, arith}
 use Rattle.std.specs.Prelude.{◌==◌, if◌then◌else◌}
-use Rattle.std.proofs.lemmas.List.{take_rest}
 use Rattle.sudoers_hits.specs.declared.class.Class.{Class}
-use Rattle.sudoers_hits.specs.declared.set.SetItem.TheVariants.{Of, Range}
+use Rattle.sudoers_hits.specs.declared.set.SetItem.TheVariants.{Of}
 use Rattle.sudoers_hits.specs.Class.{begins_with, first_named, class_at, classes, name_of}
 use Rattle.sudoers_hits.specs.Sets.{set_item, class_or_range, range_from, range_to, bound_at, behind_dash}
 use Rattle.sudoers_hits.specs.Folded.{read}

@@ -1,7 +1,7 @@
-use Rattle.std.proofs.Common.{◌≡◌, ◌≢◌, ℕ, ◌+◌, ◌-◌, ◌<◌, Bool, true, false, ◌||◌, List, [], length, drop, take, get_or, Option, Some, None, refl, sym, ap, subst, ◌∙◌, arith, add-zero, zero-add}
-use Rattle.std.proofs.lemmas.List.{take_rest, length-drop, drop-drop, get_or-drop}
+use Rattle.std.proofs.Common.{◌≡◌, ◌≢◌, ℕ, ◌+◌, ◌-◌, ◌<◌, Bool, false, ◌||◌, List, length, drop, take, get_or, sym, ap, ◌∙◌, arith, add-zero, zero-add}
+use Rattle.std.proofs.lemmas.List.{length-drop, drop-drop, get_or-drop}
 use Rattle.sudoers_hits.specs.declared.set.SetItem.{SetItem}
-use Rattle.sudoers_hits.specs.Sets.{has_byte, set_item, set_from, set_at}
+use Rattle.sudoers_hits.specs.Sets.{has_byte, set_item, set_from}
 use Rattle.sudoers_hits.specs.Seen.{seen_in}
 use Rattle.sudoers_hits.proofs.Sets.{past_first, past_later, at_close}
 use Rattle.sudoers_hits.specs.Folded.{folded, read}

@@ -1,4 +1,4 @@
-use Rattle.std.proofs.Common.{◌≡◌, ◌≢◌, ℕ, ◌+◌, ◌-◌, ◌≤◌, ◌<◌, Bool, true, false, List, [], ◌∷◌, length, drop, take, get_or, refl, sym, ap, subst, ◌∙◌, arith}
+use Rattle.std.proofs.Common.{◌≡◌, ℕ, ◌<◌, Bool, true, false, List, ◌∷◌, length, drop, get_or, sym, ap, subst, ◌∙◌, arith}
 use Rattle.std.proofs.lemmas.List.{drop_more}
 use Rattle.std.proofs.lemmas.Bool.Decides.{nat_tests}
 use Rattle.std.proofs.lemmas.Bool.{false≢true}
@@ -7,7 +7,7 @@ use Rattle.sudoers_hits.specs.Folded.{folded, read}
 use Rattle.sudoers_hits.specs.Wildcard.{may_take}
 use Rattle.sudoers_hits.specs.Run.{IsLeft}
 use Rattle.sudoers_hits.proofs.AsRead.{read_length, read_rest, read_at}
-use Rattle.sudoers_hits.proofs.Left.{first_star, next_star, next_byte, no_match, match_here}
+use Rattle.sudoers_hits.proofs.Left.{first_star, next_star, next_byte, no_match}
 use Rattle.sudoers_hits.proofs.wildcards.is_match.Goals as goal
 use Rattle.sudoers_hits.proofs.wildcards.is_match.Goals.{then-is_empty-via-then-is_empty, then-is_empty-via-else-is_empty+then-not-may_take}
 

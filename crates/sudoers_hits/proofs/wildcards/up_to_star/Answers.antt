@@ -1,9 +1,9 @@
-use Rattle.std.proofs.Common.{◌≡◌, ◌≢◌, ℕ, ◌+◌, ◌-◌, ◌≤◌, ◌<◌, Bool, true, false, not, List, [], ◌∷◌, ◌++◌, length, drop, take, get_or, refl, sym, ap, subst, ◌∙◌, arith}
+use Rattle.std.proofs.Common.{◌≡◌, ◌≢◌, ℕ, ◌+◌, ◌-◌, ◌≤◌, ◌<◌, Bool, true, false, List, [], ◌∷◌, ◌++◌, length, drop, take, get_or, sym, ap, subst, ◌∙◌, arith}
 use Rattle.std.proofs.lemmas.List.{drop_more, drop-drop, drop_all, length-drop, take_rest}
 use Rattle.std.proofs.lemmas.Bool.{not-true, not-false}
 use Rattle.sudoers_hits.specs.declared.wildcards.GlobMode.{GlobMode}
 use Rattle.sudoers_hits.specs.Folded.{folded, read}
-use Rattle.sudoers_hits.specs.Wildcard.{Item, Star, takes, item_at, items_of}
+use Rattle.sudoers_hits.specs.Wildcard.{takes, item_at, items_of}
 use Rattle.sudoers_hits.specs.Run.{Passed, ToStar, ItemsMatch, Matches}
 use Rattle.sudoers_hits.proofs.AsRead.{read_length, read_rest, read_at}
 use Rattle.sudoers_hits.proofs.Passing.{pass_one, all_passed, not_passed, none_left, no_byte, other_byte}
