@@ -33,6 +33,7 @@ PROGRAMS = {
     "line": "cases_line",
     "hits": "cases_match",
     "match": "cases_match",
+    "list": "cases_list",
     "tree": "cases_edit",
     "check": "cases_edit",
     "edit": "cases_edit",
