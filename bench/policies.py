@@ -64,6 +64,12 @@ def policy(size):
     return [line.encode() for line in lines]
 
 
+def member_of_a_team(lines):
+    """The first member of the first team of an ordinary policy."""
+    team = next(line for line in lines if line.startswith(b"User_Alias TEAM1 "))
+    return team.split(b" = ")[1].split(b",")[0].strip().decode()
+
+
 def many_aliases(count):
     """A policy of `count` aliases with two members each, all lines of one size; a kind may have 4,096 aliases."""
     numbers = range(count)

@@ -21,6 +21,8 @@ SHOW = Input(("show", "-"), 1_048_576, fault("-: TooLarge"))
 CHECK = Input(("check", "-"), 1_048_576, Wanted(b"-: TooLarge\n", status=1))
 QUIET = Input(("check", "-q", "-"), 1_048_576, Wanted(status=1))
 CONVERT = Input(("convert", "-f", "sudoers", "-"), 1_048_576, fault("-: TooLarge"))
+EXPAND = Input(("convert", "-f", "sudoers", "-e", "-"), 1_048_576, fault("-: TooLarge"))
+FILTER = Input(("convert", "-f", "sudoers", "-m", "user=bob", "-p", "-"), 1_048_576, fault("-: TooLarge"))
 
 # Folders and rows that run under every refusal and failure.
 EDITS = (
@@ -82,6 +84,18 @@ CONVERTS = (
     "options_are_inherited_one_by_one",
     "convert_of_standard_input_to_json",
     "json_of_a_path_that_is_no_utf_8",
+    "expand_of_standard_input",
+    "filter_prune_and_expand_of_standard_input",
+    "expand_of_aliases_in_aliases",
+    "expand_keeps_what_command_scopes_lead_to_as_it_is",
+    "expand_gives_each_member_what_its_alias_has",
+    "expand_of_a_cycle_of_two",
+    "filter_keeps_what_is_reachable",
+    "prune_looks_into_aliases_in_aliases",
+    "filter_prune_and_expand",
+    "filter_with_blanks",
+    "filter_by_command",
+    "filter_of_a_cycle",
 )
 
 # Folders that run under every refusal of memory alone: they read no standard input.
@@ -119,6 +133,11 @@ WORDS = (
     "convert_of_a_file_that_is_not_there",
     "convert_of_a_site_with_some_of_everything",
     "convert_of_a_syntax_error",
+    "expand_of_a_site_with_some_of_everything",
+    "filter_of_a_site_for_a_user_and_a_host",
+    "filter_and_expand_of_a_file_to_json",
+    "cycle_of_a_file_that_is_expanded",
+    "convert_with_two_filters",
 )
 
 
@@ -189,6 +208,19 @@ def many_printed_lines_case():
     return cases.Case("convert_of_sixty_lines", CONVERT.words, policy, Wanted(text))
 
 
+def many_rewritten_lines_case():
+    """`convert` of twenty lines that are filtered, pruned and expanded, so that every list grows often."""
+    numbers = range(1, 21)
+    policy = b"".join(
+        b"User_Alias U%d = x, !V%d : V%d = y, z\nDefaults:U%d a\nU%d, bob h, i=(r, s : g) /a, C, /b : i=/c\n" % (5 * (n,))
+        for n in numbers
+    )
+    text = b"Defaults:x, !y, !z a\n" * len(numbers)
+    text += b"x, !y, !z h = (r, s : g) /a, (r, s : g) !/d, (r, s : g) list, (r, s : g) /b\n" * len(numbers)
+    words = ("convert", "-f", "sudoers", "-e", "-p", "-m", "user=x,user=y,group=g,host=h", "-")
+    return cases.Case("convert_of_sixty_rewritten_lines", words, b"Cmnd_Alias C = !/d, list\n" + policy, Wanted(text))
+
+
 def inputs_at_the_limit():
     """The greatest inputs that are read to their end."""
     script = b"#" * EDIT.limit
@@ -199,6 +231,8 @@ def inputs_at_the_limit():
     yield cases.Case("input_of_check_at_the_limit", CHECK.words, line * 16, Wanted(b"-: parsed OK\n"))
     yield cases.Case("input_of_quiet_check_at_the_limit", QUIET.words, line * 16, Wanted())
     yield cases.Case("input_of_convert_at_the_limit", CONVERT.words, line * 16, Wanted())
+    yield cases.Case("input_of_expand_at_the_limit", EXPAND.words, line * 16, Wanted())
+    yield cases.Case("input_of_filter_at_the_limit", FILTER.words, line * 16, Wanted())
 
 
 @dataclass(frozen=True)
@@ -222,5 +256,9 @@ class Chosen:
             read=(*edits, *shows, *checks, *converts),
             words=tuple(words),
             some=(edits[1], edits[5], shows[0], shows[2], *checks[:2], *checks[4:], *converts[:3]),
-            given=((edits[1], EDIT), (shows[0], SHOW), (checks[0], CHECK), (checks[1], QUIET), (converts[0], CONVERT)),
+            given=(
+                *((edits[1], EDIT), (shows[0], SHOW), (checks[0], CHECK), (checks[1], QUIET), (converts[0], CONVERT)),
+                (by_name["expand_of_standard_input"], EXPAND),
+                (by_name["filter_prune_and_expand_of_standard_input"], FILTER),
+            ),
         )

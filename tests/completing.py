@@ -45,8 +45,13 @@ ROWS = (
     (("check", "-q", "-s", "a"), ("a file with blanks",)),
     (("check", "policy", ""), ()),
     (("co",), ("convert",)),
-    (("convert", "-"), ("-f", "--form", "-h", "--help")),
+    (
+        ("convert", "-"),
+        ("-e", "--expand-aliases", "-f", "--form", "-h", "--help", "-m", "--match", "-p", "--prune-matches"),
+    ),
     (("convert", "--f"), ("--form",)),
+    (("convert", "--m"), ("--match",)),
+    (("convert", "-e", "--p"), ("--prune-matches",)),
     (("convert", "-f", ""), ("json", "sudoers")),
     (("convert", "-f", "j"), ("json",)),
     (("convert", "-f", "s"), ("sudoers",)),
@@ -56,6 +61,11 @@ ROWS = (
     (("convert", "--form", ""), ("json", "sudoers")),
     (("convert", "--form", "sudoers", "w"), ("web team",)),
     (("convert", ""), ALL_FILES),
+    (("convert", "-e", "w"), ("web team",)),
+    (("convert", "-m", ""), ()),
+    (("convert", "--match", "p"), ()),
+    (("convert", "-m", "user=bob", "p"), ("policy",)),
+    (("convert", "-f", "json", "-m", "user=bob", "-p", ""), ALL_FILES),
     (("convert", "-f", "sudoers", "policy", ""), ()),
     (("show", ""), ALL_FILES),
     (("show", "s"), ("sub",)),
@@ -71,7 +81,10 @@ ROWS = (
 # zsh offers the options if there is nothing else to offer.
 ZSH_ROWS = {
     ("check", "policy", ""): ("-h", "--help", "-q", "-s"),
-    ("convert", "-f", "sudoers", "policy", ""): ("-h", "--help"),
+    ("convert", "-f", "sudoers", "policy", ""): (
+        *("-e", "--expand-aliases", "-h", "--help"),
+        *("-m", "--match", "-p", "--prune-matches"),
+    ),
     ("edit", ""): ("-h", "--help"),
 }
 

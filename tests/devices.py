@@ -17,6 +17,7 @@ from chosen import (
     many_moves_case,
     many_notes_case,
     many_printed_lines_case,
+    many_rewritten_lines_case,
 )
 from preload import Preloaded
 from program import Wanted, fault
@@ -305,6 +306,7 @@ def run_memory(program, tally):
 def run_memory_of_many(program, tally):
     """Runs the program on many lines, definitions and notes with growths of memory refused."""
     many = (many_lines_case(), many_moves_case(), many_definitions_case(), many_notes_case(), many_printed_lines_case())
+    many += (many_rewritten_lines_case(),)
     run_under_library(program, tally, lambda stand, _: check_memory(stand, many))
 
 

@@ -9,10 +9,11 @@ or install, each after `$ `: it may hold only those of ELSEWHERE, which other
 tests or the gate run. Any other block is a picture.
 
 A table whose first header cell is `Policy` and whose last is `` `check` prints ``,
-`` `show` prints `` or `` `convert -f FORM` prints `` is run row by row:
-the first cell holds the file `policy`, and the last one what the command prints of
-it. An output of `convert` has to be right by itself too (converting.py). In a column `sudo` the cells `reads`
-and `refuses` are compared with the answer of visudo, if it is of that version.
+`` `show` prints `` or one like `` `convert -f sudoers -e` prints `` is run row by
+row: the first cell holds the file `policy`, and the last one what the command
+prints of it. An output of `convert` has to be right by itself too (converting.py).
+In a column `sudo` the cells `reads` and `refuses` are compared with the answer of
+visudo, if it is of that version.
 """
 
 import functools
@@ -58,7 +59,7 @@ SYSTEM_PATH = "/usr/local/bin:/usr/bin:/bin:/usr/sbin:/sbin"
 # The version of sudo that the documents speak of.
 SUDO = b"1.9.13p3"
 
-PRINTS = re.compile(r"`(check|show|convert -f (?:json|sudoers))` prints")
+PRINTS = re.compile(r"`(check|show|convert -f (?:json|sudoers)(?: [^`]+)?)` prints")
 ESCAPES = {"n": b"\n", "r": b"\r", "t": b"\t", "0": b"\0", "\\": b"\\", "|": b"|"}
 
 

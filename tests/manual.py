@@ -6,8 +6,7 @@ sessions run in order in one shell and one folder. The folder /etc/sudoers.d of
 the page is a scratch folder.
 
 DIAGNOSTICS has to list each error that the program can print: each variant of
-the fault types but those of NEVER_PRINTED, with the text that FaultText.antt
-states for it.
+the fault types, with the text that FaultText.antt states for it.
 """
 
 import glob
@@ -35,6 +34,7 @@ FAULTS = (
     "ScriptFault",
     "EditFault",
     "CvtFault",
+    "FilterFault",
     "LayerFault",
     "ToolFault",
 )
@@ -49,12 +49,9 @@ TERMS = (
     (r"why_name why", "CAUSE"),
     (r'script_text line \(codes "(.*)"\)', r"script:LINE: \1"),
     (r'edit_name place \(codes "(.*)"\)', r"edit N: \1"),
-    (r"(text_of_\w+|cvt_name) .*", "ERROR"),
+    (r"(text_of_\w+|cvt_name|filter_name) .*", "ERROR"),
 )
 CARRIED = "ERROR"
-
-# Variants with a text that no command prints: DIAGNOSTICS says nothing of them.
-NEVER_PRINTED = {("CvtFault", "Cycle")}
 
 # What mandoc says about the other pages of the machine, and not about this one.
 OF_THE_MACHINE = ("referenced manual not found", "outdated mandoc.db")
@@ -198,7 +195,7 @@ def texts():
     types = {short: name for name, short in re.findall(r"declared\.\w+\.(\w+)\.TheVariants as (\w+)", source)}
     found = {}
     for row in re.sub(r"\n +", " ", source).splitlines():
-        match = re.match(r"(?:text_of_\w+|why_name|cvt_name) .*?\b(\w+)\.(\w+)[^=]*= (.*)", row)
+        match = re.match(r"(?:text_of_\w+|why_name|cvt_name|filter_name) .*?\b(\w+)\.(\w+)[^=]*= (.*)", row)
         if match and match[1] in types:
             found[types[match[1]], match[2]] = "".join(map(text_of, match[3].split(" ++ ")))
     return found
@@ -219,10 +216,7 @@ def run_errors(tally):
     known = texts()
     named = sorted((name, variant) for name, names in declared.items() for variant in names)
     tally.note("manual page, variants", difference("variants", named, sorted(known)))
-    unknown = sorted(NEVER_PRINTED - set(known))
-    tally.note("manual page, variants that are never printed", difference("variants", [], unknown))
-    printed = {text for variant, text in known.items() if variant not in NEVER_PRINTED}
-    wanted = printed - {CARRIED} | set(notes())
+    wanted = set(known.values()) - {CARRIED} | set(notes())
     items = [line[len(".It ") :].replace('"', "") for line in section("DIAGNOSTICS") if line.startswith(".It ")]
     problems = [f"{item!r} is missing" for item in sorted(wanted - set(items))]
     problems += [f"nothing prints {item!r}" for item in sorted(set(items) - wanted)]
@@ -259,7 +253,7 @@ def run_synopsis(program, tally):
     """SYNOPSIS has the commands and options of the help texts."""
     whole, each = helps(program)
     lines = section("SYNOPSIS")
-    options = {"-" + name for name in re.findall(r"\bFl (-?\w+)", "\n".join(lines))}
+    options = {"-" + name for name in re.findall(r"\bFl (-?\w[\w-]*)", "\n".join(map(plain, lines)))}
     wanted = options_of_help("".join([whole, *each.values()]))
     tally.note("manual page, options", difference("options", wanted, options))
     commands = set(re.findall(r"\bCm (\w+)", "\n".join(lines)))

@@ -6,7 +6,7 @@ A table is a text file NAME.rows, in printable ASCII. It has these lines:
     form = FORM         what the rows after it hold, one of FORMS
     policy = POLICY     the policy of the rows after it, whose form names none
     script = SCRIPT     their script, likewise
-    words = WORDS       the words of `convert` before FILE, one blank between two
+    words = WORDS       the words of `convert` before FILE, one blank between two; a filter comes after them
     NAME: CELLS         a row, whose cells are those of the form
 
 A name is of small letters, digits and `_`, and no two cases have the same one. A row may go on in lines that are
@@ -135,9 +135,9 @@ def first_line(given, answer):
 
 
 def converted(given, wanted):
-    """`convert` of a policy on standard input, with the words of the setting."""
-    words, policy = given
-    return policy, wanted, False, "convert", *words.decode().split(" "), "-"
+    """`convert` of a policy on standard input, with the words of the setting and then the filter, if there is one."""
+    words, *filters, policy = given
+    return policy, wanted, False, "convert", *words.decode().split(" "), *(text.decode() for text in filters), "-"
 
 
 def printed(given, answer):
@@ -169,6 +169,8 @@ FORMS = {
     "policy => first line": Form(("policy",), 1, first_line),
     "policy => printed": Form(("policy",), 1, printed),
     "policy => not printed": Form(("policy",), 1, not_printed),
+    "filter %% policy => printed": Form(("filter", "policy"), 1, printed),
+    "filter %% policy => not printed": Form(("filter", "policy"), 1, not_printed),
 }
 
 # What the settings of a table may name.
@@ -177,6 +179,8 @@ SHARED = {
     "policy => error": "script",
     "policy => printed": "words",
     "policy => not printed": "words",
+    "filter %% policy => printed": "words",
+    "filter %% policy => not printed": "words",
 }
 
 
@@ -218,7 +222,7 @@ class Table:
         if names == ("input",):
             return (texts["input"],)
         if missing == "words":
-            return texts["words"], texts["policy"]
+            return texts["words"], *cells
         return texts.get("script", b""), texts["policy"]
 
     def add(self, name, text):
@@ -330,6 +334,8 @@ MISTAKES = (
     "form = policy => first line\nanother_line: # a\\n# b\\n => # b\\n\n",
     "form = policy => printed\nno_words: # a\\n =>\n",
     "form = policy => not printed\nwords = -f sudoers\nempty_answer: # a\\n =>\n",
+    "form = filter %% policy => printed\nwords = -f sudoers -m\nno_filter: # a\\n =>\n",
+    "form = filter %% policy => printed\nno_words: user=a %% # a\\n =>\n",
 )
 
 

@@ -1,5 +1,5 @@
 -- The rules of a policy: what its lines say, its comments, blank lines and includes aside.
-use Rattle.std.specs.Prelude.{ℕ, ◌&&◌, nat_le, Bool, List, [], ◌∷◌, ◌++◌, length, map}
+use Rattle.std.specs.Prelude.{ℕ, ◌&&◌, nat_le, Bool, List, [], ◌∷◌, ◌++◌, length, map, if◌then◌else◌}
 use Rattle.std.specs.List.{flat_map, list_all}
 use Rattle.sudoers_text.specs.Fault.{text_limit, line_limit}
 use Rattle.sudoers_line.specs.declared.node.Kind.{Kind}
@@ -50,6 +50,16 @@ rules_of lines = record {
   defs = flat_map (λ (line : Line). defs_in line.node) lines;
   specs = flat_map (λ (line : Line). specs_in line.node) lines;
 }
+
+-- those of a list that have a mark
+abbrev pub marked : {X : Type 0} → List Bool → List X → List X
+marked [] xs = []
+marked (mark ∷ marks) [] = []
+marked (mark ∷ marks) (x ∷ xs) = if mark then x ∷ marked marks xs else marked marks xs
+
+-- the rules, of definitions only those with a mark
+abbrev pub with_marked : List Bool → Rules → Rules
+with_marked marks r = record { defaults = r.defaults; defs = marked marks r.defs; specs = r.specs }
 
 -- all lines, in the order in which they are printed
 abbrev pub lines_of : Rules → List Node

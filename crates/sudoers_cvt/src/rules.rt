@@ -4,7 +4,8 @@ ghost use Rattle.std.specs.Prelude.{◌≡◌, ◌++◌, map, IfOk, IfErr, OnOk}
 ghost use Rattle.sudoers_reader.specs.View.{defs_shown, node_shown};
 ghost use Rattle.sudoers_cvt.specs.declared.fault.CvtFault.TheVariants.{NoMemory};
 ghost use Rattle.sudoers_cvt.specs.Rule.{rule_shown};
-ghost use Rattle.sudoers_cvt.specs.Rules.{defaults_in, defs_in, one_def, rules_of, specs_in};
+ghost use Rattle.sudoers_cvt.specs.Rules.{defaults_in, defs_in, one_def, rules_of, specs_in, marked, with_marked};
+ghost use Rattle.sudoers_tree.specs.Line.{lines_shown};
 
 use crate::fault::CvtFault;
 use crate::rule::Rule;
@@ -12,7 +13,7 @@ use std::alloc::{AllocError, Global};
 use std::marker::Model;
 use sudoers_line::Kind;
 use sudoers_reader::{DefRow, Node, Rows};
-use sudoers_tree::Policy;
+use sudoers_tree::LineRow;
 
 /// The rules of a policy: its Defaults lines, its definitions of aliases and its user specifications, each in file order. Contracts
 /// see three lists of what lines say. There each command says all that holds of it.
@@ -52,14 +53,36 @@ fn append_defs<'a>(
     Ok(())
 }
 
+/// Returns those of the rules that have a mark.
+fn keep_marked<'a>(
+    alloc: Global,
+    rules: &[Rule<'a>],
+    marks: &[bool],
+) -> Result<Vec<Rule<'a>>, AllocError>
+    ensures { IfOk result (λ kept. map rule_shown kept.items ≡ marked marks.now (map rule_shown rules.now)) }
+{
+    let mut kept = Vec::new(alloc);
+    let mut rest = marks;
+    for rule in rules {
+        let Some((mark, behind)) = rest.split_first() else {
+            return Ok(kept);
+        };
+        if *mark {
+            kept.push(*rule)?;
+        }
+        rest = behind;
+    }
+    Ok(kept)
+}
+
 impl<'a> Rules<'a> {
-    /// Returns the rules of `policy`. Blank lines, comments and includes are passed over.
+    /// Returns the rules of `lines`. Blank lines, comments and includes are passed over.
     ///
     /// # Errors
     ///
     /// `NoMemory`: memory ran out.
-    pub fn of(alloc: Global, policy: &'a Policy) -> Result<Rules<'a>, CvtFault>
-        ensures rules { IfOk result (λ rules. rules ≡ rules_of policy.now) }
+    pub fn of(alloc: Global, lines: &Rows<'a, LineRow>) -> Result<Rules<'a>, CvtFault>
+        ensures rules { IfOk result (λ rules. rules ≡ rules_of (lines_shown lines.now)) }
         ensures fault { IfErr result (λ fault. fault ≡ NoMemory) }
     {
         let mut rules = Rules {
@@ -67,11 +90,23 @@ impl<'a> Rules<'a> {
             defs: Vec::new(alloc),
             specs: Vec::new(alloc),
         };
-        let lines = policy.lines();
         for row in lines.rows {
             rules.add_line(&lines.tables.node(&row.node))?;
         }
         Ok(rules)
+    }
+
+    /// Returns the rules, of definitions only those with a mark. There is a mark for each definition.
+    ///
+    /// # Errors
+    ///
+    /// `NoMemory`: memory ran out.
+    pub fn with_marked(mut self, alloc: Global, marks: &[bool]) -> Result<Rules<'a>, CvtFault>
+        ensures rules { IfOk result (λ rules. rules ≡ with_marked marks.now self.entry) }
+        ensures fault { IfErr result (λ fault. fault ≡ NoMemory) }
+    {
+        self.defs = keep_marked(alloc, self.defs.as_slice(), marks)?;
+        Ok(self)
     }
 
     /// Appends what a line says, if it is a rule.

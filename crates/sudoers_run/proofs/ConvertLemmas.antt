@@ -6,11 +6,11 @@ use Rattle.sudoers_tree.specs.declared.fault.ReadFault.TheVariants as read
 use Rattle.sudoers_run.specs.declared.fault.LayerFault.TheVariants as layer
 use Rattle.sudoers_run.specs.declared.fault.ToolFault.{ToolFault}
 use Rattle.sudoers_run.specs.declared.fault.ToolFault.TheVariants as tool
-use Rattle.sudoers_run.specs.declared.form.Form.{Form}
+use Rattle.sudoers_run.specs.declared.words.ConvertWords.{ConvertWords}
 use Rattle.sudoers_run.specs.Convert.{convert_read, TellsConvert}
 use Rattle.sudoers_run.proofs.ShowLemmas.{read_large}
 
-pub tells_large : (f : Form) (known : Option (List ℕ)) (fault : ToolFault) → fault ≡ tool.Layer (layer.Policy (read.Text text.TooLarge))
-    → IfSome known (λ (input : List ℕ). text_limit < length input) → IfSome known (TellsConvert f fault)
-tells_large f None fault is large = tt
-tells_large f (Some input) fault is large = subst (λ x. TellsConvert f x input) (sym is) (inr (ap (convert_read f) (read_large input large)))
+pub tells_large : (words : ConvertWords) (known : Option (List ℕ)) (fault : ToolFault) → fault ≡ tool.Layer (layer.Policy (read.Text text.TooLarge))
+    → IfSome known (λ (input : List ℕ). text_limit < length input) → IfSome known (TellsConvert words fault)
+tells_large words None fault is large = tt
+tells_large words (Some input) fault is large = subst (λ x. TellsConvert words x input) (sym is) (inr (ap (convert_read words) (read_large input large)))

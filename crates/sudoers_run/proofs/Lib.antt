@@ -1,3 +1,4 @@
 mod ProgramLemmas
 mod ShowLemmas
 mod ConvertLemmas
+mod RewriteLemmas

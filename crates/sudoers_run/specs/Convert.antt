@@ -1,15 +1,23 @@
 -- What `convert` writes for a policy file.
-use Rattle.std.specs.Prelude.{◌≡◌, ◌⊎◌, ℕ, List, Result, Ok, Err, if◌then◌else◌}
+use Rattle.std.specs.Prelude.{◌≡◌, ◌⊎◌, ◌&&◌, ◌||◌, nat_lt, ℕ, Bool, true, List, Option, Some, None, Result, Ok, Err, if◌then◌else◌}
+use Rattle.std.specs.Borrow.{Bor}
+use Rattle.std.specs.Option.{is_some, option_map}
 use Rattle.sudoers_tree.specs.Line.{Line}
 use Rattle.sudoers_tree.specs.declared.fault.ReadFault.{ReadFault}
 use Rattle.sudoers_tree.specs.Reading.{read_of}
 use Rattle.sudoers_cvt.specs.declared.fault.CvtFault.{CvtFault}
-use Rattle.sudoers_cvt.specs.declared.fault.CvtFault.TheVariants.{TooLarge, NotUtf8}
+use Rattle.sudoers_cvt.specs.declared.fault.CvtFault.TheVariants.{Cycle, TooLarge, NotUtf8}
 use Rattle.sudoers_cvt.specs.Rules.{Rules, rules_of, fits, printed}
+use Rattle.sudoers_rewrite.specs.declared.filter.Filter.{Filter}
+use Rattle.sudoers_rewrite.specs.declared.filter_text.FilterFault.{FilterFault}
+use Rattle.sudoers_rewrite.specs.FilterText.{filter_of}
+use Rattle.sudoers_rewrite.specs.Count.{member_limit}
+use Rattle.sudoers_rewrite.specs.Rewrite.{Changes, has_round, member_count, rewritten, used_rules}
 use Rattle.sudoers_json.specs.Value.{json_text, rules_value}
 use Rattle.sudoers_json.specs.Unicode.{is_unicode}
 use Rattle.sudoers_run.specs.declared.form.Form.{Form}
 use Rattle.sudoers_run.specs.declared.form.Form.TheVariants as form
+use Rattle.sudoers_run.specs.declared.words.ConvertWords.{ConvertWords}
 use Rattle.sudoers_run.specs.declared.fault.LayerFault.{LayerFault}
 use Rattle.sudoers_run.specs.declared.fault.LayerFault.TheVariants as layer
 use Rattle.sudoers_run.specs.declared.fault.ToolFault.{ToolFault}
@@ -20,40 +28,92 @@ abbrev pub converted : Form → Rules → Result (List ℕ) LayerFault
 converted form.Sudoers rules = if fits rules then Ok (printed rules) else Err (layer.Convert TooLarge)
 converted form.Json rules = if is_unicode (rules_value rules) then Ok (json_text rules) else Err (layer.Convert NotUtf8)
 
+-- The rules of a policy that is filtered or expanded. No reachable alias may be cyclic, and expanded rules have a limit of members.
+abbrev pub rewritten_rules : Form → Changes → List Line → Result (List ℕ) LayerFault
+rewritten_rules f c lines =
+    if has_round lines then Err (layer.Convert Cycle)
+    else if c.expand && nat_lt member_limit (member_count (rewritten c lines)) then Err (layer.Convert TooLarge)
+    else converted f (used_rules (rewritten c lines))
+
+-- Without a filter and without `-e` the rules are those of the policy, unused definitions too.
+abbrev pub changed_rules : Form → Changes → List Line → Result (List ℕ) LayerFault
+changed_rules f c lines = if is_some c.filter || c.expand then rewritten_rules f c lines else converted f (rules_of lines)
+
+-- the filter of the command line, if there is one
+abbrev pub found_filter : Result Filter FilterFault → Result (Option Filter) LayerFault
+found_filter (Ok filter) = Ok (Some filter)
+found_filter (Err fault) = Err (layer.Filter fault)
+
+abbrev pub filter_in : Option (List ℕ) → Result (Option Filter) LayerFault
+filter_in None = Ok None
+filter_in (Some text) = found_filter (filter_of text)
+
+abbrev pub changes_of : ConvertWords → Option Filter → Changes
+changes_of words filter = record { filter = filter; prune = words.prune; expand = words.expand }
+
+abbrev pub filter_text : ConvertWords → Option (List ℕ)
+filter_text words = option_map (λ (text : Bor (List ℕ)). text.now) words.filter
+
+abbrev pub convert_filtered : ConvertWords → List Line → Result (Option Filter) LayerFault → Result (List ℕ) LayerFault
+convert_filtered words lines (Ok filter) = changed_rules words.form (changes_of words filter) lines
+convert_filtered words lines (Err fault) = Err fault
+
+abbrev pub convert_lines : ConvertWords → List Line → Result (List ℕ) LayerFault
+convert_lines words lines = convert_filtered words lines (filter_in (filter_text words))
+
 -- the rules of a policy in this form, or the fault of a text that is none
-abbrev pub convert_read : Form → Result (List Line) ReadFault → Result (List ℕ) LayerFault
-convert_read f (Ok lines) = converted f (rules_of lines)
-convert_read f (Err fault) = Err (layer.Policy fault)
+abbrev pub convert_read : ConvertWords → Result (List Line) ReadFault → Result (List ℕ) LayerFault
+convert_read words (Ok lines) = convert_lines words lines
+convert_read words (Err fault) = Err (layer.Policy fault)
 
-abbrev pub convert_output : Form → List ℕ → Result (List ℕ) LayerFault
-convert_output f input = convert_read f (read_of input)
+abbrev pub convert_output : ConvertWords → List ℕ → Result (List ℕ) LayerFault
+convert_output words input = convert_read words (read_of input)
 
--- a fault that the file has; those of the devices and of memory say nothing of it
-abbrev pub TellsConvert : Form → ToolFault → List ℕ → Type 0
-TellsConvert f tool.Read input = Unit {0}
-TellsConvert f tool.Write input = Unit {0}
-TellsConvert f tool.NoEnd input = Unit {0}
-TellsConvert f (tool.Layer fault) input = (fault ≡ layer.NoMemory) ⊎ (convert_output f input ≡ Err fault)
-TellsConvert f tool.NoMark input = ⊥
-TellsConvert f tool.InputTooLarge input = ⊥
+-- a fault that the file has, or the words; those of the devices and of memory say nothing of them
+abbrev pub TellsConvert : ConvertWords → ToolFault → List ℕ → Type 0
+TellsConvert words tool.Read input = Unit {0}
+TellsConvert words tool.Write input = Unit {0}
+TellsConvert words tool.NoEnd input = Unit {0}
+TellsConvert words (tool.Layer fault) input = (fault ≡ layer.NoMemory) ⊎ (convert_output words input ≡ Err fault)
+TellsConvert words tool.NoMark input = ⊥
+TellsConvert words tool.InputTooLarge input = ⊥
 
 -- the one fault that rules can have in this form
 abbrev pub form_fault : Form → CvtFault
 form_fault form.Sudoers = TooLarge
 form_fault form.Json = NotUtf8
 
--- the faults of converting a file
-abbrev pub IsRulesFault : Form → LayerFault → Type 0
-IsRulesFault f (layer.Policy fault) = Unit {0}
-IsRulesFault f layer.NoMemory = Unit {0}
-IsRulesFault f (layer.Convert fault) = fault ≡ form_fault f
-IsRulesFault f (layer.Script fault) = ⊥
-IsRulesFault f (layer.Edit place fault) = ⊥
+-- the faults of a filter
+abbrev pub IsFilterFault : LayerFault → Type 0
+IsFilterFault (layer.Filter fault) = Unit {0}
+IsFilterFault (layer.Policy fault) = ⊥
+IsFilterFault (layer.Convert fault) = ⊥
+IsFilterFault (layer.Script fault) = ⊥
+IsFilterFault (layer.Edit place fault) = ⊥
+IsFilterFault layer.NoMemory = ⊥
 
-abbrev pub IsConvertFault : Form → ToolFault → Type 0
-IsConvertFault f tool.Read = Unit {0}
-IsConvertFault f tool.Write = Unit {0}
-IsConvertFault f tool.NoEnd = Unit {0}
-IsConvertFault f (tool.Layer fault) = IsRulesFault f fault
-IsConvertFault f tool.NoMark = ⊥
-IsConvertFault f tool.InputTooLarge = ⊥
+-- The fault of the form; or an alias is cyclic; or aliases are replaced, and there are too many members.
+abbrev pub IsRewriteFault : Form → Bool → LayerFault → Type 0
+IsRewriteFault f expand fault =
+    (fault ≡ layer.Convert (form_fault f)) ⊎ ((fault ≡ layer.Convert Cycle) ⊎ ((fault ≡ layer.Convert TooLarge) × (expand ≡ true)))
+
+-- the faults of the words, and of the rules for which they ask
+abbrev pub IsWordsFault : ConvertWords → LayerFault → Type 0
+IsWordsFault words fault = IsFilterFault fault ⊎ IsRewriteFault words.form words.expand fault
+
+-- the faults of converting a file
+abbrev pub IsRulesFault : ConvertWords → LayerFault → Type 0
+IsRulesFault words (layer.Policy fault) = Unit {0}
+IsRulesFault words layer.NoMemory = Unit {0}
+IsRulesFault words (layer.Convert fault) = IsWordsFault words (layer.Convert fault)
+IsRulesFault words (layer.Filter fault) = Unit {0}
+IsRulesFault words (layer.Script fault) = ⊥
+IsRulesFault words (layer.Edit place fault) = ⊥
+
+abbrev pub IsConvertFault : ConvertWords → ToolFault → Type 0
+IsConvertFault words tool.Read = Unit {0}
+IsConvertFault words tool.Write = Unit {0}
+IsConvertFault words tool.NoEnd = Unit {0}
+IsConvertFault words (tool.Layer fault) = IsRulesFault words fault
+IsConvertFault words tool.NoMark = ⊥
+IsConvertFault words tool.InputTooLarge = ⊥

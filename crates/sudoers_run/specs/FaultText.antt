@@ -15,6 +15,8 @@ use Rattle.sudoers_edit.specs.declared.script.ScriptFault.{ScriptFault}
 use Rattle.sudoers_edit.specs.declared.script.ScriptFault.TheVariants as script
 use Rattle.sudoers_cvt.specs.declared.fault.CvtFault.{CvtFault}
 use Rattle.sudoers_cvt.specs.declared.fault.CvtFault.TheVariants as cvt
+use Rattle.sudoers_rewrite.specs.declared.filter_text.FilterFault.{FilterFault}
+use Rattle.sudoers_rewrite.specs.declared.filter_text.FilterFault.TheVariants as filter
 use Rattle.sudoers_run.specs.declared.fault.LayerFault.{LayerFault}
 use Rattle.sudoers_run.specs.declared.fault.LayerFault.TheVariants as layer
 use Rattle.sudoers_run.specs.declared.fault.ToolFault.{ToolFault}
@@ -90,11 +92,17 @@ cvt_name cvt.TooLarge = codes "TooLarge"
 cvt_name cvt.NotUtf8 = codes "NotUtf8"
 cvt_name cvt.NoMemory = codes "NoMemory"
 
+abbrev pub filter_name : FilterFault → List ℕ
+filter_name filter.BadKey = codes "BadKey"
+filter_name filter.Empty = codes "Empty"
+filter_name filter.NoMemory = codes "NoMemory"
+
 abbrev pub text_of_layer : LayerFault → List ℕ → List ℕ
 text_of_layer (layer.Policy fault) file = text_of_read fault file
 text_of_layer (layer.Script fault) file = text_of_script fault
 text_of_layer (layer.Edit place fault) file = text_of_edit place fault file
 text_of_layer (layer.Convert fault) file = cvt_name fault
+text_of_layer (layer.Filter fault) file = filter_name fault
 text_of_layer layer.NoMemory file = codes "NoMemory"
 
 abbrev pub text_of_tool : ToolFault → List ℕ → List ℕ

@@ -8,6 +8,8 @@ use Rattle.sudoers_edit.specs.declared.script.ScriptFault.{ScriptFault}
 use Rattle.sudoers_edit.specs.declared.script.ScriptFault.TheVariants as script
 use Rattle.sudoers_cvt.specs.declared.fault.CvtFault.{CvtFault}
 use Rattle.sudoers_cvt.specs.declared.fault.CvtFault.TheVariants as cvt
+use Rattle.sudoers_rewrite.specs.declared.filter_text.FilterFault.{FilterFault}
+use Rattle.sudoers_rewrite.specs.declared.filter_text.FilterFault.TheVariants as filter
 use Rattle.sudoers_run.specs.declared.fault.LayerFault.{LayerFault}
 use Rattle.sudoers_run.specs.declared.fault.LayerFault.TheVariants as layer
 
@@ -46,3 +48,8 @@ layer_of_cvt cvt.Cycle = layer.Convert cvt.Cycle
 layer_of_cvt cvt.TooLarge = layer.Convert cvt.TooLarge
 layer_of_cvt cvt.NotUtf8 = layer.Convert cvt.NotUtf8
 layer_of_cvt cvt.NoMemory = layer.NoMemory
+
+abbrev pub layer_of_filter : FilterFault → LayerFault
+layer_of_filter filter.BadKey = layer.Filter filter.BadKey
+layer_of_filter filter.Empty = layer.Filter filter.Empty
+layer_of_filter filter.NoMemory = layer.NoMemory

@@ -111,6 +111,7 @@ NeedsEnd (Err (tool.Layer (layer.Policy fault))) = Unit {0}
 NeedsEnd (Err (tool.Layer (layer.Script fault))) = Unit {0}
 NeedsEnd (Err (tool.Layer (layer.Edit place fault))) = Unit {0}
 NeedsEnd (Err (tool.Layer (layer.Convert fault))) = Unit {0}
+NeedsEnd (Err (tool.Layer (layer.Filter fault))) = Unit {0}
 NeedsEnd (Err tool.NoMark) = Unit {0}
 NeedsEnd (Err tool.Write) = Unit {0}
 

@@ -37,6 +37,7 @@ IsFileFault layer.NoMemory = Unit {0}
 IsFileFault (layer.Script fault) = ⊥
 IsFileFault (layer.Edit place fault) = ⊥
 IsFileFault (layer.Convert fault) = ⊥
+IsFileFault (layer.Filter fault) = ⊥
 
 -- the faults of showing a file
 abbrev pub IsShowFault : ToolFault → Type 0

@@ -1,47 +1,52 @@
 //! The rules of a policy, in another form.
-ghost use Rattle.std.specs.Prelude.{◌≡◌, ◌≢◌, ◌⊎◌, ◌+◌, ◌<◌, ◌≤◌, length, Ok, Err, IfOk, IfErr, IfSome, IsOkAnd, MatchResult, min, ◌-◌, ◌^◌};
+ghost use Rattle.std.specs.Prelude.{ℕ, List, ◌≡◌, ◌≢◌, ◌⊎◌, ◌+◌, ◌<◌, ◌≤◌, length, Ok, Err, IfOk, IfErr, IfSome, IsOkAnd, MatchResult, min, ◌-◌, ◌^◌};
 ghost use Rattle.std.specs.Io.KnownBytes.{Keeps, Appends};
 ghost use Rattle.sudoers_text.specs.Fault.{text_limit};
-ghost use Rattle.sudoers_cvt.specs.Rules.{rules_of};
 ghost use Rattle.sudoers_run.specs.Device.{Rose, Reads, Writes, AppendsFront, counted_by};
 ghost use Rattle.sudoers_run.specs.Program.{pull_limit, TellsLayer};
 ghost use Rattle.sudoers_run.specs.Show.{StopsShow, NeedsShowEnd};
-ghost use Rattle.sudoers_run.specs.Convert.{convert_output, converted, form_fault, TellsConvert, IsRulesFault, IsConvertFault};
+ghost use Rattle.std.specs.Borrow.{Bor};
+ghost use Rattle.std.specs.Option.{option_map};
+ghost use Rattle.sudoers_rewrite.specs.Changed.{changes_shown};
+ghost use Rattle.sudoers_run.specs.Convert.{convert_lines, convert_output, converted, filter_in, form_fault, rewritten_rules, TellsConvert, IsConvertFault, IsFilterFault, IsRewriteFault, IsRulesFault, IsWordsFault};
 
 use crate::device::{Sink, Source};
 use crate::fault::{LayerFault, ToolFault};
 use crate::form::Form;
 use crate::program::{read_all, write_all};
 use crate::show::too_large;
+use crate::words::ConvertWords;
 use std::alloc::Global;
 use sudoers_cvt::{Rules, print};
 use sudoers_json::json;
+use sudoers_rewrite::{Changes, Filter, check_members, read_filter, rewrite, used_rules};
 use sudoers_text::{TEXT_LIMIT, TextFault};
 use sudoers_tree::{Policy, ReadFault};
 
-/// Reads a policy file, and writes its rules in the form `form`: as the text of a policy, all Defaults lines, then all definitions of
-/// aliases, then all user specifications; or as JSON (cvtsudoers(1)).
+/// Reads a policy file, and writes its rules as `words` ask for: as the text of a policy, all Defaults lines, then all definitions of
+/// aliases, then all user specifications; or as JSON. A filter leaves out what does not match it, and then aliases may be replaced by
+/// their members (cvtsudoers(1)).
 ///
 /// # Errors
 ///
-/// [`ToolFault`]: of reading, then of the file, then of the limits of a policy or of bytes that are no UTF-8, then of writing. Nothing
-/// is written before a fault other than `Write`.
+/// [`ToolFault`]: of reading, then of the file, then of the filter, then of a cyclic alias and of too many members, then of the limits of
+/// a policy or of bytes that are no UTF-8, then of writing. Nothing is written before a fault other than `Write`.
 pub fn run_convert<R: Source, W: Sink>(
     alloc: Global,
     reader: &mut R,
-    form: Form,
+    words: &ConvertWords<'_>,
     writer: &mut W,
 ) -> Result<u8, ToolFault>
     // Status 0, and what is written is the stated function of what is read.
     ensures ok { IfOk result (λ status. (status ≡ 0) × IfSome (R.remaining reader.old) (λ input.
-        IsOkAnd (convert_output form input) (Appends (W.contents writer.old) (W.contents writer.new)))) }
+        IsOkAnd (convert_output words.now input) (Appends (W.contents writer.old) (W.contents writer.new)))) }
     // A fault of the file is the stated one.
-    ensures fault { IfErr result (λ fault. IfSome (R.remaining reader.old) (TellsConvert form fault)) }
+    ensures fault { IfErr result (λ fault. IfSome (R.remaining reader.old) (TellsConvert words.now fault)) }
     // There are no other faults.
-    ensures named { IfErr result (IsConvertFault form) }
+    ensures named { IfErr result (IsConvertFault words.now) }
     // After `Write`, what was written is a beginning of the output.
     ensures front { result ≡ Err ToolFault.Write → IfSome (R.remaining reader.old) (λ input.
-        IsOkAnd (convert_output form input) (AppendsFront (W.contents writer.old) (W.contents writer.new))) }
+        IsOkAnd (convert_output words.now input) (AppendsFront (W.contents writer.old) (W.contents writer.new))) }
     // `Read` means that the reader failed, and `Write` that the writer failed, as their counts show. The reader is asked at most
     // `pull_limit` times. `NoEnd` comes only after that many calls with room for a byte.
     ensures reads { Reads pull_limit result (R.Source.failures reader.old) (R.Source.failures reader.new)
@@ -60,29 +65,85 @@ pub fn run_convert<R: Source, W: Sink>(
         Err(ToolFault::InputTooLarge) => return Err(too_large()),
         Err(fault) => return Err(fault),
     };
-    let output = convert_text(alloc, input.as_slice(), form)?;
+    let output = convert_text(alloc, input.as_slice(), words)?;
     write_all(writer, output.as_slice())?;
     Ok(0)
 }
 
-/// Returns the rules of the policy that a text is, in this form.
-fn convert_text(alloc: Global, input: &[u8], form: Form) -> Result<Vec<u8>, LayerFault>
-    ensures converted { MatchResult result (λ out. convert_output form input.now ≡ Ok out.items)
-        (λ fault. TellsLayer fault (convert_output form input.now) × IsRulesFault form fault) }
+/// Returns the rules of the policy that a text is, as the words ask for.
+fn convert_text(
+    alloc: Global,
+    input: &[u8],
+    words: &ConvertWords<'_>,
+) -> Result<Vec<u8>, LayerFault>
+    ensures converted { MatchResult result (λ out. convert_output words.now input.now ≡ Ok out.items)
+        (λ fault. TellsLayer fault (convert_output words.now input.now) × IsRulesFault words.now fault) }
     ensures size { IfErr result (λ fault. fault ≡ LayerFault.Policy (ReadFault.Text TextFault.TooLarge) → text_limit < length input.now) }
 {
     let policy = Policy::read(alloc, input)?;
-    convert_policy(alloc, &policy, form)
+    convert_policy(alloc, &policy, words)
 }
 
-/// Returns the rules of a policy in this form.
-fn convert_policy(alloc: Global, policy: &Policy, form: Form) -> Result<Vec<u8>, LayerFault>
-    ensures { MatchResult result (λ out. converted form (rules_of policy.now) ≡ Ok out.items)
-        (λ fault. (fault ≡ LayerFault.NoMemory) ⊎ ((converted form (rules_of policy.now) ≡ Err fault) × (fault ≡ LayerFault.Convert (form_fault form)))) }
+/// Returns the filter whose text is given, if one is.
+fn read_words(alloc: Global, text: Option<&[u8]>) -> Result<Option<Filter>, LayerFault>
+    ensures { MatchResult result (λ filter. filter_in (option_map (λ (text : Bor (List ℕ)). text.now) text.entry) ≡ Ok filter)
+        (λ fault. (fault ≡ LayerFault.NoMemory) ⊎ ((filter_in (option_map (λ (text : Bor (List ℕ)). text.now) text.entry) ≡ Err fault) × IsFilterFault fault)) }
 {
-    let rules = Rules::of(alloc, policy)?;
+    match text {
+        None => Ok(None),
+        Some(text) => Ok(Some(read_filter(alloc, text)?)),
+    }
+}
+
+/// Returns the rules of a policy, as the words ask for.
+fn convert_policy(
+    alloc: Global,
+    policy: &Policy,
+    words: &ConvertWords<'_>,
+) -> Result<Vec<u8>, LayerFault>
+    ensures { MatchResult result (λ out. convert_lines words.now policy.now ≡ Ok out.items)
+        (λ fault. (fault ≡ LayerFault.NoMemory) ⊎ ((convert_lines words.now policy.now ≡ Err fault) × IsWordsFault words.now fault)) }
+{
+    let filter = read_words(alloc, words.filter)?;
+    let changes = Changes {
+        filter: filter.as_ref(),
+        prune: words.prune,
+        expand: words.expand,
+    };
+    if filter.is_none() && !words.expand {
+        let rules = Rules::of(alloc, &policy.lines())?;
+        return print_rules(alloc, words.form, &rules);
+    }
+    rewrite_rules(alloc, policy, words.form, &changes)
+}
+
+/// Returns the rules of a policy that is filtered or expanded, in this form.
+fn rewrite_rules(
+    alloc: Global,
+    policy: &Policy,
+    form: Form,
+    changes: &Changes<'_>,
+) -> Result<Vec<u8>, LayerFault>
+    ensures { MatchResult result (λ out. rewritten_rules form (changes_shown changes.now) policy.now ≡ Ok out.items)
+        (λ fault. (fault ≡ LayerFault.NoMemory) ⊎ ((rewritten_rules form (changes_shown changes.now) policy.now ≡ Err fault)
+        × IsRewriteFault form changes.now.expand fault)) }
+{
+    let (rewritten, count) = rewrite(alloc, policy, changes)?;
+    let lines = rewritten.lines();
+    let rules = used_rules(alloc, policy, &lines)?;
+    if changes.expand {
+        check_members(count, &rules)?;
+    }
+    print_rules(alloc, form, &rules)
+}
+
+/// Returns rules in this form.
+fn print_rules(alloc: Global, form: Form, rules: &Rules<'_>) -> Result<Vec<u8>, LayerFault>
+    ensures { MatchResult result (λ out. converted form rules.now ≡ Ok out.items)
+        (λ fault. (fault ≡ LayerFault.NoMemory) ⊎ ((converted form rules.now ≡ Err fault) × (fault ≡ LayerFault.Convert (form_fault form)))) }
+{
     match form {
-        Form::Sudoers => Ok(print(alloc, &rules)?),
-        Form::Json => Ok(json(alloc, &rules)?),
+        Form::Sudoers => Ok(print(alloc, rules)?),
+        Form::Json => Ok(json(alloc, rules)?),
     }
 }

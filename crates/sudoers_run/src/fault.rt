@@ -1,13 +1,14 @@
 //! Why the program gives up, and the text that it then shows.
 ghost use Rattle.std.specs.Prelude.{◌≡◌, ◌+◌, ◌<◌, ◌^◌, ◌++◌, IfOk, OnOk};
 ghost use Rattle.std.specs.Fmt.{decimal};
-ghost use Rattle.sudoers_run.specs.FaultText.{cvt_name, text_of_tool, text_of_layer, text_of_read, text_of_text, text_of_script, text_of_edit, script_text, edit_name, name_text, why_name};
+ghost use Rattle.sudoers_run.specs.FaultText.{cvt_name, filter_name, text_of_tool, text_of_layer, text_of_read, text_of_text, text_of_script, text_of_edit, script_text, edit_name, name_text, why_name};
 
 use std::alloc::{AllocError, Global};
 use sudoers_cvt::CvtFault;
 use sudoers_edit::{EditFault, ScriptFault};
 use sudoers_line::{Kind, Why};
 use sudoers_print::append_number;
+use sudoers_rewrite::FilterFault;
 use sudoers_text::TextFault;
 use sudoers_tree::{ReadFault, kind_word};
 use thiserror::Error;
@@ -27,6 +28,9 @@ pub enum LayerFault {
     /// The rules cannot be converted.
     #[error("{0}")]
     Convert(CvtFault),
+    /// The text of a filter is none.
+    #[error("{0}")]
+    Filter(FilterFault),
     /// A growth of memory was refused.
     #[error("NoMemory")]
     NoMemory,
@@ -112,6 +116,20 @@ impl From<CvtFault> for LayerFault {
     }
 }
 
+impl From<FilterFault> for LayerFault {
+    ghost use Rattle.std.specs.Prelude.{◌≡◌};
+    ghost use Rattle.sudoers_run.specs.LayerOf.{layer_of_filter};
+
+    ghost from_gives = { λ fault e. e ≡ layer_of_filter fault };
+
+    fn from(fault: FilterFault) -> LayerFault {
+        match fault {
+            FilterFault::NoMemory => LayerFault::NoMemory,
+            fault => LayerFault::Filter(fault),
+        }
+    }
+}
+
 impl From<AllocError> for LayerFault {
     ghost use Rattle.std.specs.Prelude.{◌≡◌};
     ghost use Rattle.sudoers_run.specs.declared.fault.LayerFault.TheVariants.{NoMemory};
@@ -172,6 +190,7 @@ fn layer_text(alloc: Global, fault: &LayerFault, file: &[u8]) -> Result<Vec<u8>,
         LayerFault::Script(fault) => script_fault_text(alloc, fault),
         LayerFault::Edit(place, fault) => edit_fault_text(alloc, *place, fault, file),
         LayerFault::Convert(fault) => Vec::from_slice(alloc, cvt_word(*fault)),
+        LayerFault::Filter(fault) => Vec::from_slice(alloc, filter_word(*fault)),
         LayerFault::NoMemory => Vec::from_slice(alloc, b"NoMemory"),
     }
 }
@@ -185,6 +204,17 @@ fn cvt_word(fault: CvtFault) -> &'static [u8]
         CvtFault::TooLarge => b"TooLarge",
         CvtFault::NotUtf8 => b"NotUtf8",
         CvtFault::NoMemory => b"NoMemory",
+    }
+}
+
+/// Returns the name of a fault of a filter.
+fn filter_word(fault: FilterFault) -> &'static [u8]
+    ensures { result.now ≡ filter_name fault }
+{
+    match fault {
+        FilterFault::BadKey => b"BadKey",
+        FilterFault::Empty => b"Empty",
+        FilterFault::NoMemory => b"NoMemory",
     }
 }
 

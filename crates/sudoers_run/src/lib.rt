@@ -8,6 +8,7 @@ mod fault;
 mod form;
 mod program;
 mod show;
+mod words;
 
 pub use check::run_check;
 pub use convert::run_convert;
@@ -16,3 +17,4 @@ pub use fault::{LayerFault, ToolFault, fault_text};
 pub use form::Form;
 pub use program::run_edit;
 pub use show::run_show;
+pub use words::ConvertWords;

@@ -8,7 +8,7 @@ use std::io::Write;
 use std::process::ExitCode;
 use std::{fs, io};
 use sudoers_run::{
-    Counted, Form, ToolFault, fault_text, run_check, run_convert, run_edit, run_show,
+    ConvertWords, Counted, Form, ToolFault, fault_text, run_check, run_convert, run_edit, run_show,
 };
 
 /// The policy's name in the texts of the faults of `edit`.
@@ -71,7 +71,7 @@ fn obey(rt: &HostRuntime, matches: &ArgMatches<'_>) -> ExitCode {
         }
         Some(("convert", words)) => {
             let file = words.get_str("FILE").unwrap_or(STDIN);
-            (file, convert_file(rt, file, form_of(words)))
+            (file, convert_file(rt, file, &asked_of(words)))
         }
         _ => (POLICY, edit_streams(rt)),
     };
@@ -127,10 +127,34 @@ fn convert_words<'a>(alloc: Global) -> Result<Command<'a>, AllocError> {
         .value_parser(FORMS.as_slice())
         .help("Form of the output: sudoers or json")
         .hide_possible_values(true);
+    let expand = Arg::new(alloc, "expand")
+        .short('e')
+        .long("expand-aliases")
+        .action(ArgAction::SetTrue)
+        .help("Replace aliases by their members");
     Command::new(alloc, "convert")
-        .about("Print the rules of a policy anew, as text without comments")
+        .about("Print the rules of a policy anew, as a policy or as JSON, without comments")
         .arg(form)?
+        .arg(expand)?
+        .arg(filter_word(alloc))?
+        .arg(prune_word(alloc))?
         .arg(file_word(alloc))
+}
+
+/// Returns the option with the text of a filter.
+fn filter_word<'a>(alloc: Global) -> Arg<'a> {
+    Arg::new(alloc, "FILTER").short('m').long("match").help(
+        "Print only rules for some users, groups and hosts, as user=bob,group=adm,host=www1",
+    )
+}
+
+/// Returns the option that prunes lists.
+fn prune_word<'a>(alloc: Global) -> Arg<'a> {
+    Arg::new(alloc, "prune")
+        .short('p')
+        .long("prune-matches")
+        .action(ArgAction::SetTrue)
+        .help("With -m, drop other users and hosts from the lists of these rules")
 }
 
 /// Returns the argument that names a policy file.
@@ -182,14 +206,32 @@ fn form_of(words: &ArgMatches<'_>) -> Form {
     }
 }
 
+/// Returns what the words of `convert` ask for.
+fn asked_of<'a>(words: &ArgMatches<'a>) -> ConvertWords<'a> {
+    ConvertWords {
+        form: form_of(words),
+        filter: match words.get_str("FILTER") {
+            Some(text) => Some(text.as_bytes()),
+            None => None,
+        },
+        prune: words.get_flag("prune"),
+        expand: words.get_flag("expand"),
+    }
+}
+
 /// Converts a file, or standard input.
-fn convert_file(rt: &HostRuntime, file: &str, form: Form) -> Result<u8, ToolFault> {
+fn convert_file(rt: &HostRuntime, file: &str, asked: &ConvertWords<'_>) -> Result<u8, ToolFault> {
     let mut writer = Counted::new(rt.stdout());
     if file == STDIN {
-        return run_convert(rt.alloc(), &mut Counted::new(rt.stdin()), form, &mut writer);
+        return run_convert(
+            rt.alloc(),
+            &mut Counted::new(rt.stdin()),
+            asked,
+            &mut writer,
+        );
     }
     let opened = open(rt, file)?;
-    run_convert(rt.alloc(), &mut Counted::new(opened), form, &mut writer)
+    run_convert(rt.alloc(), &mut Counted::new(opened), asked, &mut writer)
 }
 
 /// Checks a file, or standard input.

@@ -1,0 +1,14 @@
+pub mod FilterTexts
+pub mod AtPlaces
+pub mod Matchers
+pub mod Found
+pub mod Lists
+pub mod Members
+pub mod Uses
+pub mod Counting
+pub mod Extending
+pub mod Steps
+pub mod Whole
+pub mod Kept
+pub mod GroupsLeft
+pub mod Straights

@@ -1,0 +1,140 @@
+-- Verdicts for each value of a filter.
+use Rattle.std.proofs.Common.{◌≡◌, ℕ, zero, suc, ◌++◌, map, cond, [], append-nil, append_assoc, ◌+◌, ◌<◌, ◌||◌, Bool, true, false, List, ◌∷◌, length, drop, set, get_or, Some, slice_get, inl, inr, refl, sym, ap, subst, ◌∙◌, arith, get_or-set_same, get_or-set_other}
+use Rattle.std.specs.List.{All, filter, list_any}
+use Rattle.std.proofs.lemmas.Bool.{cases_eq}
+use Rattle.std.proofs.lemmas.List.{drop_more, length-set, map_push}
+use Rattle.std.proofs.lemmas.Option.{slice_get_within, slice_get_read, get_or_from_slice_get}
+use Rattle.sudoers_line.specs.declared.node.Kind.{Kind}
+use Rattle.sudoers_line.specs.declared.node.Atom.{Atom}
+use Rattle.sudoers_line.specs.declared.node.Member.{Member}
+use Rattle.sudoers_tree.specs.Line.{Line}
+use Rattle.sudoers_check.specs.Chain.{Has, Chain, here, onward}
+use Rattle.sudoers_check.specs.Chains.{name_in, names_in}
+use Rattle.sudoers_verdict.specs.Cycle.{LeadsToCycle}
+use Rattle.sudoers_match.specs.Straight.{IsStraight}
+use Rattle.sudoers_rewrite.specs.declared.filter.Filter.{Filter}
+use Rattle.sudoers_rewrite.specs.declared.matching.Matcher.{Matcher}
+use Rattle.sudoers_rewrite.specs.Pruned.{keeps, keeps_member}
+use Rattle.sudoers_verdict.specs.declared.walk.Verdicts.{Verdicts}
+use Rattle.sudoers_verdict.specs.Search.{Remembers}
+use Rattle.sudoers_rewrite.specs.Matcher.{AreRemembered, AreFresh, StaysMatcher}
+
+-- ---- an item that is replaced
+
+module _ {X : Type 0} (xs : List X) (n : ℕ) (y z : X) where
+  get_set_same : n < length xs → slice_get (set xs n y) n ≡ Some z → z ≡ y
+  get_set_same h at = sym (get_or_from_slice_get (set xs n y) n z z at) ∙ get_or-set_same xs n y z h
+
+  get_set_other : (m : ℕ) → (m ≡ n → ⊥) → slice_get (set xs n y) m ≡ Some z → slice_get xs m ≡ Some z
+  get_set_other m other at =
+      let within = slice_get_within (set xs n y) m z at in
+      slice_get_read xs (length xs) m z refl (omega (arith, within, length-set xs n y))
+      (sym (get_or_from_slice_get (set xs n y) m z z at) ∙ get_or-set_other xs n m y z other)
+
+-- One of the verdicts is replaced by others for the same value.
+pub set_remembered : {X : Type 0} (k : Kind) (lines : List Line) (test : X → Atom → Bool) (values : List X) (verdicts : List Verdicts) (n : ℕ) (value : X) (of_value : Verdicts)
+    → n < length values → value ≡ get_or values n value → Remembers k lines (test value) of_value
+    → AreRemembered k lines test values verdicts → AreRemembered k lines test values (set verdicts n of_value)
+set_remembered {X} k lines test values verdicts n value of_value h is kept all = record {
+  size = length-set verdicts n of_value ∙ all.size;
+  each = λ m x v at_x at_v. elim (cases_eq m n) [
+    | inl e ↦
+        let same_value : x ≡ value = sym (get_or_from_slice_get values n x value (subst (λ j. slice_get values j ≡ Some x) e at_x)) ∙ sym is in
+        let same_verdicts : v ≡ of_value = get_set_same verdicts n of_value v (omega (arith, all.size)) (subst (λ j. slice_get (set verdicts n of_value) j ≡ Some v) e at_v) in
+        subst (λ u. Remembers k lines (test x) u) (sym same_verdicts) (subst (λ u. Remembers k lines (test u) of_value) (sym same_value) kept)
+    | inr other ↦ all.each m x v at_x (get_set_other verdicts n of_value v m other at_v)
+  ];
+}
+
+-- One item more does not pass.
+pub any_more : {X : Type 0} (p : X → Bool) (xs : List X) (n : ℕ) (x : X) → n < length xs → x ≡ get_or xs n x → p x ≡ false
+    → list_any p (drop n xs) ≡ list_any p xs → list_any p (drop (n + 1) xs) ≡ list_any p xs
+any_more p xs n x h is fails so_far =
+    ap (λ b. b || list_any p (drop (n + 1) xs)) (sym fails)
+    ∙ ap (λ y. list_any p (y ∷ drop (n + 1) xs)) is
+    ∙ ap (list_any p) (sym (drop_more xs n x h))
+    ∙ so_far
+
+pub fresh_remembered : {X : Type 0} (k : Kind) (lines : List Line) (test : X → Atom → Bool) (values : List X) (verdicts : List Verdicts)
+    → length verdicts ≡ length values → All (AreFresh lines) verdicts → AreRemembered k lines test values verdicts
+fresh_remembered k lines test values verdicts size all = record {
+  size = size;
+  each = λ n value v at_x at_v.
+      subst (λ u. Remembers k lines (test value) u) (get_or_from_slice_get verdicts n v v at_v) (all n v (slice_get_within verdicts n v at_v) k (test value));
+}
+
+-- ---- a list that is one of the members of another
+
+pub from_more : {X : Type 0} {Step : X → X → Type 0} (P Q : X → Type 0) → ((x : X) → P x → Q x) → (x : X) → Chain Step P x → Chain Step Q x
+from_more P Q wider x (here y p) = here y (wider y p)
+from_more P Q wider x (onward y z c s) = onward y z (from_more P Q wider y c) s
+
+pub has_left : {X : Type 0} (xs ys : List X) (x : X) → Has xs x → Has (xs ++ ys) x
+has_left [] ys x h = absurd h
+has_left (y ∷ xs) ys x (inl e) = inl e
+has_left (y ∷ xs) ys x (inr h) = inr (has_left xs ys x h)
+
+pub has_right : {X : Type 0} (xs ys : List X) (x : X) → Has ys x → Has (xs ++ ys) x
+has_right [] ys x h = h
+has_right (y ∷ xs) ys x h = inr (has_right xs ys x h)
+
+-- the names of the member at a place
+names_at : {R : Type 0} (f : R → Member) (rows : List R) (n : ℕ) (d : R) → n < length rows → (name : List ℕ)
+    → Has (names_in (f (get_or rows n d) ∷ [])) name → Has (names_in (map f rows)) name
+names_at f [] n d h name has = absurd (omega arith)
+names_at f (x ∷ rows) zero d h name has = has_left (name_in (f x).atom) (names_in (map f rows)) name (subst (λ ns. Has ns name) (append-nil (name_in (f x).atom)) has)
+names_at f (x ∷ rows) (suc n) d h name has = has_right (name_in (f x).atom) (names_in (map f rows)) name (names_at f rows n d (omega arith) name has)
+
+pub row_straight : {R : Type 0} (k : Kind) (lines : List Line) (f : R → Member) (rows : List R) (n : ℕ) (d : R) (one : List R) → n < length rows → one ≡ get_or rows n d ∷ []
+    → IsStraight k lines (map f rows) → IsStraight k lines (map f one)
+row_straight k lines f rows n d one h is straight l = let m = f (get_or rows n d) in let o = subst (λ rs. LeadsToCycle k lines (map f rs)) is l in straight (record {
+  alias = o.alias;
+  stands = o.stands;
+  of_kind = o.of_kind;
+  reached = from_more (Has (names_in (m ∷ []))) (Has (names_in (map f rows))) (names_at f rows n d h) o.alias.def.name o.reached;
+  cyclic = o.cyclic;
+})
+
+pub keeps_row : {R : Type 0} (k : Kind) (lines others : List Line) (g other : Filter) (f : R → Member) (one : List R) (row : R) (b : Bool)
+    → others ≡ lines → other ≡ g → one ≡ row ∷ [] → b ≡ keeps k others other (map f one) → keeps_member k lines g (f row) ≡ b
+keeps_row k lines others g other f one row b same_lines same_filter is e =
+    sym (e ∙ ap (λ rs. keeps k others other (map f rs)) is ∙ ap (λ ls. keeps k ls other (f row ∷ [])) same_lines ∙ ap (λ x. keeps k lines x (f row ∷ [])) same_filter)
+
+pub stays_on : (first second third : Matcher) → StaysMatcher first second → StaysMatcher second third → StaysMatcher first third
+stays_on first second third a b = record { is_matcher = b.is_matcher; lines = b.lines ∙ a.lines; filter = b.filter ∙ a.filter }
+
+-- ---- rows that stay
+
+module _ {R : Type 0} (f : R → Member) (p : Member → Bool) (rows : List R) (n : ℕ) (d : R) (h : n < length rows) (left : List R) where
+  at_row : filter p (map f (drop n rows)) ≡ filter p (f (get_or rows n d) ∷ map f (drop (n + 1) rows))
+  at_row = ap (λ rs. filter p (map f rs)) (drop_more rows n d h)
+
+  pub row_falls : (same : List R) → same ≡ left → p (f (get_or rows n d)) ≡ false → map f left ++ filter p (map f (drop n rows)) ≡ filter p (map f rows)
+      → map f same ++ filter p (map f (drop (n + 1) rows)) ≡ filter p (map f rows)
+  row_falls same e fails so_far =
+      ap (λ rs. map f rs ++ filter p (map f (drop (n + 1) rows))) e
+      ∙ ap (λ b. map f left ++ cond b (f (get_or rows n d) ∷ filter p (map f (drop (n + 1) rows))) (filter p (map f (drop (n + 1) rows)))) (sym fails)
+      ∙ ap (λ ms. map f left ++ ms) (sym at_row)
+      ∙ so_far
+
+  pub row_stays : (more : List R) → more ≡ left ++ get_or rows n d ∷ [] → p (f (get_or rows n d)) ≡ true → map f left ++ filter p (map f (drop n rows)) ≡ filter p (map f rows)
+      → map f more ++ filter p (map f (drop (n + 1) rows)) ≡ filter p (map f rows)
+  row_stays more e passes so_far =
+      ap (λ rs. map f rs ++ filter p (map f (drop (n + 1) rows))) e
+      ∙ ap (λ ms. ms ++ filter p (map f (drop (n + 1) rows))) (map_push f left (get_or rows n d))
+      ∙ append_assoc (map f left) (f (get_or rows n d) ∷ []) (filter p (map f (drop (n + 1) rows)))
+      ∙ ap (λ b. map f left ++ cond b (f (get_or rows n d) ∷ filter p (map f (drop (n + 1) rows))) (filter p (map f (drop (n + 1) rows)))) (sym passes)
+      ∙ ap (λ ms. map f left ++ ms) (sym at_row)
+      ∙ so_far
+
+all_stay : {X : Type 0} (xs : List X) → xs ≡ filter (λ _. true) xs
+all_stay [] = refl
+all_stay (x ∷ xs) = ap (λ ys. x ∷ ys) (all_stay xs)
+
+-- All stay, or those that pass.
+pub stay_or_pass : {X : Type 0} (all : Bool) (p : X → Bool) (xs : List X) → filter (λ x. all || p x) xs ≡ cond all xs (filter p xs)
+stay_or_pass true p xs = sym (all_stay xs)
+stay_or_pass false p xs = refl
+
+pub straight_too : (k : Kind) (lines others : List Line) (ms : List Member) → others ≡ lines → IsStraight k lines ms → IsStraight k others ms
+straight_too k lines others ms same straight l = straight (subst (λ ls. LeadsToCycle k ls ms) same l)

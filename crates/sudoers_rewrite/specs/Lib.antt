@@ -1,0 +1,12 @@
+pub mod Expand
+pub mod Filter
+pub mod FilterText
+pub mod FilterSeen
+pub mod Count
+pub mod Rewrite
+pub mod Extended
+pub mod Matcher
+pub mod Pruned
+pub mod Written
+pub mod Changed
+pub mod Selected

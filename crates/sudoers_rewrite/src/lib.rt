@@ -1,0 +1,27 @@
+//! Rules of a policy, filtered and with their aliases replaced.
+#![tactic(auto)]
+
+mod aliases;
+mod changing;
+mod commands;
+mod copying;
+mod filter;
+mod filter_text;
+mod filtering;
+mod flatten;
+mod groups;
+mod listing;
+mod matching;
+mod nodes;
+mod pruning;
+mod rewriting;
+mod selecting;
+mod tally;
+mod used;
+mod values;
+
+pub use changing::{Changes, rewrite};
+pub use filter::Filter;
+pub use filter_text::{FilterFault, read_filter};
+pub use rewriting::Rewritten;
+pub use used::{check_members, find_round, used_rules};

@@ -1,0 +1,14 @@
+mod Flattened
+mod Heads
+mod Settings
+mod Rows
+mod Specs
+mod SameAnswers
+mod Kept
+mod Used
+mod Readable
+mod Written
+mod Printed
+mod Reached
+mod Cycles
+mod Defined

@@ -1,0 +1,39 @@
+//! Laws of rewritten rules that are printed. Each is the contract of a function that does nothing.
+
+ghost use Rattle.std.specs.Prelude.{◌≡◌, true, List};
+ghost use Rattle.std.specs.List.{AllByRecursion};
+ghost use Rattle.sudoers_tree.specs.Line.{Line as LineOf};
+ghost use Rattle.sudoers_tree.specs.Policy.{IsPolicy};
+ghost use Rattle.sudoers_print_laws.specs.Writable.{IsWritable};
+ghost use Rattle.sudoers_cvt.specs.Rules.{lines_of, printed, fits};
+ghost use Rattle.sudoers_cvt_laws.specs.ReadAs.{IsReadAs};
+ghost use Rattle.sudoers_rewrite.specs.Rewrite.{used_rules};
+ghost use Rattle.sudoers_rewrite_laws.specs.Expanded.{expanded};
+
+use sudoers_print_laws::{
+    printed_line_is_line, printed_line_is_read, printed_lines_are_cut, read_can_be_written,
+    writable_is_kept,
+};
+use sudoers_tree::{one_outcome, read_is};
+
+/// Each line of the rules of a policy can be written with its aliases replaced.
+pub fn expanded_rules_can_be_written()
+    ensures { (lines : List LineOf) → IsPolicy lines → AllByRecursion IsWritable (lines_of (used_rules (expanded lines))) }
+{
+    read_can_be_written();
+    writable_is_kept();
+}
+
+/// The text that is printed of the rules of a policy with its aliases replaced, if it is within the limits, is a policy. Its lines say
+/// the same as those of the rules, one by one.
+pub fn expanded_rules_are_read()
+    ensures { (lines : List LineOf) → IsPolicy lines → fits (used_rules (expanded lines)) ≡ true
+        → IsReadAs (printed (used_rules (expanded lines))) (lines_of (used_rules (expanded lines))) }
+{
+    expanded_rules_can_be_written();
+    printed_line_is_read();
+    printed_line_is_line();
+    printed_lines_are_cut();
+    read_is();
+    one_outcome();
+}

@@ -1,0 +1,20 @@
+//! Laws of what the program writes. Each is the contract of a function that does nothing.
+
+ghost use Rattle.std.specs.Prelude.{◌≡◌, ℕ, Bool, List, Ok};
+ghost use Rattle.sudoers_run.specs.Convert.{convert_output};
+ghost use Rattle.sudoers_run_laws.specs.Converted.{IsConverted, plain_words};
+
+use sudoers_cvt_laws::{printed_rules_answer, printed_rules_are_read, second_printing_is_same};
+use sudoers_tree::{one_outcome, read_is};
+
+/// What `convert -f sudoers` prints is a policy, which answers each request as the policy that was read. Converted again, it stays as it
+/// is.
+pub fn converted_policy_answers()
+    ensures { (prune : Bool) (input out : List ℕ) → convert_output (plain_words prune) input ≡ Ok out → IsConverted prune input out }
+{
+    read_is();
+    one_outcome();
+    printed_rules_are_read();
+    printed_rules_answer();
+    second_printing_is_same();
+}
