@@ -2,9 +2,11 @@
 
 ghost use Rattle.std.specs.Prelude.{◌≡◌, ℕ, Bool, List, Ok};
 ghost use Rattle.sudoers_run.specs.Convert.{convert_output};
-ghost use Rattle.sudoers_run_laws.specs.Converted.{IsConverted, plain_words};
+ghost use Rattle.sudoers_run_laws.specs.Converted.{IsConverted, IsExpanded, expanding_words, plain_words};
 
+use sudoers_check::chains_are;
 use sudoers_cvt_laws::{printed_rules_answer, printed_rules_are_read, second_printing_is_same};
+use sudoers_rewrite_laws::{expanded_rules_are_read, printed_expansion_answers};
 use sudoers_tree::{one_outcome, read_is};
 
 /// What `convert -f sudoers` prints is a policy, which answers each request as the policy that was read. Converted again, it stays as it
@@ -17,4 +19,15 @@ pub fn converted_policy_answers()
     printed_rules_are_read();
     printed_rules_answer();
     second_printing_is_same();
+}
+
+/// What `convert -f sudoers -e` prints is a policy, which answers each request as the policy that was read, numbers aside.
+pub fn expanded_policy_is_printed()
+    ensures { (prune : Bool) (input out : List ℕ) → convert_output (expanding_words prune) input ≡ Ok out → IsExpanded input out }
+{
+    read_is();
+    one_outcome();
+    chains_are();
+    expanded_rules_are_read();
+    printed_expansion_answers();
 }

@@ -3,4 +3,4 @@
 
 mod laws;
 
-pub use laws::converted_policy_answers;
+pub use laws::{converted_policy_answers, expanded_policy_is_printed};

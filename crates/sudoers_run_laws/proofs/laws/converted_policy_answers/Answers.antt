@@ -4,13 +4,12 @@ use Rattle.sudoers_tree.specs.Line.{Line}
 use Rattle.sudoers_tree.specs.declared.fault.ReadFault.{ReadFault}
 use Rattle.sudoers_tree.specs.Policy.{IsPolicy}
 use Rattle.sudoers_tree.specs.Reading.{read_of, IsOutcome}
-use Rattle.sudoers_cvt.specs.Rules.{Rules, rules_of, printed, fits}
+use Rattle.sudoers_cvt.specs.Rules.{rules_of, printed, fits}
 use Rattle.sudoers_cvt.specs.declared.fault.CvtFault.TheVariants.{TooLarge}
-use Rattle.sudoers_run.specs.declared.form.Form.TheVariants.{Sudoers}
 use Rattle.sudoers_run.specs.declared.fault.LayerFault.{LayerFault}
 use Rattle.sudoers_run.specs.declared.fault.LayerFault.TheVariants as layer
 use Rattle.sudoers_run.specs.declared.words.ConvertWords.{ConvertWords}
-use Rattle.sudoers_run.specs.Convert.{converted, convert_output, convert_read}
+use Rattle.sudoers_run.specs.Convert.{convert_read}
 use Rattle.sudoers_run_laws.specs.Converted.{IsConverted, plain_words}
 use Rattle.sudoers_run_laws.proofs.laws.converted_policy_answers.Goals as goal
 

@@ -14,7 +14,7 @@ use Rattle.sudoers_rewrite_laws.specs.Expanded.{expanded}
 use Rattle.sudoers_run.specs.declared.fault.LayerFault.{LayerFault}
 use Rattle.sudoers_run.specs.declared.fault.LayerFault.TheVariants as layer
 use Rattle.sudoers_run.specs.declared.words.ConvertWords.{ConvertWords}
-use Rattle.sudoers_run.specs.Convert.{convert_output, convert_read}
+use Rattle.sudoers_run.specs.Convert.{convert_read}
 use Rattle.sudoers_run_laws.specs.Converted.{IsExpanded, expanding_words}
 use Rattle.sudoers_run_laws.proofs.laws.expanded_policy_is_printed.Goals as goal
 
