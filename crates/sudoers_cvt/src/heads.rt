@@ -50,7 +50,7 @@ fn append_limits(out: &mut Vec<u8>, options: &Options<'_>) -> Result<(), AllocEr
     append_value(out, OptionName::Chroot, options.chroot)
 }
 
-/// Appends the options that are set, each with a blank behind it.
+/// Appends the options that are set, each with a blank after it.
 fn append_options(out: &mut Vec<u8>, options: &Options<'_>) -> Result<(), AllocError>
     ensures { OnOk result (out.new.items ≡ out.old.items ++ printed_values (values_shown options.now)) }
 {
@@ -89,7 +89,7 @@ fn append_last_tags(out: &mut Vec<u8>, tags: &Tags) -> Result<(), AllocError>
     append_said(out, Tag::Setenv, tags.setenv)
 }
 
-/// Appends the tags that stand, each with `: ` behind it.
+/// Appends the tags that stand, each with `: ` after it.
 fn append_tags(out: &mut Vec<u8>, tags: &Tags) -> Result<(), AllocError>
     ensures { OnOk result (out.new.items ≡ out.old.items ++ printed_tags_said tags.now) }
 {

@@ -25,7 +25,7 @@ fn verb(groups: &[HostGroup<'_>]) -> &'static [u8]
     b" on "
 }
 
-/// Returns what stands behind the name of the host.
+/// Returns what stands after the name of the host.
 fn stop(groups: &[HostGroup<'_>]) -> &'static [u8]
     ensures { result.now ≡ stop (map group_shown groups.now) }
 {

@@ -68,7 +68,7 @@ fn command_in(alloc: Global, words: &[Items<u8>]) -> Result<Items<u8>, AllocErro
     }
 }
 
-/// Returns the words behind the first.
+/// Returns the words after the first.
 fn args_in(alloc: Global, words: &[Items<u8>]) -> Result<Items<Items<u8>>, AllocError>
     ensures { IfOk result (λ args. args ≡ args_in words.now) }
 {

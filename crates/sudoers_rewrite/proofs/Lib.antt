@@ -1,5 +1,4 @@
 pub mod FilterTexts
-pub mod AtPlaces
 pub mod Matchers
 pub mod Found
 pub mod Lists

@@ -99,7 +99,7 @@ fn bare(text: &[u8]) -> &[u8]
     without_last_blanks(without_first_blanks(text))
 }
 
-/// Returns the bytes before the first such byte, and those behind it.
+/// Returns the bytes before the first such byte, and those after it.
 fn split_at(byte: u8, text: &[u8]) -> Option<(&[u8], &[u8])>
     ensures { parts_seen result ≡ split_at byte text.now }
 {

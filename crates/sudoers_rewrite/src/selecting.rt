@@ -185,7 +185,7 @@ fn matches_list(
     }
 }
 
-/// Returns what is left of a line that says this. No list that the filter asks for leads to a cyclic alias.
+/// Returns what the filter leaves of a line. `row` is what the line says. No list that the filter reads leads to a cyclic alias.
 pub fn select_node(
     alloc: Global,
     matcher: &mut Matcher<'_>,

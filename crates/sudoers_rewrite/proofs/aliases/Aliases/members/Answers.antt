@@ -3,7 +3,7 @@ use Rattle.std.specs.List.{slice_range}
 use Rattle.sudoers_line.specs.declared.node.Def.{Def}
 use Rattle.sudoers_reader.specs.Tables.{def_in, member_in}
 use Rattle.sudoers_tree.specs.Line.{Line, line_in}
-use Rattle.sudoers_rewrite.proofs.AtPlaces.{found_at}
+use Rattle.sudoers_tree.proofs.AtPlaces.{found_at}
 use Rattle.sudoers_rewrite.proofs.Found.{not_missing, is_seen, alias_row, same_defs}
 use Rattle.sudoers_rewrite.proofs.aliases.Aliases.members.Goals as goal
 
