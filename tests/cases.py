@@ -5,6 +5,8 @@ The files of a case, each of which may be missing:
     words        the command words, one a line (none)
     stdin        standard input (empty)
     policy       a file that the words may name: the program runs in the folder
+    passwd       files of users and groups, likewise
+    group
     stdout       standard output, byte for byte (empty)
     stderr       standard error, byte for byte (empty)
     stdout_has   in place of stdout: each line of it has to occur there
@@ -23,16 +25,24 @@ from dataclasses import dataclass
 
 import converting
 import way_back
-from program import Wanted, run
+from program import Wanted, fault, run
 
 FOLDER = os.path.join(os.path.dirname(os.path.abspath(__file__)), "cases")
-GROUPS = ("check", "convert", "edit", "show", "words")
-FILES = {"words", "stdin", "policy", "stdout", "stderr", "stdout_has", "stderr_has", "status", "back"}
+GROUPS = ("check", "convert", "edit", "list", "show", "words")
+FILES = {"words", "stdin", "policy", "passwd", "group", "stdout", "stderr", "stdout_has", "stderr_has", "status", "back"}
+
+
+class NoRow(ValueError):
+    """A table of tests/rows that cannot be read."""
 
 
 @dataclass(frozen=True)
 class Case:
-    """One case: its input and what is wanted. It comes from a folder, a row of a table or a function."""
+    """One case: its input and what is wanted. It comes from a folder, a row of a table or a function.
+
+    The program runs in `folder`, if there is one, or else in a new folder with these `files`, each a name and a text.
+    `device` is the number of the file whose reads `devices.py` lets fail: 0 is standard input.
+    """
 
     name: str
     words: tuple
@@ -41,6 +51,15 @@ class Case:
     back: bool = False
     folder: object = None
     table: str = ""
+    files: tuple = ()
+    device: int = 0
+
+
+def error_of(answer):
+    """What a run writes and returns that ends in the error of a row."""
+    if not answer or b"\n" in answer:
+        raise NoRow("an error is one line")
+    return fault(answer.decode())
 
 
 def read_file(folder, name):
@@ -94,7 +113,7 @@ def load_all():
 
 def run_case(program, tally, case):
     """Runs a case, the way back of an accepted edit, and what is printed of a policy once more."""
-    problems = case.wanted.problems(run(program, case.words, case.stdin, folder=case.folder))
+    problems = case.wanted.problems(run(program, case.words, case.stdin, folder=case.folder, files=case.files))
     problems = problems or converting.problems(program, case.words, case.wanted)
     if way_back.is_accepted(case.words, case.wanted) and not problems:
         problems = way_back.problems(program, case.words, case.stdin, case.wanted.stdout, whole=case.back)

@@ -1,6 +1,8 @@
 """Runs the built program once and holds what it answered."""
 
+import os
 import subprocess
+import tempfile
 from dataclasses import dataclass
 
 from tally import difference, shown
@@ -50,11 +52,17 @@ def fault(text):
     return Wanted(stderr=NAME + text.encode() + b"\n", status=1)
 
 
-def run(program, words=(), stdin=b"", environment=None, stdout=subprocess.PIPE, folder=None):
-    """Runs `program` with these words, in `folder` where one is given; `stdin` is bytes or an open file.
+def run(program, words=(), stdin=b"", environment=None, stdout=subprocess.PIPE, folder=None, files=()):
+    """Runs `program` with these words, in `folder` or in a new folder with `files`, where one is given.
 
-    Where `stdout` is an open file, the answer holds nothing of what went there.
+    `stdin` is bytes or an open file. Where `stdout` is an open file, the answer holds nothing of what went there.
     """
+    if files:
+        with tempfile.TemporaryDirectory(prefix="sudoers_tool_tests_") as made:
+            for name, text in files:
+                with open(os.path.join(made, name), "wb") as file:
+                    file.write(text)
+            return run(program, words, stdin, environment, stdout, made)
     how = {"input": stdin} if isinstance(stdin, bytes) else {"stdin": stdin}
     try:
         done = subprocess.run(

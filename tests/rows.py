@@ -6,13 +6,18 @@ A table is a text file NAME.rows, in printable ASCII. It has these lines:
     form = FORM         what the rows after it hold, one of FORMS
     policy = POLICY     the policy of the rows after it, whose form names none
     script = SCRIPT     their script, likewise
-    words = WORDS       the words of `convert` before FILE, one blank between two; a filter comes after them
+    words = WORDS       the words of `convert` before FILE, and a filter comes after them; or the words of `list` before
+                        those of a row
+    asked = WORDS       the words of `list` after these
+    passwd = TEXT       the files of users and groups that `list` reads
+    group = TEXT
     NAME: CELLS         a row, whose cells are those of the form
 
 A name is of small letters, digits and `_`, and no two cases have the same one. A row may go on in lines that are
 indented and begin with `%%` or `=>`; its first cell may begin in a line of its own after `NAME:`.
 
-A cell is the exact text, with these escapes, and without blanks at its ends:
+Words have one blank between two, so that an empty word has a blank before and after it. Any other cell is the exact
+text, without blanks at its ends. Both have these escapes:
 
     \n \r \t \0 \\      LF, CR, tab, NUL, a backslash
     \xHH                the byte with these two hexadecimal digits: \x20 is a blank at an end
@@ -21,22 +26,20 @@ A cell is the exact text, with these escapes, and without blanks at its ends:
 
 import os
 import re
-from dataclasses import dataclass, field
+from dataclasses import dataclass, field, replace
 
+import asking
 import cases
+from cases import Case, NoRow
 from program import Wanted, fault
 
 FOLDER = os.path.join(os.path.dirname(os.path.abspath(__file__)), "rows")
 MARK = b"%%\n"
 ESCAPES = {"n": b"\n", "r": b"\r", "t": b"\t", "0": b"\0", "\\": b"\\"}
 
-SETTING = re.compile(r"(form|policy|script|words) =(?: (.*))?")
+SETTING = re.compile(r"(form|policy|script|words|asked|passwd|group) =(?: (.*))?")
 ROW = re.compile(r"([a-z0-9_]+):(?: +(.*))?")
 PIECE = re.compile(r"\\\{([1-9][0-9]*)\*([^}]+)\}|\\x([0-9a-f]{2})|\\(.)|([^\\])")
-
-
-class NoRow(ValueError):
-    """A table that cannot be read."""
 
 
 # ---- cells -------------------------------------------------------------------
@@ -64,6 +67,16 @@ def text_of(cell):
     return text
 
 
+def words_of(cell):
+    """The words that a cell spells."""
+    return tuple(text_of(word) for word in cell.split(" ")) if cell else ()
+
+
+def given_of(name, cell):
+    """What a cell or a setting of this name hands in: words or a text."""
+    return words_of(cell) if name in ("words", "asked") else text_of(cell)
+
+
 def split_at(sign, text):
     """The pieces of the text between the signs that have a blank or an end on both sides."""
     return re.split(rf"(?:^|(?<= )){re.escape(sign)}(?= |$)", text)
@@ -79,17 +92,11 @@ def cells_of(text, form):
     for cells, wanted, where in ((given, len(form.given), "before"), (answer, form.answer, "after")):
         if len(cells) != wanted:
             raise NoRow(f"{len(cells)} cells {where} `=>`, the form has {wanted}")
-    return [text_of(cell.strip(" ")) for cell in given], [text_of(cell.strip(" ")) for cell in answer]
+    texts = {name: given_of(name, cell.strip(" ")) for name, cell in zip(form.given, given)}
+    return texts, [text_of(cell.strip(" ")) for cell in answer]
 
 
 # ---- forms -------------------------------------------------------------------
-
-
-def error_of(answer):
-    """What a run writes and returns that ends in this error."""
-    if not answer or b"\n" in answer:
-        raise NoRow("an error is one line")
-    return fault(answer.decode())
 
 
 def payload(line):
@@ -108,36 +115,37 @@ def joined(script, policy):
 
 def refused_input(given, answer):
     """An input of `edit`, and its error."""
-    return given[0], error_of(answer[0]), False
+    return Case("", (), given["input"], cases.error_of(answer[0]))
 
 
 def refused(given, answer):
     """A script, a policy and the error."""
-    return joined(*given), error_of(answer[0]), False
-
-
-def accepted(given, answer):
-    """A script, a policy, the undo script and the edited policy. The undo script leads back, to the script too."""
-    return joined(*given), Wanted(joined(*answer)), True
+    return Case("", (), joined(given["script"], given["policy"]), cases.error_of(answer[0]))
 
 
 def pruned(given, answer):
-    """The same, but the undo script leads back to the policy alone: other edits undo `prune`."""
-    return joined(*given), Wanted(joined(*answer)), False
+    """A script, a policy, the undo script, which leads back to the policy alone, and the edited policy."""
+    return Case("", (), joined(given["script"], given["policy"]), Wanted(joined(*answer)))
+
+
+def accepted(given, answer):
+    """The same, but the undo script leads back to the script too. Only edits that undo `prune` do not."""
+    return replace(pruned(given, answer), back=True)
 
 
 def first_line(given, answer):
     """A policy and its first logical line: `delete 1` takes just this line, and `insert 1` of it is the undo script."""
-    policy, line = given[1], answer[0]
+    policy, line = given["policy"], answer[0]
     if not line or not policy.startswith(line):
         raise NoRow("the policy does not begin with this line")
-    return accepted((b"delete 1\n", policy), (b"insert 1\n" + payload(line), policy[len(line) :]))
+    edit = {"script": b"delete 1\n", "policy": policy}
+    return accepted(edit, (b"insert 1\n" + payload(line), policy[len(line) :]))
 
 
 def converted(given, wanted):
     """`convert` of a policy on standard input, with the words of the setting and then the filter, if there is one."""
-    words, *filters, policy = given
-    return policy, wanted, False, "convert", *words.decode().split(" "), *(text.decode() for text in filters), "-"
+    filters = [given["filter"]] if "filter" in given else []
+    return Case("", ("convert", *given["words"], *filters, "-"), given["policy"], wanted)
 
 
 def printed(given, answer):
@@ -147,41 +155,36 @@ def printed(given, answer):
 
 def not_printed(given, answer):
     """A policy that is not converted, and the error."""
-    return converted(given, error_of(answer[0]))
+    return converted(given, cases.error_of(answer[0]))
 
 
 @dataclass(frozen=True)
 class Form:
-    """What a row holds before and after `=>`, and the case that it makes."""
+    """What a row holds before and after `=>`, the case that it makes, and the settings that it needs besides."""
 
     given: tuple
     answer: int
     make: object
+    shared: tuple = ()
 
 
 FORMS = {
     "input => error": Form(("input",), 1, refused_input),
-    "script => error": Form(("script",), 1, refused),
-    "policy => error": Form(("policy",), 1, refused),
+    "script => error": Form(("script",), 1, refused, ("policy",)),
+    "policy => error": Form(("policy",), 1, refused, ("script",)),
     "script %% policy => error": Form(("script", "policy"), 1, refused),
     "script %% policy => undo %% edited": Form(("script", "policy"), 2, accepted),
     "pruning script %% policy => undo %% edited": Form(("script", "policy"), 2, pruned),
     "policy => first line": Form(("policy",), 1, first_line),
-    "policy => printed": Form(("policy",), 1, printed),
-    "policy => not printed": Form(("policy",), 1, not_printed),
-    "filter %% policy => printed": Form(("filter", "policy"), 1, printed),
-    "filter %% policy => not printed": Form(("filter", "policy"), 1, not_printed),
+    "policy => printed": Form(("policy",), 1, printed, ("words",)),
+    "policy => not printed": Form(("policy",), 1, not_printed, ("words",)),
+    "filter %% policy => printed": Form(("filter", "policy"), 1, printed, ("words",)),
+    "filter %% policy => not printed": Form(("filter", "policy"), 1, not_printed, ("words",)),
 }
-
-# What the settings of a table may name.
-SHARED = {
-    "script => error": "policy",
-    "policy => error": "script",
-    "policy => printed": "words",
-    "policy => not printed": "words",
-    "filter %% policy => printed": "words",
-    "filter %% policy => not printed": "words",
-}
+for names in asking.GIVEN:
+    for outcome, make in asking.OUTCOMES.items():
+        shared = tuple(name for name in asking.NAMES if name not in names)
+        FORMS[f"{' %% '.join(names)} => {outcome}"] = Form(names, 1, make, shared)
 
 
 # ---- tables ------------------------------------------------------------------
@@ -207,23 +210,15 @@ class Table:
         if key == "form":
             self.form = value
         else:
-            self.shared[key] = text_of(value)
+            self.shared[key] = given_of(key, value)
 
-    def given(self, cells):
-        """What a row with these cells before `=>` hands in: its own cells and the shared one."""
-        names = FORMS[self.form].given
-        texts = dict(zip(names, cells))
-        missing = SHARED.get(self.form)
-        if missing is not None:
-            if missing not in self.shared:
-                raise NoRow(f"no `{missing} =` comes before this row")
-            texts[missing] = self.shared[missing]
-            self.unused.discard(missing)
-        if names == ("input",):
-            return (texts["input"],)
-        if missing == "words":
-            return texts["words"], *cells
-        return texts.get("script", b""), texts["policy"]
+    def settings(self, form):
+        """What the settings hand in that the rows of a form need."""
+        for name in form.shared:
+            if name not in self.shared:
+                raise NoRow(f"no `{name} =` comes before this row")
+        self.unused.difference_update(form.shared)
+        return {name: self.shared[name] for name in form.shared}
 
     def add(self, name, text):
         """Reads a row."""
@@ -232,8 +227,8 @@ class Table:
         self.unused.discard("form")
         form = FORMS[self.form]
         given, answer = cells_of(text, form)
-        stdin, wanted, back, *words = form.make(self.given(given), answer)
-        self.rows.append(cases.Case(name, tuple(words), stdin, wanted, back, table=self.name))
+        case = form.make({**self.settings(form), **given}, answer)
+        self.rows.append(replace(case, name=name, table=self.name))
 
 
 def statements(text):
@@ -304,6 +299,7 @@ def load_every():
 
 # Tables with one mistake each: the reader has to refuse them.
 BEGIN = "form = script => error\npolicy = # a\\n\n"
+LISTED = "form = asked => listed\nwords =\npolicy =\npasswd =\n"
 MISTAKES = (
     "",
     "# A comment alone.\n",
@@ -335,7 +331,13 @@ MISTAKES = (
     "form = policy => printed\nno_words: # a\\n =>\n",
     "form = policy => not printed\nwords = -f sudoers\nempty_answer: # a\\n =>\n",
     "form = filter %% policy => printed\nwords = -f sudoers -m\nno_filter: # a\\n =>\n",
-    "form = filter %% policy => printed\nno_words: user=a %% # a\\n =>\n",
+    LISTED + "no_group: - =>\n",
+    LISTED + "group =\ntwo_answers: - => a => b\n",
+    LISTED + "group =\nno_line_end: - => a\n",
+    LISTED + "group =\na: - =>\ngroup = unused\n",
+    LISTED.replace("listed", "why") + "group =\nno_verdict: - => a\\n\n",
+    LISTED.replace("listed", "why") + "group =\nempty_answer: - =>\n",
+    LISTED.replace("listed", "not listed") + "group =\nempty_answer: - =>\n",
 )
 
 
