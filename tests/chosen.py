@@ -1,6 +1,6 @@
 """The cases that run with refused growths and failing devices: chosen from the folders and tables, or made here."""
 
-from dataclasses import dataclass
+from dataclasses import dataclass, replace
 
 import cases
 import rows
@@ -9,11 +9,16 @@ from program import Wanted, fault
 
 @dataclass(frozen=True)
 class Input:
-    """How many bytes the program reads with these words, and what it answers to more."""
+    """How many bytes the program reads of an input with these words, and what it answers to more.
+
+    `files` are the other files, and `device` is the number of the input, as in `cases.Case`.
+    """
 
     words: tuple
     limit: int
     too_large: Wanted
+    files: tuple = ()
+    device: int = 0
 
 
 EDIT = Input((), 4_000_000, fault("InputTooLarge"))
@@ -23,6 +28,18 @@ QUIET = Input(("check", "-q", "-"), 1_048_576, Wanted(status=1))
 CONVERT = Input(("convert", "-f", "sudoers", "-"), 1_048_576, fault("-: TooLarge"))
 EXPAND = Input(("convert", "-f", "sudoers", "-e", "-"), 1_048_576, fault("-: TooLarge"))
 FILTER = Input(("convert", "-f", "sudoers", "-m", "user=bob", "-p", "-"), 1_048_576, fault("-: TooLarge"))
+
+# The policy of `list` is standard input. Then the program opens `passwd` and `group`, which have these numbers.
+PASSWD, GROUP = 3, 4
+PEOPLE = (
+    ("passwd", b"root:x:0:0:::\nbob:x:1000:1000:::\n"),
+    ("group", b"adm:x:4:bob\n"),
+)
+LIST_WORDS = ("list", "--passwd", "passwd", "--group-file", "group", "--host", "h1", "--moment", "2026010100Z", "-U", "bob")
+LIST = Input((*LIST_WORDS, "-"), 1_048_576, fault("-: TooLarge"), PEOPLE)
+WHY = Input((*LIST_WORDS, "--why", "-", "/bin/ls"), 1_048_576, fault("-: TooLarge"), PEOPLE)
+LIST_PASSWD = Input((*LIST_WORDS, "-"), 1_048_576, fault("TooLarge"), PEOPLE, PASSWD)
+LIST_GROUP = Input((*LIST_WORDS, "-", "/bin/ls"), 1_048_576, fault("TooLarge"), PEOPLE, GROUP)
 
 # Folders and rows that run under every refusal and failure.
 EDITS = (
@@ -97,6 +114,35 @@ CONVERTS = (
     "filter_by_command",
     "filter_of_a_cycle",
 )
+LISTS = (
+    "list_of_standard_input",
+    "command_for_a_group_is_allowed",
+    "why_of_a_denied_command_on_standard_input",
+    "list_of_a_standard_input_with_an_error",
+    "listing_of_a_user_without_rules",
+    "listing_of_each_form_of_runas_spec",
+    "listing_of_inherited_options",
+    "listing_by_networks_of_two_interfaces",
+    "listing_of_a_cycle",
+    "command_that_no_rule_names_is_not_allowed",
+    "denied_by_a_negated_alias_that_allows",
+    "runas_default_that_is_taken_back_for_the_user_without_a_target",
+    "runas_user_and_group_with_both",
+    "reason_of_a_command_that_no_rule_names",
+    "reason_of_a_negated_alias_that_denies",
+    "reason_with_everything",
+    "reason_in_the_third_line_of_a_rule",
+    "rows_of_group_that_say_nothing",
+    "row_of_passwd_with_three_fields",
+    "row_of_group_with_three_fields",
+    "user_who_has_no_row",
+    "target_who_has_no_row",
+    "group_that_has_no_row",
+    "runas_default_who_has_no_row",
+    "interface_of_too_many_bits",
+    "moment_without_hours",
+    "cycle_comes_before_runas_default",
+)
 
 # Folders that run under every refusal of memory alone: they read no standard input.
 WORDS = (
@@ -138,6 +184,20 @@ WORDS = (
     "filter_and_expand_of_a_file_to_json",
     "cycle_of_a_file_that_is_expanded",
     "convert_with_two_filters",
+    "help_of_list",
+    "list_without_words",
+    "list_with_a_why_without_a_command",
+    "list_of_a_file",
+    "list_of_a_file_that_is_not_there",
+    "list_with_a_passwd_that_is_not_there",
+    "list_with_a_group_that_is_a_folder",
+    "missing_group_comes_before_an_error_of_the_policy",
+    "list_of_a_syntax_error",
+    "list_of_a_cycle",
+    "list_with_long_names",
+    "list_of_a_site_for_a_user_of_a_group",
+    "why_of_a_site_that_allows",
+    "why_of_a_site_that_denies",
 )
 
 
@@ -221,6 +281,40 @@ def many_rewritten_lines_case():
     return cases.Case("convert_of_sixty_rewritten_lines", words, b"Cmnd_Alias C = !/d, list\n" + policy, Wanted(text))
 
 
+def many_listed_lines_case():
+    """`list` of twenty rules of two commands, so that every list grows often."""
+    numbers = range(1, 21)
+    policy = b"".join(
+        b"User_Alias U%d = bob, !x : V%d = y\nU%d h2, h1 = (r, s : g)CWD=/x NOPASSWD:/a x  y,!C:h2=/b\n" % (3 * (n,))
+        for n in numbers
+    )
+    listed = b"    (r, s : g) CWD=/x NOPASSWD: /a x y\n    (r, s : g) CWD=/x NOPASSWD: !C\n"
+    wanted = Wanted(b"bob on h1:\n" + listed * len(numbers))
+    return cases.Case("list_of_forty_commands", LIST.words, policy, wanted, files=PEOPLE)
+
+
+def many_people_case():
+    """`list --why` with forty users and forty groups, so that every list of them grows often."""
+    numbers = range(1, 41)
+    passwd = b"bob:x:1000:1000:::\n" + b"".join(b"u%d:x:%d:%d:::\n" % (3 * (n,)) for n in numbers)
+    group = b"".join(b"g%d:x:%d:u%d,bob\n" % (3 * (n,)) for n in numbers)
+    words = (*LIST_WORDS, "-u", "u40", "-g", "g40", "--why", "--interfaces", ",".join(["10.0.0.1/8"] * 20), "-", "/a", "x")
+    wanted = Wanted(b"-:1: allowed by: (u40 : g40) /a\n")
+    files = (("passwd", passwd), ("group", group))
+    return cases.Case("why_with_eighty_rows_of_people", words, b"%g40, %g39 ALL = (u40 : g40) /a\n", wanted, files=files)
+
+
+def people_at_the_limit(name, device):
+    """`list` with a file of as many bytes as it may have."""
+    rows = {"passwd": b"u:x:1:1:::\n", "group": b"g:x:1:bob\n"}[name]
+    text = dict(PEOPLE)[name]
+    text += rows * ((LIST.limit - len(text)) // len(rows) - 1)
+    text += b"#" * (LIST.limit - len(text) - 1) + b"\n"
+    wanted = Wanted(b"bob on h1:\n    (root) /bin/ls\n")
+    files = tuple({**dict(PEOPLE), name: text}.items())
+    return cases.Case(f"{name}_at_the_limit", LIST.words, b"bob ALL=/bin/ls\n", wanted, files=files, device=device)
+
+
 def inputs_at_the_limit():
     """The greatest inputs that are read to their end."""
     script = b"#" * EDIT.limit
@@ -233,6 +327,10 @@ def inputs_at_the_limit():
     yield cases.Case("input_of_convert_at_the_limit", CONVERT.words, line * 16, Wanted())
     yield cases.Case("input_of_expand_at_the_limit", EXPAND.words, line * 16, Wanted())
     yield cases.Case("input_of_filter_at_the_limit", FILTER.words, line * 16, Wanted())
+    nothing = Wanted(b"bob may run nothing on h1.\n")
+    yield cases.Case("input_of_list_at_the_limit", LIST.words, line * 16, nothing, files=PEOPLE)
+    yield people_at_the_limit("passwd", PASSWD)
+    yield people_at_the_limit("group", GROUP)
 
 
 @dataclass(frozen=True)
@@ -241,6 +339,7 @@ class Chosen:
 
     every: tuple
     read: tuple
+    people: tuple
     words: tuple
     some: tuple
     given: tuple
@@ -249,16 +348,19 @@ class Chosen:
     def load():
         """The cases of all folders and tables, chosen by their names."""
         by_name = rows.load_every()
-        groups = (EDITS, SHOWS, CHECKS, CONVERTS, WORDS)
-        edits, shows, checks, converts, words = ([by_name[name] for name in names] for names in groups)
+        groups = (EDITS, SHOWS, CHECKS, CONVERTS, LISTS, WORDS)
+        edits, shows, checks, converts, lists, words = ([by_name[name] for name in names] for names in groups)
+        people = [replace(case, device=device) for case in lists for device in (PASSWD, GROUP)]
         return Chosen(
             every=tuple(by_name.values()),
-            read=(*edits, *shows, *checks, *converts),
+            read=(*edits, *shows, *checks, *converts, *lists),
+            people=tuple(people),
             words=tuple(words),
-            some=(edits[1], edits[5], shows[0], shows[2], *checks[:2], *checks[4:], *converts[:3]),
+            some=(edits[1], edits[5], shows[0], shows[2], *checks[:2], *checks[4:], *converts[:3], *lists[:3], *people[:2]),
             given=(
                 *((edits[1], EDIT), (shows[0], SHOW), (checks[0], CHECK), (checks[1], QUIET), (converts[0], CONVERT)),
                 (by_name["expand_of_standard_input"], EXPAND),
                 (by_name["filter_prune_and_expand_of_standard_input"], FILTER),
+                *((lists[0], LIST), (lists[2], WHY), (people[0], LIST_PASSWD), (people[3], LIST_GROUP)),
             ),
         )

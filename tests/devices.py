@@ -10,12 +10,16 @@ import subprocess
 import cases
 import real_devices
 from chosen import (
+    GROUP,
+    PASSWD,
     Chosen,
     inputs_at_the_limit,
     many_definitions_case,
     many_lines_case,
+    many_listed_lines_case,
     many_moves_case,
     many_notes_case,
+    many_people_case,
     many_printed_lines_case,
     many_rewritten_lines_case,
 )
@@ -23,6 +27,7 @@ from preload import Preloaded
 from program import Wanted, fault
 
 READ_CALLS = 4_194_304
+NAMES = {PASSWD: "passwd", GROUP: "group"}
 PIECES = (1, 2, 3, 7)
 MOST = 100_000
 
@@ -37,11 +42,12 @@ class Stand:
 
     def run(self, case, **settings):
         """One run of a case under these settings: the answer and the counts."""
-        return self.library.run(self.program, case, **settings)
+        return self.library.run(self.program, case, input=case.device, **settings)
 
     def note(self, case, what, problems):
-        """Counts one run, named after its case and what was done to it."""
-        self.tally.note(f"{case.name}, {what}", problems)
+        """Counts one run, named after its case, the file that fails if it is not standard input, and what was done."""
+        name = f"{case.name}, file {case.device}" if case.device else case.name
+        self.tally.note(f"{name}, {what}", problems)
 
     def until_none_is_met(self, case, what, setting, wanted_of, **settings):
         """Counts `setting` up from 1 until a run meets nothing.
@@ -117,7 +123,7 @@ def check_memory_and_devices(stand, given):
         refuse_growths_and_more(stand, case, input_given)
 
 
-# ---- standard input --------------------------------------------------------------
+# ---- the input ---------------------------------------------------------------------
 
 
 def fail_reads(stand, case, piece):
@@ -172,7 +178,7 @@ def endless_problems(answer, report, given):
 def endless_input(stand, given):
     """An input without end, in big reads and byte by byte."""
     name = "_".join(("endless_input_of", *given.words, str(given.limit)))
-    case = cases.Case(name, given.words, b"", given.too_large)
+    case = cases.Case(name, given.words, b"", given.too_large, files=given.files, device=given.device)
     for piece in (0, 1, 7):
         answer, report = stand.run(case, endless=1, short_read=piece)
         stand.note(case, f"reads of {piece or 'any'} bytes", endless_problems(answer, report, given))
@@ -182,13 +188,14 @@ def read_byte_by_byte(stand, case):
     """The whole input is read though each read gives one byte alone."""
     answer, report = stand.run(case, short_read=1)
     problems = case.wanted.problems(answer)
-    if report.read_bytes != len(case.stdin):
-        problems.append(f"bytes read: wanted {len(case.stdin)}, came {report.read_bytes}")
+    size = len(dict(case.files)[NAMES[case.device]]) if case.device else len(case.stdin)
+    if report.read_bytes != size:
+        problems.append(f"bytes read: wanted {size}, came {report.read_bytes}")
     stand.note(case, "reads of 1 byte", problems)
 
 
 def check_reads(stand, read, some, given):
-    """All that can go wrong with standard input: the most with some of the cases."""
+    """All that can go wrong with an input: the most with some of the cases."""
     for case in read:
         for piece in (0, 7):
             fail_reads(stand, case, piece)
@@ -277,6 +284,8 @@ def run_pieces(program, tally):
     """Runs the program with devices of the system that fail, and with devices that move few bytes at a time."""
     chosen = Chosen.load()
     for case, input_given in chosen.given:
+        if case.device:
+            continue
         if case.wanted.stdout:
             real_devices.run_writes(program, tally, case)
         real_devices.run_reads(program, tally, case, input_given.too_large)
@@ -290,7 +299,11 @@ def run_pieces(program, tally):
 
 def run_reads(program, tally):
     """Runs the program with readers that fail, are interrupted or never end."""
-    run_under_library(program, tally, lambda stand, chosen: check_reads(stand, chosen.read, chosen.some, chosen.given))
+
+    def check(stand, chosen):
+        check_reads(stand, (*chosen.read, *chosen.people), chosen.some, chosen.given)
+
+    run_under_library(program, tally, check)
 
 
 def run_writes(program, tally):
@@ -306,7 +319,7 @@ def run_memory(program, tally):
 def run_memory_of_many(program, tally):
     """Runs the program on many lines, definitions and notes with growths of memory refused."""
     many = (many_lines_case(), many_moves_case(), many_definitions_case(), many_notes_case(), many_printed_lines_case())
-    many += (many_rewritten_lines_case(),)
+    many += (many_rewritten_lines_case(), many_listed_lines_case(), many_people_case())
     run_under_library(program, tally, lambda stand, _: check_memory(stand, many))
 
 

@@ -61,6 +61,6 @@ class Preloaded:
         environment = {"LD_PRELOAD": self.library, "SHIM_REPORT": self.report}
         for name, value in settings.items():
             environment["SHIM_" + name.upper()] = str(value)
-        answer = run(program, case.words, case.stdin, environment, folder=case.folder)
+        answer = run(program, case.words, case.stdin, environment, folder=case.folder, files=case.files)
         with open(self.report, "rb") as file:
             return answer, Report(*LAYOUT.unpack(file.read()))

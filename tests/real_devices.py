@@ -10,7 +10,7 @@ def run_reads(program, tally, case, too_large):
     """A folder and an endless pipe as standard input; to the pipe `too_large` has to come."""
     folder = os.open("/", os.O_RDONLY)
     try:
-        problems = fault("Read").problems(run(program, case.words, folder))
+        problems = fault("Read").problems(run(program, case.words, folder, folder=case.folder, files=case.files))
     finally:
         os.close(folder)
     tally.note(f"{case.name}, a folder as standard input", problems)
@@ -38,7 +38,7 @@ def closed_pipe():
 def write_problems(program, case, output):
     """Runs the case into a file that takes nothing."""
     try:
-        return fault("Write").problems(run(program, case.words, case.stdin, stdout=output))
+        return fault("Write").problems(run(program, case.words, case.stdin, stdout=output, folder=case.folder, files=case.files))
     finally:
         os.close(output)
 
@@ -59,7 +59,7 @@ def pipe_problems(program, case, too_large):
     feeder = threading.Thread(target=feed, args=(writer,))
     feeder.start()
     try:
-        problems = too_large.problems(run(program, case.words, reader))
+        problems = too_large.problems(run(program, case.words, reader, folder=case.folder, files=case.files))
     finally:
         os.close(reader)
         feeder.join()

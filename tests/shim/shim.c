@@ -1,13 +1,15 @@
 /*
  * A library that is preloaded into the built program and stands between it and
- * the C library: it refuses growths of memory and makes standard input and
- * standard output fail, answer interrupted, or move few bytes at a time.
+ * the C library: it refuses growths of memory and makes an input and standard
+ * output fail, answer interrupted, or move few bytes at a time.
  *
  * It is set by environment variables, each a decimal number; one that is not
  * set, or 0 where not said otherwise, does nothing. Calls count from 1.
  *
  *   SHIM_REFUSE_GROWTH=N    refuse the Nth growth alone
  *   SHIM_REFUSE_FROM=N      refuse the Nth growth and all behind it
+ *   SHIM_INPUT=F            reads are those of the file of number F; 0 is
+ *                           standard input, and 3 the first that is opened
  *   SHIM_FAIL_READ=K        the Kth read fails
  *   SHIM_INTERRUPT_READ=K   the Kth read is interrupted
  *   SHIM_INTERRUPT_READS=K  the first K reads are interrupted
@@ -20,8 +22,8 @@
  *   SHIM_SHORT_WRITE=B      a write takes at most B bytes
  *
  * A growth is a call for memory made by the program's own code; those of the
- * loader and of the C library are let through uncounted. Reads are those of
- * file 0, writes those of file 1; other files are let through.
+ * loader and of the C library are let through uncounted. Writes are those of
+ * file 1; reads and writes of other files are let through.
  *
  * SHIM_REPORT names a file that holds a `struct report`. The counts in it are
  * kept by a shared mapping, so they are there however the program ends.
@@ -47,7 +49,7 @@ struct report {
     uint64_t loaded;      /* 1 as soon as the library stands in the program */
     uint64_t growths;     /* calls for memory made by the program */
     uint64_t refused;     /* those of them that were refused */
-    uint64_t reads;       /* reads of standard input */
+    uint64_t reads;       /* reads of the input */
     uint64_t read_faults; /* reads that failed or were interrupted */
     uint64_t read_bytes;  /* bytes given by reads */
     uint64_t last_read;   /* bytes given by the last read */
@@ -60,7 +62,7 @@ static struct report unshared;
 static struct report *report = &unshared;
 
 static uint64_t refuse_growth, refuse_from;
-static uint64_t fail_read, interrupt_read, interrupt_reads, short_read, endless;
+static uint64_t input, fail_read, interrupt_read, interrupt_reads, short_read, endless;
 static uint64_t interrupt_write, empty_write, short_write;
 static uint64_t write_room, write_room_is_set;
 
@@ -111,6 +113,7 @@ __attribute__((constructor)) static void begin(void)
 {
     refuse_growth = number("SHIM_REFUSE_GROWTH");
     refuse_from = number("SHIM_REFUSE_FROM");
+    input = number("SHIM_INPUT");
     fail_read = number("SHIM_FAIL_READ");
     interrupt_read = number("SHIM_INTERRUPT_READ");
     interrupt_reads = number("SHIM_INTERRUPT_READS");
@@ -201,7 +204,7 @@ int posix_memalign(void **place, size_t alignment, size_t size)
     return 0;
 }
 
-/* ---- standard input ----------------------------------------------------- */
+/* ---- the input ----------------------------------------------------------- */
 
 static ssize_t read_fault(int cause)
 {
@@ -219,7 +222,7 @@ static ssize_t read_given(ssize_t count)
 
 ssize_t read(int file, void *buffer, size_t size)
 {
-    if (file != 0)
+    if (file < 0 || (uint64_t)file != input)
         return syscall(SYS_read, file, buffer, size);
     uint64_t k = ++report->reads;
     if (k == fail_read)
