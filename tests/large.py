@@ -2,7 +2,7 @@
 
 The modules large_*.py enter their cases. Each function returns the input of one
 case, what is wanted and the words of `show`, `check` or `convert`, if there are
-any; its name is the case's name. Every accepted edit is also run back: to the
+any; or a case, if it has files. Its name is the case's name. Every accepted edit is also run back: to the
 input, or, if it prunes, to the policy alone, since other edits undo a `prune`.
 """
 
@@ -12,6 +12,7 @@ import os
 
 import converting
 import way_back
+from cases import Case
 from program import Wanted, fault, run
 
 INPUT_LIMIT = 4_000_000
@@ -94,8 +95,17 @@ def run_all(program, tally):
     for path in sorted(glob.glob(os.path.join(os.path.dirname(os.path.abspath(__file__)), "large_*.py"))):
         importlib.import_module(os.path.basename(path).removesuffix(".py"))
     for make in CASES:
-        stdin, wanted, *words = make()
-        problems = wanted.problems(run(program, words, stdin)) or converting.problems(program, words, wanted)
-        if way_back.is_accepted(words, wanted) and not problems:
-            problems = way_back.problems(program, words, stdin, wanted.stdout, whole=make not in PRUNES)
-        tally.note(make.__name__, problems)
+        run_large(program, tally, make)
+
+
+def run_large(program, tally, make):
+    """Runs the case that a function makes."""
+    made = make()
+    if not isinstance(made, Case):
+        stdin, wanted, *words = made
+        made = Case(make.__name__, tuple(words), stdin, wanted)
+    words, wanted = made.words, made.wanted
+    problems = wanted.problems(run(program, words, made.stdin, files=made.files)) or converting.problems(program, words, wanted)
+    if way_back.is_accepted(words, wanted) and not problems:
+        problems = way_back.problems(program, words, made.stdin, wanted.stdout, whole=make not in PRUNES)
+    tally.note(make.__name__, problems)
