@@ -24,7 +24,11 @@ SECONDS = 60
 
 FILES = ("policy", "web team", "a file with blanks")
 FOLDER = "sub"
-COMMANDS = ("check", "convert", "edit", "help", "show")
+COMMANDS = ("check", "convert", "edit", "help", "list", "show")
+OPTIONS_OF_LIST = (
+    *("-U", "--other-user", "-u", "--user", "-g", "--group", "--passwd", "--group-file"),
+    *("--host", "--moment", "--interfaces", "--why", "-h", "--help"),
+)
 ALL_FILES = (*FILES, FOLDER)
 
 ROWS = (
@@ -67,13 +71,31 @@ ROWS = (
     (("convert", "-m", "user=bob", "p"), ("policy",)),
     (("convert", "-f", "json", "-m", "user=bob", "-p", ""), ALL_FILES),
     (("convert", "-f", "sudoers", "policy", ""), ()),
+    (("l",), ("list",)),
+    (("list", "-"), OPTIONS_OF_LIST),
+    (("list", "--o"), ("--other-user",)),
+    (("list", "--group-"), ("--group-file",)),
+    (("list", "-U", "bob", "--p"), ("--passwd",)),
+    (("list", "--passwd", ""), ALL_FILES),
+    (("list", "--passwd", "w"), ("web team",)),
+    (("list", "--group-file", "p"), ("policy",)),
+    (("list", "--host", ""), ()),
+    (("list", "--moment", "p"), ()),
+    (("list", "--interfaces", ""), ()),
+    (("list", "-U", "roo"), ("root",)),
+    (("list", "--user", "roo"), ("root",)),
+    (("list", "-g", "roo"), ("root",)),
+    (("list", ""), ALL_FILES),
+    (("list", "-U", "bob", "--host", "h1", "--moment", "2026010100Z", "p"), ("policy",)),
+    (("list", "--why", "w"), ("web team",)),
+    (("list", "policy", ""), ()),
     (("show", ""), ALL_FILES),
     (("show", "s"), ("sub",)),
     (("show", "--"), ("--help",)),
     (("show", "policy", "w"), ()),
     (("edit", ""), ()),
     (("edit", "--"), ("--help",)),
-    (("help", ""), ("check", "convert", "edit", "show")),
+    (("help", ""), ("check", "convert", "edit", "list", "show")),
     (("help", "s"), ("show",)),
     (("help", "show", ""), ()),
 )
@@ -231,7 +253,7 @@ def run_lists(program, tally):
     whole, each = helps(program)
     tally.note("completed commands", difference("commands", commands_of_help(whole), set(COMMANDS)))
     options = dict(ROWS)
-    wanted = {name: set(options[name, "-"]) for name in ("check", "convert")}
+    wanted = {name: set(options[name, "-"]) for name in ("check", "convert", "list")}
     wanted |= {name: {"-h", "--help"} for name in ("edit", "show")}
     tally.note("completed options", difference("options", options_of_help(whole), set(options[("-",)])))
     for name, text in each.items():
