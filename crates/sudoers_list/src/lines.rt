@@ -1,6 +1,6 @@
 //! Commands as they are listed.
 
-ghost use Rattle.std.specs.Prelude.{◌≡◌, ◌++◌, codes, false, map, OnOk};
+ghost use Rattle.std.specs.Prelude.{◌≡◌, ◌++◌, codes, false, map, slice_get, IfOk, OnOk};
 ghost use Rattle.std.specs.List.{flat_map};
 ghost use Rattle.std.specs.Option.{option_map};
 ghost use Rattle.sudoers_line.specs.declared.node.Kind.TheVariants.{Runas as RunasKind};
@@ -8,14 +8,14 @@ ghost use Rattle.sudoers_reader.specs.View.{commands_shown, group_shown, member_
 ghost use Rattle.sudoers_match.specs.Heads.{Head as HeadOf};
 ghost use Rattle.sudoers_match.specs.IsHead.{IsHead};
 ghost use Rattle.sudoers_print.specs.Members.{printed_list};
-ghost use Rattle.sudoers_print.specs.Commands.{printed_runas};
+ghost use Rattle.sudoers_print.specs.Commands.{printed_command, printed_runas};
 ghost use Rattle.sudoers_cvt.specs.Effective.{effective_command, effective_commands};
-ghost use Rattle.sudoers_list.specs.Listing.{command_line, group_lines, listed_runas, plain, users_or};
+ghost use Rattle.sudoers_list.specs.Listing.{command_line, group_lines, listed_command, listed_runas, plain, users_or};
 ghost use Rattle.sudoers_list.specs.Inside.{printed_behind};
 
 use std::alloc::{AllocError, Global};
 use sudoers_cvt::print_command;
-use sudoers_line::Kind;
+use sudoers_line::{Items, Kind};
 use sudoers_match::Head;
 use sudoers_print::{append_list, append_member};
 use sudoers_reader::{Atom, CommandRow, HostGroup, Member, MemberRow, Rows, RunasSpec, Tables};
@@ -101,6 +101,28 @@ fn append_runas(
     out.extend_from_slice(b")")
 }
 
+/// Appends a command as it is listed: as whom it runs, and what holds of it.
+fn append_command(
+    alloc: Global,
+    out: &mut Vec<u8>,
+    names: &Names<'_>,
+    head: &Head<'_>,
+    member: &Member<'_>,
+) -> Result<(), AllocError>
+    ensures { OnOk result ((h : HeadOf) → IsHead head.now h
+        → out.new.items ≡ out.old.items ++ printed_command (listed_command names.now.user.now names.now.default.now (effective_command (h, member_shown member.now)))) }
+{
+    append_runas(alloc, out, member.digests.tables, names, &head.runas)?;
+    out.extend_from_slice(b" ")?;
+    let bare = Head {
+        runas: None,
+        options: head.options,
+        tags: head.tags,
+    };
+    let command = print_command(alloc, &bare, member)?;
+    out.extend_from_slice(command.as_slice())
+}
+
 /// Appends the line of a command, of which `head` holds.
 fn append_line(
     alloc: Global,
@@ -113,16 +135,37 @@ fn append_line(
         → out.new.items ≡ out.old.items ++ command_line names.now.user.now names.now.default.now (effective_command (h, member_shown member.now))) }
 {
     out.extend_from_slice(b"    ")?;
-    append_runas(alloc, out, member.digests.tables, names, &head.runas)?;
-    out.extend_from_slice(b" ")?;
-    let bare = Head {
-        runas: None,
-        options: head.options,
-        tags: head.tags,
-    };
-    let command = print_command(alloc, &bare, member)?;
-    out.extend_from_slice(command.as_slice())?;
+    append_command(alloc, out, names, head, member)?;
     out.extend_from_slice(b"\n")
+}
+
+/// Returns the command with the number `number`, from 0, as it is listed.
+///
+/// # Errors
+///
+/// Memory ran out.
+pub fn listed_nth(
+    alloc: Global,
+    names: &Names<'_>,
+    commands: &Rows<'_, CommandRow>,
+    number: usize,
+) -> Result<Option<Items<u8>>, AllocError>
+    ensures { IfOk result (λ text. text ≡ option_map (λ c. printed_command (listed_command names.now.user.now names.now.default.now c)) (slice_get (effective_commands (commands_shown commands.now)) number)) }
+{
+    let mut head = Head::none();
+    let tables = commands.tables;
+    let mut left = number;
+    for row in commands.rows {
+        let command = tables.command(row);
+        head.inherit(&command);
+        if left == 0 {
+            let mut text = Vec::new(alloc);
+            append_command(alloc, &mut text, names, &head, &command.member)?;
+            return Ok(Some(Items::from_vec(text)));
+        }
+        left -= 1;
+    }
+    Ok(None)
 }
 
 /// Appends the lines of the commands of a host group.

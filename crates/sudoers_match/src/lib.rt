@@ -25,7 +25,7 @@ pub use policies::{
     alike_defaults_are_same, alike_rows_answer, alike_rows_fit, alike_specs_have_same_groups,
     one_answer,
 };
-pub use request::Request;
+pub use request::{Request, join_words};
 pub use rules::Answer;
 pub use sudoers_hits::{Group, Interface, Person, Who};
 pub use sudoers_verdict::AskFault;

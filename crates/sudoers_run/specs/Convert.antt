@@ -90,6 +90,9 @@ IsFilterFault (layer.Policy fault) = ⊥
 IsFilterFault (layer.Convert fault) = ⊥
 IsFilterFault (layer.Script fault) = ⊥
 IsFilterFault (layer.Edit place fault) = ⊥
+IsFilterFault (layer.People fault) = ⊥
+IsFilterFault (layer.Who fault) = ⊥
+IsFilterFault (layer.Ask fault) = ⊥
 IsFilterFault layer.NoMemory = ⊥
 
 -- The fault of the form; or an alias is cyclic; or aliases are replaced, and there are too many members.
@@ -109,6 +112,9 @@ IsRulesFault words (layer.Convert fault) = IsWordsFault words (layer.Convert fau
 IsRulesFault words (layer.Filter fault) = Unit {0}
 IsRulesFault words (layer.Script fault) = ⊥
 IsRulesFault words (layer.Edit place fault) = ⊥
+IsRulesFault words (layer.People fault) = ⊥
+IsRulesFault words (layer.Who fault) = ⊥
+IsRulesFault words (layer.Ask fault) = ⊥
 
 abbrev pub IsConvertFault : ConvertWords → ToolFault → Type 0
 IsConvertFault words tool.Read = Unit {0}

@@ -17,6 +17,14 @@ use Rattle.sudoers_cvt.specs.declared.fault.CvtFault.{CvtFault}
 use Rattle.sudoers_cvt.specs.declared.fault.CvtFault.TheVariants as cvt
 use Rattle.sudoers_rewrite.specs.declared.filter_text.FilterFault.{FilterFault}
 use Rattle.sudoers_rewrite.specs.declared.filter_text.FilterFault.TheVariants as filter
+use Rattle.sudoers_people.specs.declared.fault.PeopleFile.{PeopleFile}
+use Rattle.sudoers_people.specs.declared.fault.PeopleFile.TheVariants as file
+use Rattle.sudoers_people.specs.declared.fault.PeopleFault.{PeopleFault}
+use Rattle.sudoers_people.specs.declared.fault.PeopleFault.TheVariants as people
+use Rattle.sudoers_people.specs.declared.fault.WhoFault.{WhoFault}
+use Rattle.sudoers_people.specs.declared.fault.WhoFault.TheVariants as who
+use Rattle.sudoers_verdict.specs.declared.verdict.AskFault.{AskFault}
+use Rattle.sudoers_verdict.specs.declared.verdict.AskFault.TheVariants as ask
 use Rattle.sudoers_run.specs.declared.fault.LayerFault.{LayerFault}
 use Rattle.sudoers_run.specs.declared.fault.LayerFault.TheVariants as layer
 use Rattle.sudoers_run.specs.declared.fault.ToolFault.{ToolFault}
@@ -97,12 +105,37 @@ filter_name filter.BadKey = codes "BadKey"
 filter_name filter.Empty = codes "Empty"
 filter_name filter.NoMemory = codes "NoMemory"
 
+-- a fault of passwd or of group: rows count from 1
+abbrev pub file_name : PeopleFile → List ℕ
+file_name file.Passwd = codes "passwd"
+file_name file.Group = codes "group"
+
+abbrev pub text_of_people : PeopleFault → List ℕ
+text_of_people (people.BadRow f line) = file_name f ++ codes ":" ++ decimal line ++ codes ": BadRow"
+text_of_people people.TooLarge = codes "TooLarge"
+text_of_people people.NoMemory = codes "NoMemory"
+
+abbrev pub who_name : WhoFault → List ℕ
+who_name who.NoUser = codes "NoUser"
+who_name who.NoGroup = codes "NoGroup"
+who_name who.BadAddress = codes "BadAddress"
+who_name who.BadMoment = codes "BadMoment"
+who_name who.NoMemory = codes "NoMemory"
+
+abbrev pub ask_name : AskFault → List ℕ
+ask_name ask.Cycle = codes "Cycle"
+ask_name ask.TooLong = codes "TooLong"
+ask_name ask.NoMemory = codes "NoMemory"
+
 abbrev pub text_of_layer : LayerFault → List ℕ → List ℕ
 text_of_layer (layer.Policy fault) file = text_of_read fault file
 text_of_layer (layer.Script fault) file = text_of_script fault
 text_of_layer (layer.Edit place fault) file = text_of_edit place fault file
 text_of_layer (layer.Convert fault) file = cvt_name fault
 text_of_layer (layer.Filter fault) file = filter_name fault
+text_of_layer (layer.People fault) file = text_of_people fault
+text_of_layer (layer.Who fault) file = who_name fault
+text_of_layer (layer.Ask fault) file = ask_name fault
 text_of_layer layer.NoMemory file = codes "NoMemory"
 
 abbrev pub text_of_tool : ToolFault → List ℕ → List ℕ

@@ -10,6 +10,12 @@ use Rattle.sudoers_cvt.specs.declared.fault.CvtFault.{CvtFault}
 use Rattle.sudoers_cvt.specs.declared.fault.CvtFault.TheVariants as cvt
 use Rattle.sudoers_rewrite.specs.declared.filter_text.FilterFault.{FilterFault}
 use Rattle.sudoers_rewrite.specs.declared.filter_text.FilterFault.TheVariants as filter
+use Rattle.sudoers_people.specs.declared.fault.PeopleFault.{PeopleFault}
+use Rattle.sudoers_people.specs.declared.fault.PeopleFault.TheVariants as people
+use Rattle.sudoers_people.specs.declared.fault.WhoFault.{WhoFault}
+use Rattle.sudoers_people.specs.declared.fault.WhoFault.TheVariants as who
+use Rattle.sudoers_verdict.specs.declared.verdict.AskFault.{AskFault}
+use Rattle.sudoers_verdict.specs.declared.verdict.AskFault.TheVariants as ask
 use Rattle.sudoers_run.specs.declared.fault.LayerFault.{LayerFault}
 use Rattle.sudoers_run.specs.declared.fault.LayerFault.TheVariants as layer
 
@@ -53,3 +59,20 @@ abbrev pub layer_of_filter : FilterFault → LayerFault
 layer_of_filter filter.BadKey = layer.Filter filter.BadKey
 layer_of_filter filter.Empty = layer.Filter filter.Empty
 layer_of_filter filter.NoMemory = layer.NoMemory
+
+abbrev pub layer_of_people : PeopleFault → LayerFault
+layer_of_people (people.BadRow file line) = layer.People (people.BadRow file line)
+layer_of_people people.TooLarge = layer.People people.TooLarge
+layer_of_people people.NoMemory = layer.NoMemory
+
+abbrev pub layer_of_who : WhoFault → LayerFault
+layer_of_who who.NoUser = layer.Who who.NoUser
+layer_of_who who.NoGroup = layer.Who who.NoGroup
+layer_of_who who.BadAddress = layer.Who who.BadAddress
+layer_of_who who.BadMoment = layer.Who who.BadMoment
+layer_of_who who.NoMemory = layer.NoMemory
+
+abbrev pub layer_of_ask : AskFault → LayerFault
+layer_of_ask ask.Cycle = layer.Ask ask.Cycle
+layer_of_ask ask.TooLong = layer.Ask ask.TooLong
+layer_of_ask ask.NoMemory = layer.NoMemory

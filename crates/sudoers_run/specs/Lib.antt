@@ -6,3 +6,4 @@ pub mod Program
 pub mod Show
 pub mod Check
 pub mod Convert
+pub mod List

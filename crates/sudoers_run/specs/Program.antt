@@ -1,5 +1,6 @@
 -- What `edit` writes for what it reads, and its faults in their order.
-use Rattle.std.specs.Prelude.{◌≡◌, ◌⊎◌, ◌+◌, ℕ, Bool, false, ◌&&◌, ◌==◌, nat_lt, if◌then◌else◌, List, [], ◌∷◌, ◌++◌, length, Option, Some, None, Result, Ok, Err}
+use Rattle.std.specs.Prelude.{◌≡◌, ◌⊎◌, ◌+◌, ◌≤◌, IfSome, ℕ, Bool, false, ◌&&◌, ◌==◌, nat_lt, if◌then◌else◌, List, [], ◌∷◌, ◌++◌, length, Option, Some, None, Result, Ok, Err}
+use Rattle.std.specs.Io.KnownBytes.{Consumes}
 use Rattle.std.specs.Option.{option_map}
 use Rattle.sudoers_text.specs.Line.{join}
 use Rattle.sudoers_tree.specs.declared.fault.ReadFault.{ReadFault}
@@ -112,6 +113,9 @@ NeedsEnd (Err (tool.Layer (layer.Script fault))) = Unit {0}
 NeedsEnd (Err (tool.Layer (layer.Edit place fault))) = Unit {0}
 NeedsEnd (Err (tool.Layer (layer.Convert fault))) = Unit {0}
 NeedsEnd (Err (tool.Layer (layer.Filter fault))) = Unit {0}
+NeedsEnd (Err (tool.Layer (layer.People fault))) = Unit {0}
+NeedsEnd (Err (tool.Layer (layer.Who fault))) = Unit {0}
+NeedsEnd (Err (tool.Layer (layer.Ask fault))) = Unit {0}
 NeedsEnd (Err tool.NoMark) = Unit {0}
 NeedsEnd (Err tool.Write) = Unit {0}
 
@@ -124,6 +128,21 @@ StopsReading limit old new tool.NoEnd = TakesAtMost old new limit
 StopsReading limit old new (tool.Layer fault) = Unit {0}
 StopsReading limit old new tool.NoMark = Unit {0}
 StopsReading limit old new tool.Write = Unit {0}
+
+-- What was read of a reader, up to one byte past a limit: all, if it is within the limit.
+pub record IsFront (limit : ℕ) (old new : Option (List ℕ)) (front : List ℕ) : Type 0 where
+  pub taken : Consumes old new front
+  pub most : length front ≤ limit + 1
+  pub all : length front ≤ limit → IfSome old (λ known. front ≡ known)
+
+-- the faults of reading so
+abbrev pub IsFrontFault : ToolFault → Type 0
+IsFrontFault tool.Read = Unit {0}
+IsFrontFault tool.NoEnd = Unit {0}
+IsFrontFault (tool.Layer fault) = fault ≡ layer.NoMemory
+IsFrontFault tool.InputTooLarge = ⊥
+IsFrontFault tool.Write = ⊥
+IsFrontFault tool.NoMark = ⊥
 
 -- the faults of reading
 abbrev pub IsReadFault : ToolFault → Type 0

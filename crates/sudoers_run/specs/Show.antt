@@ -38,6 +38,9 @@ IsFileFault (layer.Script fault) = ⊥
 IsFileFault (layer.Edit place fault) = ⊥
 IsFileFault (layer.Convert fault) = ⊥
 IsFileFault (layer.Filter fault) = ⊥
+IsFileFault (layer.People fault) = ⊥
+IsFileFault (layer.Who fault) = ⊥
+IsFileFault (layer.Ask fault) = ⊥
 
 -- the faults of showing a file
 abbrev pub IsShowFault : ToolFault → Type 0

@@ -9,7 +9,8 @@ ghost use Rattle.sudoers_run.specs.FaultText.{text_of_read};
 ghost use Rattle.sudoers_run.specs.Check.{TellsCheck, check_text as text_of_check, check_status, check_output, IsCheckFault, StopsCheck, NeedsFile};
 
 use crate::device::{Sink, Source};
-use crate::fault::{ToolFault, read_fault_text};
+use crate::fault::ToolFault;
+use crate::fault_text::read_fault_text;
 use crate::program::{read_all, write_all};
 use std::alloc::{AllocError, Global};
 use sudoers_check::{check_text, report_text};

@@ -1,16 +1,12 @@
-//! Why the program gives up, and the text that it then shows.
-ghost use Rattle.std.specs.Prelude.{◌≡◌, ◌+◌, ◌<◌, ◌^◌, ◌++◌, IfOk, OnOk};
-ghost use Rattle.std.specs.Fmt.{decimal};
-ghost use Rattle.sudoers_run.specs.FaultText.{cvt_name, filter_name, text_of_tool, text_of_layer, text_of_read, text_of_text, text_of_script, text_of_edit, script_text, edit_name, name_text, why_name};
+//! Why the program gives up.
 
-use std::alloc::{AllocError, Global};
+use std::alloc::AllocError;
 use sudoers_cvt::CvtFault;
 use sudoers_edit::{EditFault, ScriptFault};
-use sudoers_line::{Kind, Why};
-use sudoers_print::append_number;
+use sudoers_people::{PeopleFault, WhoFault};
 use sudoers_rewrite::FilterFault;
-use sudoers_text::TextFault;
-use sudoers_tree::{ReadFault, kind_word};
+use sudoers_tree::ReadFault;
+use sudoers_verdict::AskFault;
 use thiserror::Error;
 
 /// A fault of a layer below. Want of memory is `NoMemory` here, wherever it was met.
@@ -31,6 +27,15 @@ pub enum LayerFault {
     /// The text of a filter is none.
     #[error("{0}")]
     Filter(FilterFault),
+    /// A row of passwd or of group is in no form of its file, or a file is too large.
+    #[error("{0}")]
+    People(PeopleFault),
+    /// The words name nobody, or say no address or moment.
+    #[error("{0}")]
+    Who(WhoFault),
+    /// The policy gives no answer.
+    #[error("{0:?}")]
+    Ask(AskFault),
     /// A growth of memory was refused.
     #[error("NoMemory")]
     NoMemory,
@@ -130,6 +135,48 @@ impl From<FilterFault> for LayerFault {
     }
 }
 
+impl From<PeopleFault> for LayerFault {
+    ghost use Rattle.std.specs.Prelude.{◌≡◌};
+    ghost use Rattle.sudoers_run.specs.LayerOf.{layer_of_people};
+
+    ghost from_gives = { λ fault e. e ≡ layer_of_people fault };
+
+    fn from(fault: PeopleFault) -> LayerFault {
+        match fault {
+            PeopleFault::NoMemory => LayerFault::NoMemory,
+            fault => LayerFault::People(fault),
+        }
+    }
+}
+
+impl From<WhoFault> for LayerFault {
+    ghost use Rattle.std.specs.Prelude.{◌≡◌};
+    ghost use Rattle.sudoers_run.specs.LayerOf.{layer_of_who};
+
+    ghost from_gives = { λ fault e. e ≡ layer_of_who fault };
+
+    fn from(fault: WhoFault) -> LayerFault {
+        match fault {
+            WhoFault::NoMemory => LayerFault::NoMemory,
+            fault => LayerFault::Who(fault),
+        }
+    }
+}
+
+impl From<AskFault> for LayerFault {
+    ghost use Rattle.std.specs.Prelude.{◌≡◌};
+    ghost use Rattle.sudoers_run.specs.LayerOf.{layer_of_ask};
+
+    ghost from_gives = { λ fault e. e ≡ layer_of_ask fault };
+
+    fn from(fault: AskFault) -> LayerFault {
+        match fault {
+            AskFault::NoMemory => LayerFault::NoMemory,
+            fault => LayerFault::Ask(fault),
+        }
+    }
+}
+
 impl From<AllocError> for LayerFault {
     ghost use Rattle.std.specs.Prelude.{◌≡◌};
     ghost use Rattle.sudoers_run.specs.declared.fault.LayerFault.TheVariants.{NoMemory};
@@ -162,223 +209,4 @@ impl From<AllocError> for ToolFault {
     fn from(_error: AllocError) -> ToolFault {
         ToolFault::Layer(LayerFault::NoMemory)
     }
-}
-
-/// The text that is shown for a fault, without LF. `file` is the policy's name in it.
-///
-/// # Errors
-///
-/// Want of memory alone.
-pub fn fault_text(alloc: Global, fault: &ToolFault, file: &[u8]) -> Result<Vec<u8>, AllocError>
-    ensures { IfOk result (λ text. text.items ≡ text_of_tool fault.now file.now) }
-{
-    match fault {
-        ToolFault::Read => Vec::from_slice(alloc, b"Read"),
-        ToolFault::Write => Vec::from_slice(alloc, b"Write"),
-        ToolFault::NoEnd => Vec::from_slice(alloc, b"NoEnd"),
-        ToolFault::NoMark => Vec::from_slice(alloc, b"NoMark"),
-        ToolFault::InputTooLarge => Vec::from_slice(alloc, b"InputTooLarge"),
-        ToolFault::Layer(fault) => layer_text(alloc, fault, file),
-    }
-}
-
-fn layer_text(alloc: Global, fault: &LayerFault, file: &[u8]) -> Result<Vec<u8>, AllocError>
-    ensures { IfOk result (λ text. text.items ≡ text_of_layer fault.now file.now) }
-{
-    match fault {
-        LayerFault::Policy(fault) => read_fault_text(alloc, fault, file),
-        LayerFault::Script(fault) => script_fault_text(alloc, fault),
-        LayerFault::Edit(place, fault) => edit_fault_text(alloc, *place, fault, file),
-        LayerFault::Convert(fault) => Vec::from_slice(alloc, cvt_word(*fault)),
-        LayerFault::Filter(fault) => Vec::from_slice(alloc, filter_word(*fault)),
-        LayerFault::NoMemory => Vec::from_slice(alloc, b"NoMemory"),
-    }
-}
-
-/// Returns the name of a fault of converting.
-fn cvt_word(fault: CvtFault) -> &'static [u8]
-    ensures { result.now ≡ cvt_name fault }
-{
-    match fault {
-        CvtFault::Cycle => b"Cycle",
-        CvtFault::TooLarge => b"TooLarge",
-        CvtFault::NotUtf8 => b"NotUtf8",
-        CvtFault::NoMemory => b"NoMemory",
-    }
-}
-
-/// Returns the name of a fault of a filter.
-fn filter_word(fault: FilterFault) -> &'static [u8]
-    ensures { result.now ≡ filter_name fault }
-{
-    match fault {
-        FilterFault::BadKey => b"BadKey",
-        FilterFault::Empty => b"Empty",
-        FilterFault::NoMemory => b"NoMemory",
-    }
-}
-
-/// The text of a fault of a policy file.
-pub fn read_fault_text(alloc: Global, fault: &ReadFault, file: &[u8]) -> Result<Vec<u8>, AllocError>
-    ensures { IfOk result (λ text. text.items ≡ text_of_read fault.now file.now) }
-{
-    match fault {
-        ReadFault::Text(fault) => text_fault_text(alloc, fault, file),
-        ReadFault::Syntax { line, col, why } => syntax_text(alloc, *line, *col, *why, file),
-        ReadFault::Reserved { kind, name } => {
-            at_name(alloc, *kind, name.as_slice(), b" reserved", file)
-        }
-        ReadFault::Duplicate { kind, name } => {
-            at_name(alloc, *kind, name.as_slice(), b" defined twice", file)
-        }
-        ReadFault::TooMany { kind } => {
-            let mut text = concat(alloc, file, b": too many ")?;
-            text.extend_from_slice(kind_word(*kind))?;
-            Ok(text)
-        }
-        ReadFault::NoMemory => Vec::from_slice(alloc, b"NoMemory"),
-    }
-}
-
-fn syntax_text(
-    alloc: Global,
-    line: usize,
-    col: usize,
-    why: Why,
-    file: &[u8],
-) -> Result<Vec<u8>, AllocError>
-    ensures { IfOk result (λ text. text.items ≡ text_of_read (ReadFault.Syntax line col why) file.now) }
-{
-    let mut text = concat(alloc, file, b":")?;
-    append_number(alloc, &mut text, line)?;
-    text.extend_from_slice(b":")?;
-    append_number(alloc, &mut text, col)?;
-    text.extend_from_slice(b": syntax error: ")?;
-    text.extend_from_slice(why_word(why))?;
-    Ok(text)
-}
-
-/// A kind's name in the file, and what is wrong with it.
-fn at_name(
-    alloc: Global,
-    kind: Kind,
-    name: &[u8],
-    wrong: &[u8],
-    file: &[u8],
-) -> Result<Vec<u8>, AllocError>
-    ensures { IfOk result (λ text. text.items ≡ name_text file.now kind name.now ++ wrong.now) }
-{
-    let mut text = concat(alloc, file, b": ")?;
-    text.extend_from_slice(kind_word(kind))?;
-    text.extend_from_slice(b" ")?;
-    text.extend_from_slice(name)?;
-    text.extend_from_slice(wrong)?;
-    Ok(text)
-}
-
-fn why_word(why: Why) -> &'static [u8]
-    ensures { result.now ≡ why_name why }
-{
-    match why {
-        Why::UnexpectedByte => b"UnexpectedByte",
-        Why::UnexpectedToken => b"UnexpectedToken",
-        Why::EndOfLine => b"EndOfLine",
-        Why::OpenQuote => b"OpenQuote",
-        Why::EmptyName => b"EmptyName",
-        Why::BadId => b"BadId",
-        Why::BadAddress => b"BadAddress",
-        Why::BadStamp => b"BadStamp",
-        Why::Regex => b"Regex",
-    }
-}
-
-fn text_fault_text(alloc: Global, fault: &TextFault, file: &[u8]) -> Result<Vec<u8>, AllocError>
-    ensures { IfOk result (λ text. text.items ≡ text_of_text fault.now file.now) }
-{
-    match fault {
-        TextFault::TooLarge => concat(alloc, file, b": TooLarge"),
-        TextFault::OpenContinuation => concat(alloc, file, b": OpenContinuation"),
-        TextFault::NoMemory => Vec::from_slice(alloc, b"NoMemory"),
-        TextFault::LineTooLong { line } => {
-            let mut text = concat(alloc, file, b":")?;
-            append_number(alloc, &mut text, *line)?;
-            text.extend_from_slice(b":1: line too long")?;
-            Ok(text)
-        }
-        TextFault::Nul { at } => {
-            let mut text = concat(alloc, file, b": NUL at byte ")?;
-            append_number(alloc, &mut text, *at)?;
-            Ok(text)
-        }
-    }
-}
-
-fn script_fault_text(alloc: Global, fault: &ScriptFault) -> Result<Vec<u8>, AllocError>
-    ensures { IfOk result (λ text. text.items ≡ text_of_script fault.now) }
-{
-    match fault {
-        ScriptFault::BadWord { line } => at_script_line(alloc, *line, b"BadWord"),
-        ScriptFault::BadNumber { line } => at_script_line(alloc, *line, b"BadNumber"),
-        ScriptFault::NoPayload { line } => at_script_line(alloc, *line, b"NoPayload"),
-        ScriptFault::TooMany => Vec::from_slice(alloc, b"TooMany"),
-        ScriptFault::NoMemory => Vec::from_slice(alloc, b"NoMemory"),
-    }
-}
-
-fn edit_fault_text(
-    alloc: Global,
-    place: usize,
-    fault: &EditFault,
-    file: &[u8],
-) -> Result<Vec<u8>, AllocError>
-    ensures { IfOk result (λ text. text.items ≡ text_of_edit place fault.now file.now) }
-{
-    match fault {
-        EditFault::NoMemory => Vec::from_slice(alloc, b"NoMemory"),
-        EditFault::NoLine => at_edit(alloc, place, b"NoLine"),
-        EditFault::NotOneLine => at_edit(alloc, place, b"NotOneLine"),
-        EditFault::OpenLine => at_edit(alloc, place, b"OpenLine"),
-        EditFault::NoAlias => at_edit(alloc, place, b"NoAlias"),
-        EditFault::NoPlace => at_edit(alloc, place, b"NoPlace"),
-        EditFault::OnlyOne => at_edit(alloc, place, b"OnlyOne"),
-        EditFault::BadName => at_edit(alloc, place, b"BadName"),
-        EditFault::NameTaken => at_edit(alloc, place, b"NameTaken"),
-        EditFault::BadSplice => at_edit(alloc, place, b"BadSplice"),
-        EditFault::EndAsIs => at_edit(alloc, place, b"EndAsIs"),
-        EditFault::TooLarge => at_edit(alloc, place, b"TooLarge"),
-        EditFault::NotPolicy(fault) => {
-            let mut text = at_edit(alloc, place, b"NotPolicy: ")?;
-            text.extend_from_slice(read_fault_text(alloc, fault, file)?.as_slice())?;
-            Ok(text)
-        }
-    }
-}
-
-fn at_script_line(alloc: Global, line: usize, name: &[u8]) -> Result<Vec<u8>, AllocError>
-    ensures { IfOk result (λ text. text.items ≡ script_text line name.now) }
-{
-    let mut text = Vec::from_slice(alloc, b"script:")?;
-    append_number(alloc, &mut text, line)?;
-    text.extend_from_slice(b": ")?;
-    text.extend_from_slice(name)?;
-    Ok(text)
-}
-
-fn at_edit(alloc: Global, place: usize, name: &[u8]) -> Result<Vec<u8>, AllocError>
-    ensures { IfOk result (λ text. text.items ≡ edit_name place name.now) }
-{
-    let mut text = Vec::from_slice(alloc, b"edit ")?;
-    let number = (place as u128 + 1).to_string(alloc)?;
-    text.extend_from_slice(number.as_bytes())?;
-    text.extend_from_slice(b": ")?;
-    text.extend_from_slice(name)?;
-    Ok(text)
-}
-
-fn concat(alloc: Global, front: &[u8], back: &[u8]) -> Result<Vec<u8>, AllocError>
-    ensures { IfOk result (λ text. text.items ≡ front.now ++ back.now) }
-{
-    let mut text = Vec::from_slice(alloc, front)?;
-    text.extend_from_slice(back)?;
-    Ok(text)
 }

@@ -1,11 +1,13 @@
-//! The commands of the program over any reader and writer: `edit`, `show`, `check`, `convert`, and the text of each error.
+//! The commands of the program over any reader and writer: `edit`, `show`, `check`, `convert`, `list`, and the text of each error.
 #![tactic(auto)]
 
 mod check;
 mod convert;
 mod device;
 mod fault;
+mod fault_text;
 mod form;
+mod list;
 mod program;
 mod show;
 mod words;
@@ -13,8 +15,10 @@ mod words;
 pub use check::run_check;
 pub use convert::run_convert;
 pub use device::{Counted, DeviceFailed, Pulled, Sink, Source};
-pub use fault::{LayerFault, ToolFault, fault_text};
+pub use fault::{LayerFault, ToolFault};
+pub use fault_text::fault_text;
 pub use form::Form;
+pub use list::run_list;
 pub use program::run_edit;
 pub use show::run_show;
-pub use words::ConvertWords;
+pub use words::{ConvertWords, ListWords};

@@ -5,7 +5,7 @@ ghost use Rattle.std.specs.Io.KnownBytes.{Keeps, Appends};
 ghost use Rattle.sudoers_tree.specs.Policy.{texts};
 ghost use Rattle.sudoers_edit.specs.Named.{AreNamed};
 ghost use Rattle.sudoers_run.specs.Device.{Rose, Reads, Writes, AppendsFront, TakesAtMost, TakesExactly, counted_up, counted_by};
-ghost use Rattle.sudoers_run.specs.Program.{is_mark as is_mark_text, split_text, edit_output as output_of_edit, edited_output, output_of, output_text, input_limit, TellsLayer, TellsTool, NeedsEnd, StopsReading, IsReadFault, IsAnswerFault, pull_limit};
+ghost use Rattle.sudoers_run.specs.Program.{is_mark as is_mark_text, split_text, edit_output as output_of_edit, edited_output, output_of, output_text, input_limit, TellsLayer, TellsTool, NeedsEnd, StopsReading, IsFront, IsFrontFault, IsReadFault, IsAnswerFault, pull_limit};
 
 use crate::device::{DeviceFailed, Pulled, Sink, Source};
 use crate::fault::{LayerFault, ToolFault};
@@ -83,6 +83,29 @@ pub fn read_all<R: Source>(
         → counted_by (limit + 1) (R.given reader.old) ≤ R.given reader.new }
     ensures ended { OnOk result (Rose (R.ends reader.old) (R.ends reader.new)) }
 {
+    let input = read_front(alloc, reader, limit)?;
+    if input.len() > limit {
+        return Err(ToolFault::InputTooLarge);
+    }
+    Ok(input)
+}
+
+/// Reads all there is, but no more than one byte past a limit.
+pub fn read_front<R: Source>(
+    alloc: Global,
+    reader: &mut R,
+    limit: usize,
+) -> Result<Vec<u8>, ToolFault>
+    requires { limit ≤ input_limit }
+    ensures front { IfOk result (IsFront limit (R.remaining reader.old) (R.remaining reader.new)) }
+    ensures most { TakesAtMost (R.remaining reader.old) (R.remaining reader.new) (limit + 1) }
+    ensures faults { IfErr result IsFrontFault }
+    ensures reads { Reads pull_limit result (R.Source.failures reader.old) (R.Source.failures reader.new)
+        (R.Source.pulls reader.old) (R.Source.pulls reader.new) (R.offers reader.old) (R.offers reader.new) }
+    ensures stops { IfErr result (StopsReading limit (R.remaining reader.old) (R.remaining reader.new)) }
+    ensures given { IfOk result (λ front. limit < length front.items → counted_by (limit + 1) (R.given reader.old) ≤ R.given reader.new) }
+    ensures ended { IfOk result (λ front. length front.items ≤ limit → Rose (R.ends reader.old) (R.ends reader.new)) }
+{
     let mut input = Vec::new(alloc);
     let mut buffer = [0u8; 65_536];
     for pull in 0..PULL_LIMIT {
@@ -96,7 +119,7 @@ pub fn read_all<R: Source>(
                 }
                 input.extend_from_slice(&buffer[..n])?;
                 if input.len() > limit {
-                    return Err(ToolFault::InputTooLarge);
+                    return Ok(input);
                 }
             }
             Ok(Pulled::Interrupted) => {}

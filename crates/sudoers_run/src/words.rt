@@ -1,6 +1,7 @@
 //! What the words of a command line ask for.
 
 use crate::form::Form;
+use sudoers_line::Items;
 
 /// What `convert` is to do (cvtsudoers(1)).
 #[derive(Clone, Copy)]
@@ -12,4 +13,27 @@ pub struct ConvertWords<'a> {
     pub prune: bool,
     /// Aliases are replaced by their members.
     pub expand: bool,
+}
+
+/// What `list` is to do (sudo(8), the option `-l`).
+#[derive(Clone, Copy)]
+pub struct ListWords<'a> {
+    /// The name of the user who is asked about.
+    pub user: &'a [u8],
+    /// The long name of the host.
+    pub host: &'a [u8],
+    /// The moment as `yyyymmddHH[MM[SS]]Z`. A listing does not look at it.
+    pub moment: &'a [u8],
+    /// The interfaces of the host as `ADDRESS/BITS`, joined by `,`; empty where there are none.
+    pub interfaces: &'a [u8],
+    /// The user as whom the command is to run. A listing does not look at it.
+    pub target: Option<&'a [u8]>,
+    /// The group as which the command is to run. A listing does not look at it.
+    pub group: Option<&'a [u8]>,
+    /// The command and its arguments. Without words all that the user may run is listed.
+    pub words: &'a [Items<u8>],
+    /// The rule that decides is written in place of the command.
+    pub why: bool,
+    /// The name of the policy in that rule.
+    pub file: &'a [u8],
 }

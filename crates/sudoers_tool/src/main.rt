@@ -1,12 +1,17 @@
 //! A tool for sudoers policies whose promises are proved.
 #![tactic(auto)]
 
+mod files;
+mod listing;
+
+use crate::files::{STDIN, open};
+use crate::listing::{list_file, list_words};
 use clap::error::ErrorKind;
 use clap::{Arg, ArgAction, ArgMatches, Command, Error};
 use std::alloc::{AllocError, Global};
+use std::io;
 use std::io::Write;
 use std::process::ExitCode;
-use std::{fs, io};
 use sudoers_run::{
     ConvertWords, Counted, Form, ToolFault, fault_text, run_check, run_convert, run_edit, run_show,
 };
@@ -14,14 +19,11 @@ use sudoers_run::{
 /// The policy's name in the texts of the faults of `edit`.
 const POLICY: &str = "policy";
 
-/// The name of the standard input as a file.
-const STDIN: &str = "-";
-
 /// The forms in which `convert` prints.
 static FORMS: [&str; 2] = ["sudoers", "json"];
 
 /// What `--version` prints after the program's name.
-const VERSION: &str = "0.5.0";
+const VERSION: &str = "0.6.0";
 
 /// What help prints last.
 const EXIT_STATUS: &str =
@@ -73,6 +75,10 @@ fn obey(rt: &HostRuntime, matches: &ArgMatches<'_>) -> ExitCode {
             let file = words.get_str("FILE").unwrap_or(STDIN);
             (file, convert_file(rt, file, &asked_of(words)))
         }
+        Some(("list", words)) => {
+            let file = words.get_str("FILE").unwrap_or(STDIN);
+            (file, list_file(rt, file, words))
+        }
         _ => (POLICY, edit_streams(rt)),
     };
     match outcome {
@@ -92,12 +98,13 @@ fn command_words<'a>(alloc: Global) -> Result<Command<'a>, AllocError> {
     Command::new(alloc, "sudoers_tool")
         .version(VERSION)
         .about(
-            "Check, show, edit and convert sudoers policies. Without a command, do what `edit` does",
+            "Check, show, edit, convert and list sudoers policies. Without a command, do what `edit` does",
         )
         .after_help(EXIT_STATUS)
         .subcommand(check_words(alloc)?)?
         .subcommand(convert_words(alloc)?)?
         .subcommand(edit)?
+        .subcommand(list_words(alloc, file_word(alloc))?)?
         .subcommand(show)
 }
 
@@ -244,17 +251,6 @@ fn check_file(rt: &HostRuntime, file: &str, quiet: bool, strict: bool) -> Result
     }
     let mut reader = Counted::new(open(rt, file)?);
     run_check(rt.alloc(), &mut reader, name, quiet, strict, &mut writer)
-}
-
-/// Opens a file. A file that cannot be opened is the error `Read`.
-fn open(rt: &HostRuntime, file: &str) -> Result<fs::File, ToolFault> {
-    match fs::open(rt, file) {
-        Ok(opened) => Ok(opened),
-        Err(error) if error.kind() == io::ErrorKind::OutOfMemory => Err(ToolFault::from(
-            AllocError,
-        )),
-        Err(_) => Err(ToolFault::Read),
-    }
 }
 
 /// Prints an error, and returns exit status 1.

@@ -9,7 +9,7 @@ use Rattle.sudoers_print.specs.Commands.{printed_options, printed_runas, printed
 use Rattle.sudoers_cvt.specs.Effective.{listed_tags}
 use Rattle.sudoers_list.specs.Listing.{listed_runas}
 use Rattle.sudoers_list.proofs.Passing.{on_ok, parts, when_ok}
-use Rattle.sudoers_list.proofs.lines.append_line.Goals as goal
+use Rattle.sudoers_list.proofs.lines.append_command.Goals as goal
 
 pub returns : goal.returns
 returns c =

@@ -1,0 +1,19 @@
+//! Files that the command line names.
+
+use std::alloc::AllocError;
+use std::{fs, io};
+use sudoers_run::ToolFault;
+
+/// The name of the standard input as a file.
+pub const STDIN: &str = "-";
+
+/// Opens a file. A file that cannot be opened is the error `Read`.
+pub fn open(rt: &HostRuntime, file: &str) -> Result<fs::File, ToolFault> {
+    match fs::open(rt, file) {
+        Ok(opened) => Ok(opened),
+        Err(error) if error.kind() == io::ErrorKind::OutOfMemory => Err(ToolFault::from(
+            AllocError,
+        )),
+        Err(_) => Err(ToolFault::Read),
+    }
+}
