@@ -15,6 +15,7 @@ import re
 import shutil
 import subprocess
 import tempfile
+from collections import Counter
 
 from program import run
 from tally import difference
@@ -35,6 +36,9 @@ FAULTS = (
     "EditFault",
     "CvtFault",
     "FilterFault",
+    "PeopleFault",
+    "WhoFault",
+    "AskFault",
     "LayerFault",
     "ToolFault",
 )
@@ -49,9 +53,13 @@ TERMS = (
     (r"why_name why", "CAUSE"),
     (r'script_text line \(codes "(.*)"\)', r"script:LINE: \1"),
     (r'edit_name place \(codes "(.*)"\)', r"edit N: \1"),
-    (r"(text_of_\w+|cvt_name|filter_name) .*", "ERROR"),
+    (r"file_name f", "PEOPLE"),
+    (r"(text_of_\w+|cvt_name|filter_name|who_name|ask_name) .*", "ERROR"),
 )
 CARRIED = "ERROR"
+
+# The files that PEOPLE stands for in a text.
+PEOPLE = ("passwd", "group")
 
 # What mandoc says about the other pages of the machine, and not about this one.
 OF_THE_MACHINE = ("referenced manual not found", "outdated mandoc.db")
@@ -195,7 +203,7 @@ def texts():
     types = {short: name for name, short in re.findall(r"declared\.\w+\.(\w+)\.TheVariants as (\w+)", source)}
     found = {}
     for row in re.sub(r"\n +", " ", source).splitlines():
-        match = re.match(r"(?:text_of_\w+|why_name|cvt_name|filter_name) .*?\b(\w+)\.(\w+)[^=]*= (.*)", row)
+        match = re.match(r"(?:text_of_\w+|why_name|(?:cvt|filter|who|ask)_name) .*?\b(\w+)\.(\w+)[^=]*= (.*)", row)
         if match and match[1] in types:
             found[types[match[1]], match[2]] = "".join(map(text_of, match[3].split(" ++ ")))
     return found
@@ -210,17 +218,19 @@ def notes():
 
 
 def run_errors(tally):
-    """DIAGNOSTICS lists each error and each note, and nothing else."""
+    """DIAGNOSTICS lists each error and each note, and nothing else; an error of several types at most once for each."""
     declared = variants()
     tally.note("manual page, fault types", difference("types", sorted(FAULTS), sorted(declared)))
     known = texts()
     named = sorted((name, variant) for name, names in declared.items() for variant in names)
     tally.note("manual page, variants", difference("variants", named, sorted(known)))
-    wanted = set(known.values()) - {CARRIED} | set(notes())
+    printed = Counter(text.replace("PEOPLE", file) for text in known.values() for file in PEOPLE[: 1 + ("PEOPLE" in text)])
+    wanted = set(printed) - {CARRIED} | set(notes())
     items = [line[len(".It ") :].replace('"', "") for line in section("DIAGNOSTICS") if line.startswith(".It ")]
     problems = [f"{item!r} is missing" for item in sorted(wanted - set(items))]
     problems += [f"nothing prints {item!r}" for item in sorted(set(items) - wanted)]
-    problems += [f"{item!r} is there twice" for item in sorted({item for item in items if items.count(item) > 1})]
+    twice = sorted(item for item in wanted if items.count(item) > max(printed[item], 1))
+    problems += [f"{item!r} is there too often" for item in twice]
     tally.note("manual page, DIAGNOSTICS", problems)
     refusals = [item for item in items if item.startswith("edit N: ")]
     order = [known.get(("EditFault", variant)) for variant in declared["EditFault"]]
