@@ -14,12 +14,17 @@ row: the first cell holds the file `policy`, and the last one what the command
 prints of it. An output of `convert` has to be right by itself too (converting.py).
 In a column `sudo` the cells `reads` and `refuses` are compared with the answer of
 visudo, if it is of that version.
+
+So is one whose last header cell is `` `list` answers ``, with `allowed`, `not allowed`
+or an error in that column. Its column `Request` has what bob asks on the host h1:
+options of `list` and a command. PEOPLE are the users and groups.
 """
 
 import functools
 import glob
 import os
 import re
+import shlex
 import shutil
 import subprocess
 import tempfile
@@ -59,6 +64,14 @@ SYSTEM_PATH = "/usr/local/bin:/usr/bin:/bin:/usr/sbin:/sbin"
 # The version of sudo that the documents speak of.
 SUDO = b"1.9.13p3"
 
+ANSWERS = "`list` answers"
+PEOPLE = (
+    ("passwd", b"root:x:0:0:::\nbob:x:1000:1000:::\noper:x:9:9:::\n"),
+    ("group", b"root:x:0:\nbob:x:1000:\noper:x:9:\nadm:x:4:bob\nops:x:7:\n"),
+)
+LIST_WORDS = ("list", "--passwd", "passwd", "--group-file", "group", "--moment", "2026010100Z")
+BOB_ON_H1 = ("-U", "bob", "--host", "h1", "--interfaces", "10.0.0.1/8")
+
 PRINTS = re.compile(r"`(check|show|convert -f (?:json|sudoers)(?: [^`]+)?)` prints")
 ESCAPES = {"n": b"\n", "r": b"\r", "t": b"\t", "0": b"\0", "\\": b"\\", "|": b"|"}
 
@@ -81,6 +94,7 @@ class Row:
     policy: bytes
     printed: bytes
     sudo: str = ""
+    request: tuple = ()
 
 
 @dataclass
@@ -120,10 +134,34 @@ def cells_of(line):
     return [cell.strip() for cell in re.split(r"(?<!\\)\|", line.strip())[1:-1]]
 
 
+def is_run(header):
+    """Whether the rows of a table with this header are run."""
+    return header[0] == "Policy" and (PRINTS.fullmatch(header[-1]) is not None or header[-1] == ANSWERS)
+
+
+def read_answer(number, header, cells):
+    """Returns the row of a request to `list`."""
+    policy, request = code_span(cells[0]), code_span(cells[header.index("Request")])
+    if policy is None or request is None:
+        raise ValueError(f"line {number}: a row of a request needs code spans for policy and request")
+    words = shlex.split(request)
+    options = next((at for at in range(0, len(words), 2) if not words[at].startswith("-")), len(words))
+    asked = (*LIST_WORDS, *BOB_ON_H1, *words[:options], "policy", "--", *words[options:])
+    answer = b" ".join(word.encode() for word in words[options:]) + b"\n"
+    error = code_span(cells[-1])
+    if error is not None:
+        answer = b"sudoers_tool: " + error.encode() + b"\n"
+    elif cells[-1] not in ("allowed", "not allowed"):
+        raise ValueError(f"line {number}: {cells[-1]!r} is no answer")
+    return Row(number, "list", unescaped(policy), answer if cells[-1] != "not allowed" else b"", request=asked)
+
+
 def read_row(number, header, cells):
     """Returns the row that these cells make in a table with this header."""
     if len(cells) != len(header):
         raise ValueError(f"line {number}: a row of {len(cells)} cells in a table of {len(header)}")
+    if header[-1] == ANSWERS:
+        return read_answer(number, header, cells)
     command = PRINTS.fullmatch(header[-1])[1]
     sudo = cells[header.index("sudo")] if "sudo" in header else ""
     policy = code_span(cells[0])
@@ -152,7 +190,7 @@ def read_document(name):
             block.text += line + "\n"
         elif line.startswith("|"):
             cells = cells_of(line)
-            if cells[0] == "Policy" and PRINTS.fullmatch(cells[-1]):
+            if is_run(cells):
                 header = cells
             elif header and not set(cells[0]) <= set("-: "):
                 document.rows.append(read_row(number, header, cells))
@@ -211,7 +249,7 @@ def wanted_of_row(row):
     """Returns what a row has to answer: only `check` prints an error on standard output."""
     if row.command != "check" and row.printed.startswith(b"sudoers_tool: "):
         return Wanted(stderr=row.printed, status=1)
-    accepted = row.command != "check" or row.printed.endswith(b": parsed OK\n")
+    accepted = row.printed.endswith(b": parsed OK\n") if row.command == "check" else row.printed or row.command != "list"
     return Wanted(row.printed, status=0 if accepted else 1)
 
 
@@ -230,7 +268,10 @@ def run_rows(document, program, tally):
         with tempfile.TemporaryDirectory() as folder:
             with open(os.path.join(folder, "policy"), "wb") as file:
                 file.write(row.policy)
-            words, wanted = (*row.command.split(" "), "policy"), wanted_of_row(row)
+            for name, text in PEOPLE:
+                with open(os.path.join(folder, name), "wb") as file:
+                    file.write(text)
+            words, wanted = row.request or (*row.command.split(" "), "policy"), wanted_of_row(row)
             problems = wanted.problems(run(program, words, folder=folder))
             problems = problems or converting.problems(program, words, wanted)
             problems += sudo_problems(row, folder)
