@@ -2,7 +2,9 @@
 #![tactic(auto)]
 
 mod groups;
+mod laws;
 mod lines;
 mod listing;
 
+pub use laws::one_listing;
 pub use listing::list;
