@@ -1,3 +1,4 @@
+pub mod Front
 pub mod Spelling
 pub mod Hosts
 pub mod Members

@@ -2,6 +2,7 @@
 
 ghost use Rattle.std.specs.Prelude.{◌≡◌, ◌++◌, IfOk, OnOk};
 ghost use Rattle.sudoers_print.specs.Hosts.{reads_as_host, printed_host};
+ghost use Rattle.sudoers_print.specs.Front.{BeginsWith};
 
 use crate::spelling::{append_escaped, guard};
 use std::alloc::{AllocError, Global};
@@ -32,7 +33,8 @@ fn reads_as_host(alloc: Global, text: &[u8]) -> Result<bool, AllocError>
 ///
 /// Memory ran out.
 pub fn append_host(alloc: Global, out: &mut Vec<u8>, pattern: &[u8]) -> Result<(), AllocError>
-    ensures { OnOk result (out.new.items ≡ out.old.items ++ printed_host pattern.now) }
+    ensures appended { OnOk result (out.new.items ≡ out.old.items ++ printed_host pattern.now) }
+    ensures front { BeginsWith out.new.items out.old.items }
 {
     let start = out.len();
     append_escaped(out, Spelling::Host, pattern)?;

@@ -1,5 +1,5 @@
 //! How the parts of a sudoers policy are printed.
-#![tactic(auto)]
+#![tactic(auto, using(crate::proofs::Fronts::begins_same, crate::proofs::Fronts::begins_more, crate::proofs::Fronts::begins_then))]
 
 mod hosts;
 mod lists;

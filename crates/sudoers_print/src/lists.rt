@@ -3,6 +3,7 @@
 ghost use Rattle.std.specs.Prelude.{◌≡◌, ◌++◌, codes, false, OnOk};
 ghost use Rattle.sudoers_reader.specs.View.{members_shown};
 ghost use Rattle.sudoers_print.specs.Members.{printed_list};
+ghost use Rattle.sudoers_print.specs.Front.{BeginsWith};
 
 use crate::members::append_member;
 use std::alloc::{AllocError, Global};
@@ -21,7 +22,8 @@ pub fn append_list(
     kind: Kind,
     members: &Rows<'_, MemberRow>,
 ) -> Result<(), AllocError>
-    ensures { OnOk result (out.new.items ≡ out.old.items ++ printed_list first kind (members_shown members.now)) }
+    ensures appended { OnOk result (out.new.items ≡ out.old.items ++ printed_list first kind (members_shown members.now)) }
+    ensures front { BeginsWith out.new.items out.old.items }
 {
     let tables = members.tables;
     let Some((head, rest)) = members.rows.split_first() else {

@@ -3,6 +3,7 @@
 ghost use Rattle.std.specs.Prelude.{◌≡◌, ◌++◌, OnOk};
 ghost use Rattle.std.specs.Fmt.{decimal};
 ghost use Rattle.sudoers_print.specs.Hosts.{dotted, printed_mask};
+ghost use Rattle.sudoers_print.specs.Front.{BeginsWith};
 
 use std::alloc::{AllocError, Global};
 use sudoers_line::{Address, Mask};
@@ -13,7 +14,8 @@ use sudoers_line::{Address, Mask};
 ///
 /// Memory ran out.
 pub fn append_number(alloc: Global, out: &mut Vec<u8>, number: usize) -> Result<(), AllocError>
-    ensures { OnOk result (out.new.items ≡ out.old.items ++ decimal number) }
+    ensures appended { OnOk result (out.new.items ≡ out.old.items ++ decimal number) }
+    ensures front { BeginsWith out.new.items out.old.items }
 {
     let digits = number.to_string(alloc)?;
     out.extend_from_slice(digits.as_bytes())
@@ -21,7 +23,8 @@ pub fn append_number(alloc: Global, out: &mut Vec<u8>, number: usize) -> Result<
 
 /// Appends an address.
 pub fn append_address(alloc: Global, out: &mut Vec<u8>, address: Address) -> Result<(), AllocError>
-    ensures { OnOk result (out.new.items ≡ out.old.items ++ dotted address.number) }
+    ensures appended { OnOk result (out.new.items ≡ out.old.items ++ dotted address.number) }
+    ensures front { BeginsWith out.new.items out.old.items }
 {
     let number = address.number as usize;
     append_number(alloc, out, number / 16_777_216)?;
@@ -35,7 +38,8 @@ pub fn append_address(alloc: Global, out: &mut Vec<u8>, address: Address) -> Res
 
 /// Appends a mask as it was written.
 pub fn append_mask(alloc: Global, out: &mut Vec<u8>, mask: Mask) -> Result<(), AllocError>
-    ensures { OnOk result (out.new.items ≡ out.old.items ++ printed_mask mask) }
+    ensures appended { OnOk result (out.new.items ≡ out.old.items ++ printed_mask mask) }
+    ensures front { BeginsWith out.new.items out.old.items }
 {
     match mask {
         Mask::Bits(bits) => append_number(alloc, out, bits as usize),

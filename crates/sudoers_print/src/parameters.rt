@@ -4,6 +4,7 @@ ghost use Rattle.std.specs.Prelude.{◌≡◌, ◌++◌, codes, OnOk, option_map
 ghost use Rattle.sudoers_reader.specs.View.{param_shown, params_shown, scope_shown, setting_shown};
 ghost use Rattle.std.specs.List.{list_all};
 ghost use Rattle.sudoers_print.specs.Parameters.{operator_mark, is_plain, is_plain_value, fits_quotes, printed_value, printed_setting, printed_param, printed_params, scope_mark, printed_scope, printed_defaults};
+ghost use Rattle.sudoers_print.specs.Front.{BeginsWith};
 
 use crate::lists::append_list;
 use crate::spelling::{append_spelled, is_control};
@@ -52,7 +53,8 @@ fn fits_quotes(value: &[u8]) -> bool
 
 /// Appends the value of a parameter.
 fn append_value(out: &mut Vec<u8>, value: &[u8]) -> Result<(), AllocError>
-    ensures { OnOk result (out.new.items ≡ out.old.items ++ printed_value value.now) }
+    ensures appended { OnOk result (out.new.items ≡ out.old.items ++ printed_value value.now) }
+    ensures front { BeginsWith out.new.items out.old.items }
 {
     if is_plain_value(value) {
         out.extend_from_slice(value)
@@ -71,7 +73,8 @@ fn append_value(out: &mut Vec<u8>, value: &[u8]) -> Result<(), AllocError>
 ///
 /// Memory ran out.
 pub fn append_param(out: &mut Vec<u8>, param: &Param<'_>) -> Result<(), AllocError>
-    ensures { OnOk result (out.new.items ≡ out.old.items ++ printed_param (param_shown param.now)) }
+    ensures appended { OnOk result (out.new.items ≡ out.old.items ++ printed_param (param_shown param.now)) }
+    ensures front { BeginsWith out.new.items out.old.items }
 {
     if param.negated {
         out.extend_from_slice(b"!")?;
@@ -88,7 +91,8 @@ pub fn append_param(out: &mut Vec<u8>, param: &Param<'_>) -> Result<(), AllocErr
 
 /// Appends the parameters of a Defaults line.
 fn append_params(out: &mut Vec<u8>, params: &Rows<'_, ParamRow>) -> Result<(), AllocError>
-    ensures { OnOk result (out.new.items ≡ out.old.items ++ printed_params (params_shown params.now)) }
+    ensures appended { OnOk result (out.new.items ≡ out.old.items ++ printed_params (params_shown params.now)) }
+    ensures front { BeginsWith out.new.items out.old.items }
 {
     let tables = params.tables;
     let Some((first, rest)) = params.rows.split_first() else {
@@ -125,7 +129,8 @@ pub fn append_defaults(
     scope: &Option<Scope<'_>>,
     params: &Rows<'_, ParamRow>,
 ) -> Result<(), AllocError>
-    ensures { OnOk result (out.new.items ≡ out.old.items ++ printed_defaults (option_map scope_shown scope.now) (params_shown params.now)) }
+    ensures appended { OnOk result (out.new.items ≡ out.old.items ++ printed_defaults (option_map scope_shown scope.now) (params_shown params.now)) }
+    ensures front { BeginsWith out.new.items out.old.items }
 {
     out.extend_from_slice(b"Defaults")?;
     if let Some(scope) = scope {

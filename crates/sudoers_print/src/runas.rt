@@ -3,6 +3,7 @@
 ghost use Rattle.std.specs.Prelude.{◌≡◌, ◌++◌, codes, OnOk};
 ghost use Rattle.sudoers_reader.specs.View.{runas_shown, members_shown};
 ghost use Rattle.sudoers_print.specs.Commands.{printed_inside, printed_runas};
+ghost use Rattle.sudoers_print.specs.Front.{BeginsWith};
 
 use crate::lists::append_list;
 use std::alloc::{AllocError, Global};
@@ -11,7 +12,8 @@ use sudoers_reader::RunasSpec;
 
 /// Appends what stands in the parentheses.
 fn append_inside(alloc: Global, out: &mut Vec<u8>, runas: &RunasSpec<'_>) -> Result<(), AllocError>
-    ensures { OnOk result (out.new.items ≡ out.old.items ++ printed_inside (members_shown runas.now.users) (members_shown runas.now.groups)) }
+    ensures appended { OnOk result (out.new.items ≡ out.old.items ++ printed_inside (members_shown runas.now.users) (members_shown runas.now.groups)) }
+    ensures front { BeginsWith out.new.items out.old.items }
 {
     append_list(alloc, out, false, Kind::Runas, &runas.users)?;
     if runas.groups.rows.is_empty() {
@@ -35,7 +37,8 @@ pub fn append_runas(
     out: &mut Vec<u8>,
     runas: &RunasSpec<'_>,
 ) -> Result<(), AllocError>
-    ensures { OnOk result (out.new.items ≡ out.old.items ++ printed_runas (runas_shown runas.now)) }
+    ensures appended { OnOk result (out.new.items ≡ out.old.items ++ printed_runas (runas_shown runas.now)) }
+    ensures front { BeginsWith out.new.items out.old.items }
 {
     out.extend_from_slice(b"(")?;
     append_inside(alloc, out, runas)?;

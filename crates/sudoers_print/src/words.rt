@@ -2,6 +2,7 @@
 
 ghost use Rattle.std.specs.Prelude.{◌≡◌, ◌++◌, codes, OnOk};
 ghost use Rattle.sudoers_print.specs.Commands.{option_word, printed_option_value, printed_option, tag_word, printed_tag};
+ghost use Rattle.sudoers_print.specs.Front.{BeginsWith};
 
 use crate::spelling::append_spelled;
 use std::alloc::AllocError;
@@ -31,7 +32,8 @@ fn option_word(name: OptionName) -> &'static [u8]
 ///
 /// Memory ran out.
 pub fn append_option(out: &mut Vec<u8>, name: OptionName, value: &[u8]) -> Result<(), AllocError>
-    ensures { OnOk result (out.new.items ≡ out.old.items ++ printed_option name value.now) }
+    ensures appended { OnOk result (out.new.items ≡ out.old.items ++ printed_option name value.now) }
+    ensures front { BeginsWith out.new.items out.old.items }
 {
     out.extend_from_slice(option_word(name))?;
     out.extend_from_slice(b"=")?;
@@ -64,7 +66,8 @@ fn tag_word(tag: Tag) -> &'static [u8]
 ///
 /// Memory ran out.
 pub fn append_tag(out: &mut Vec<u8>, tag: Tag, on: bool) -> Result<(), AllocError>
-    ensures { OnOk result (out.new.items ≡ out.old.items ++ printed_tag tag on) }
+    ensures appended { OnOk result (out.new.items ≡ out.old.items ++ printed_tag tag on) }
+    ensures front { BeginsWith out.new.items out.old.items }
 {
     if !on {
         out.extend_from_slice(b"NO")?;
