@@ -1,4 +1,3 @@
-pub mod Front
 pub mod Spelling
 pub mod Hosts
 pub mod Members

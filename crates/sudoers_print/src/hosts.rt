@@ -2,7 +2,6 @@
 
 ghost use Rattle.std.specs.Prelude.{◌≡◌, ◌++◌, IfOk, OnOk};
 ghost use Rattle.sudoers_print.specs.Hosts.{reads_as_host, printed_host};
-ghost use Rattle.sudoers_print.specs.Front.{BeginsWith};
 
 use crate::spelling::{append_escaped, guard};
 use std::alloc::{AllocError, Global};
@@ -33,8 +32,7 @@ fn reads_as_host(alloc: Global, text: &[u8]) -> Result<bool, AllocError>
 ///
 /// Memory ran out.
 pub fn append_host(alloc: Global, out: &mut Vec<u8>, pattern: &[u8]) -> Result<(), AllocError>
-    ensures appended { OnOk result (out.new.items ≡ out.old.items ++ printed_host pattern.now) }
-    ensures front { BeginsWith out.new.items out.old.items }
+    ensures { OnOk result (out.new.items ≡ out.old.items ++ printed_host pattern.now) }
 {
     let start = out.len();
     append_escaped(out, Spelling::Host, pattern)?;

@@ -3,9 +3,8 @@
 ghost use Rattle.std.specs.Prelude.{◌≡◌, ◌++◌, codes, false, OnOk};
 ghost use Rattle.sudoers_reader.specs.View.{members_shown};
 ghost use Rattle.sudoers_print.specs.Members.{printed_list};
-ghost use Rattle.sudoers_print.specs.Front.{BeginsWith};
 
-use crate::members::append_member;
+use crate::members::add_member;
 use std::alloc::{AllocError, Global};
 use sudoers_line::Kind;
 use sudoers_reader::{MemberRow, Rows};
@@ -15,24 +14,23 @@ use sudoers_reader::{MemberRow, Rows};
 /// # Errors
 ///
 /// Memory ran out.
-pub fn append_list(
+pub fn add_list(
     alloc: Global,
     out: &mut Vec<u8>,
     first: bool,
     kind: Kind,
     members: &Rows<'_, MemberRow>,
 ) -> Result<(), AllocError>
-    ensures appended { OnOk result (out.new.items ≡ out.old.items ++ printed_list first kind (members_shown members.now)) }
-    ensures front { BeginsWith out.new.items out.old.items }
+    ensures { OnOk result (out.new.items ≡ out.old.items ++ printed_list first kind (members_shown members.now)) }
 {
     let tables = members.tables;
     let Some((head, rest)) = members.rows.split_first() else {
         return Ok(());
     };
-    append_member(alloc, out, first, kind, &tables.member(head))?;
+    add_member(alloc, out, first, kind, &tables.member(head))?;
     for row in rest {
         out.extend_from_slice(b", ")?;
-        append_member(alloc, out, false, kind, &tables.member(row))?;
+        add_member(alloc, out, false, kind, &tables.member(row))?;
     }
     Ok(())
 }

@@ -6,7 +6,6 @@ ghost use Rattle.sudoers_text.specs.Word.{is_among};
 ghost use Rattle.sudoers_print.specs.Members.{other_words, begins_other, reads_else, printed_name, spelled_args, printed_args, printed_netgroup, printed_atom, digest_word, printed_digest, printed_digests, sign, printed_member};
 ghost use Rattle.std.specs.Fmt.{decimal};
 ghost use Rattle.sudoers_print.specs.Spelling.{spelled};
-ghost use Rattle.sudoers_print.specs.Front.{BeginsWith};
 
 use crate::hosts::append_host;
 use crate::numbers::{append_address, append_mask, append_number};
@@ -49,8 +48,7 @@ fn reads_else(first: bool, text: &[u8]) -> bool
 
 /// Appends the name of a user.
 fn append_name(out: &mut Vec<u8>, first: bool, name: &[u8]) -> Result<(), AllocError>
-    ensures appended { OnOk result (out.new.items ≡ out.old.items ++ printed_name first name.now) }
-    ensures front { BeginsWith out.new.items out.old.items }
+    ensures { OnOk result (out.new.items ≡ out.old.items ++ printed_name first name.now) }
 {
     let start = out.len();
     append_spelled(out, name)?;
@@ -60,8 +58,7 @@ fn append_name(out: &mut Vec<u8>, first: bool, name: &[u8]) -> Result<(), AllocE
 
 /// Appends the pattern of arguments.
 fn append_pattern(out: &mut Vec<u8>, pattern: &[u8]) -> Result<(), AllocError>
-    ensures appended { OnOk result (out.new.items ≡ out.old.items ++ spelled_args false pattern.now) }
-    ensures front { BeginsWith out.new.items out.old.items }
+    ensures { OnOk result (out.new.items ≡ out.old.items ++ spelled_args false pattern.now) }
 {
     let mut behind = false;
     for (at, byte) in pattern.iter().enumerate() {
@@ -77,8 +74,7 @@ fn append_pattern(out: &mut Vec<u8>, pattern: &[u8]) -> Result<(), AllocError>
 
 /// Appends the arguments of a command, with the blank before them.
 fn append_args(out: &mut Vec<u8>, args: &Args<'_>) -> Result<(), AllocError>
-    ensures appended { OnOk result (out.new.items ≡ out.old.items ++ printed_args (args_shown args.now)) }
-    ensures front { BeginsWith out.new.items out.old.items }
+    ensures { OnOk result (out.new.items ≡ out.old.items ++ printed_args (args_shown args.now)) }
 {
     match args {
         Args::Any => Ok(()),
@@ -92,8 +88,7 @@ fn append_args(out: &mut Vec<u8>, args: &Args<'_>) -> Result<(), AllocError>
 
 /// Appends a netgroup.
 fn append_netgroup(out: &mut Vec<u8>, kind: Kind, name: &[u8]) -> Result<(), AllocError>
-    ensures appended { OnOk result (out.new.items ≡ out.old.items ++ printed_netgroup kind name.now) }
-    ensures front { BeginsWith out.new.items out.old.items }
+    ensures { OnOk result (out.new.items ≡ out.old.items ++ printed_netgroup kind name.now) }
 {
     out.extend_from_slice(b"+")?;
     match kind {
@@ -104,8 +99,7 @@ fn append_netgroup(out: &mut Vec<u8>, kind: Kind, name: &[u8]) -> Result<(), All
 
 /// Appends what stands behind a mark, spelled as a word.
 fn append_marked(out: &mut Vec<u8>, mark: &[u8], name: &[u8]) -> Result<(), AllocError>
-    ensures appended { OnOk result (out.new.items ≡ out.old.items ++ mark.now ++ spelled name.now) }
-    ensures front { BeginsWith out.new.items out.old.items }
+    ensures { OnOk result (out.new.items ≡ out.old.items ++ mark.now ++ spelled name.now) }
 {
     out.extend_from_slice(mark)?;
     append_spelled(out, name)
@@ -113,8 +107,7 @@ fn append_marked(out: &mut Vec<u8>, mark: &[u8], name: &[u8]) -> Result<(), Allo
 
 /// Appends a number behind a mark.
 fn append_id(alloc: Global, out: &mut Vec<u8>, mark: &[u8], id: u32) -> Result<(), AllocError>
-    ensures appended { OnOk result (out.new.items ≡ out.old.items ++ mark.now ++ decimal id) }
-    ensures front { BeginsWith out.new.items out.old.items }
+    ensures { OnOk result (out.new.items ≡ out.old.items ++ mark.now ++ decimal id) }
 {
     out.extend_from_slice(mark)?;
     append_number(alloc, out, id as usize)
@@ -128,8 +121,7 @@ fn append_atom(
     kind: Kind,
     atom: &Atom<'_>,
 ) -> Result<(), AllocError>
-    ensures appended { OnOk result (out.new.items ≡ out.old.items ++ printed_atom first kind (atom_shown atom.now)) }
-    ensures front { BeginsWith out.new.items out.old.items }
+    ensures { OnOk result (out.new.items ≡ out.old.items ++ printed_atom first kind (atom_shown atom.now)) }
 {
     match atom {
         Atom::All => out.extend_from_slice(b"ALL"),
@@ -173,8 +165,7 @@ fn digest_word(kind: DigestKind) -> &'static [u8]
 
 /// Appends a digest.
 fn append_digest(out: &mut Vec<u8>, digest: &Digest<'_>) -> Result<(), AllocError>
-    ensures appended { OnOk result (out.new.items ≡ out.old.items ++ printed_digest (digest_shown digest.now)) }
-    ensures front { BeginsWith out.new.items out.old.items }
+    ensures { OnOk result (out.new.items ≡ out.old.items ++ printed_digest (digest_shown digest.now)) }
 {
     out.extend_from_slice(digest_word(digest.kind))?;
     out.extend_from_slice(b":")?;
@@ -183,8 +174,7 @@ fn append_digest(out: &mut Vec<u8>, digest: &Digest<'_>) -> Result<(), AllocErro
 
 /// Appends the digests before a command.
 fn append_digests(out: &mut Vec<u8>, digests: &Rows<'_, DigestRow>) -> Result<(), AllocError>
-    ensures appended { OnOk result (out.new.items ≡ out.old.items ++ printed_digests (digests_shown digests.now)) }
-    ensures front { BeginsWith out.new.items out.old.items }
+    ensures { OnOk result (out.new.items ≡ out.old.items ++ printed_digests (digests_shown digests.now)) }
 {
     let tables = digests.tables;
     let Some((first, rest)) = digests.rows.split_first() else {
@@ -203,15 +193,14 @@ fn append_digests(out: &mut Vec<u8>, digests: &Rows<'_, DigestRow>) -> Result<()
 /// # Errors
 ///
 /// Memory ran out.
-pub fn append_member(
+pub fn add_member(
     alloc: Global,
     out: &mut Vec<u8>,
     first: bool,
     kind: Kind,
     member: &Member<'_>,
 ) -> Result<(), AllocError>
-    ensures appended { OnOk result (out.new.items ≡ out.old.items ++ printed_member first kind (member_shown member.now)) }
-    ensures front { BeginsWith out.new.items out.old.items }
+    ensures { OnOk result (out.new.items ≡ out.old.items ++ printed_member first kind (member_shown member.now)) }
 {
     append_digests(out, &member.digests)?;
     if member.negated {

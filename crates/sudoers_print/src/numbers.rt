@@ -1,21 +1,20 @@
 //! Numbers as they are printed.
 
-ghost use Rattle.std.specs.Prelude.{◌≡◌, ◌++◌, OnOk};
+ghost use Rattle.std.specs.Prelude.{◌≡◌, ◌++◌, OnErr, OnOk};
 ghost use Rattle.std.specs.Fmt.{decimal};
 ghost use Rattle.sudoers_print.specs.Hosts.{dotted, printed_mask};
-ghost use Rattle.sudoers_print.specs.Front.{BeginsWith};
 
 use std::alloc::{AllocError, Global};
 use sudoers_line::{Address, Mask};
 
-/// Appends `number` in decimal.
+/// Appends `number` in decimal. Where memory runs out, the text stays as it was.
 ///
 /// # Errors
 ///
 /// Memory ran out.
 pub fn append_number(alloc: Global, out: &mut Vec<u8>, number: usize) -> Result<(), AllocError>
     ensures appended { OnOk result (out.new.items ≡ out.old.items ++ decimal number) }
-    ensures front { BeginsWith out.new.items out.old.items }
+    ensures kept { OnErr result (out.new.items ≡ out.old.items) }
 {
     let digits = number.to_string(alloc)?;
     out.extend_from_slice(digits.as_bytes())
@@ -23,8 +22,7 @@ pub fn append_number(alloc: Global, out: &mut Vec<u8>, number: usize) -> Result<
 
 /// Appends an address.
 pub fn append_address(alloc: Global, out: &mut Vec<u8>, address: Address) -> Result<(), AllocError>
-    ensures appended { OnOk result (out.new.items ≡ out.old.items ++ dotted address.number) }
-    ensures front { BeginsWith out.new.items out.old.items }
+    ensures { OnOk result (out.new.items ≡ out.old.items ++ dotted address.number) }
 {
     let number = address.number as usize;
     append_number(alloc, out, number / 16_777_216)?;
@@ -38,8 +36,7 @@ pub fn append_address(alloc: Global, out: &mut Vec<u8>, address: Address) -> Res
 
 /// Appends a mask as it was written.
 pub fn append_mask(alloc: Global, out: &mut Vec<u8>, mask: Mask) -> Result<(), AllocError>
-    ensures appended { OnOk result (out.new.items ≡ out.old.items ++ printed_mask mask) }
-    ensures front { BeginsWith out.new.items out.old.items }
+    ensures { OnOk result (out.new.items ≡ out.old.items ++ printed_mask mask) }
 {
     match mask {
         Mask::Bits(bits) => append_number(alloc, out, bits as usize),

@@ -4,9 +4,8 @@ ghost use Rattle.std.specs.Prelude.{◌≡◌, ◌++◌, codes, OnOk, option_map
 ghost use Rattle.sudoers_reader.specs.View.{param_shown, params_shown, scope_shown, setting_shown};
 ghost use Rattle.std.specs.List.{list_all};
 ghost use Rattle.sudoers_print.specs.Parameters.{operator_mark, is_plain, is_plain_value, fits_quotes, printed_value, printed_setting, printed_param, printed_params, scope_mark, printed_scope, printed_defaults};
-ghost use Rattle.sudoers_print.specs.Front.{BeginsWith};
 
-use crate::lists::append_list;
+use crate::lists::add_list;
 use crate::spelling::{append_spelled, is_control};
 use std::alloc::{AllocError, Global};
 use sudoers_line::{Kind, Operator};
@@ -53,8 +52,7 @@ fn fits_quotes(value: &[u8]) -> bool
 
 /// Appends the value of a parameter.
 fn append_value(out: &mut Vec<u8>, value: &[u8]) -> Result<(), AllocError>
-    ensures appended { OnOk result (out.new.items ≡ out.old.items ++ printed_value value.now) }
-    ensures front { BeginsWith out.new.items out.old.items }
+    ensures { OnOk result (out.new.items ≡ out.old.items ++ printed_value value.now) }
 {
     if is_plain_value(value) {
         out.extend_from_slice(value)
@@ -72,9 +70,8 @@ fn append_value(out: &mut Vec<u8>, value: &[u8]) -> Result<(), AllocError>
 /// # Errors
 ///
 /// Memory ran out.
-pub fn append_param(out: &mut Vec<u8>, param: &Param<'_>) -> Result<(), AllocError>
-    ensures appended { OnOk result (out.new.items ≡ out.old.items ++ printed_param (param_shown param.now)) }
-    ensures front { BeginsWith out.new.items out.old.items }
+pub fn add_param(out: &mut Vec<u8>, param: &Param<'_>) -> Result<(), AllocError>
+    ensures { OnOk result (out.new.items ≡ out.old.items ++ printed_param (param_shown param.now)) }
 {
     if param.negated {
         out.extend_from_slice(b"!")?;
@@ -91,17 +88,16 @@ pub fn append_param(out: &mut Vec<u8>, param: &Param<'_>) -> Result<(), AllocErr
 
 /// Appends the parameters of a Defaults line.
 fn append_params(out: &mut Vec<u8>, params: &Rows<'_, ParamRow>) -> Result<(), AllocError>
-    ensures appended { OnOk result (out.new.items ≡ out.old.items ++ printed_params (params_shown params.now)) }
-    ensures front { BeginsWith out.new.items out.old.items }
+    ensures { OnOk result (out.new.items ≡ out.old.items ++ printed_params (params_shown params.now)) }
 {
     let tables = params.tables;
     let Some((first, rest)) = params.rows.split_first() else {
         return Ok(());
     };
-    append_param(out, &tables.param(first))?;
+    add_param(out, &tables.param(first))?;
     for row in rest {
         out.extend_from_slice(b", ")?;
-        append_param(out, &tables.param(row))?;
+        add_param(out, &tables.param(row))?;
     }
     Ok(())
 }
@@ -123,19 +119,18 @@ pub fn scope_mark(kind: Kind) -> &'static [u8]
 /// # Errors
 ///
 /// Memory ran out.
-pub fn append_defaults(
+pub fn add_defaults(
     alloc: Global,
     out: &mut Vec<u8>,
     scope: &Option<Scope<'_>>,
     params: &Rows<'_, ParamRow>,
 ) -> Result<(), AllocError>
-    ensures appended { OnOk result (out.new.items ≡ out.old.items ++ printed_defaults (option_map scope_shown scope.now) (params_shown params.now)) }
-    ensures front { BeginsWith out.new.items out.old.items }
+    ensures { OnOk result (out.new.items ≡ out.old.items ++ printed_defaults (option_map scope_shown scope.now) (params_shown params.now)) }
 {
     out.extend_from_slice(b"Defaults")?;
     if let Some(scope) = scope {
         out.extend_from_slice(scope_mark(scope.kind))?;
-        append_list(alloc, out, false, scope.kind, &scope.members)?;
+        add_list(alloc, out, false, scope.kind, &scope.members)?;
     }
     out.extend_from_slice(b" ")?;
     append_params(out, params)

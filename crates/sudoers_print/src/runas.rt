@@ -3,19 +3,17 @@
 ghost use Rattle.std.specs.Prelude.{◌≡◌, ◌++◌, codes, OnOk};
 ghost use Rattle.sudoers_reader.specs.View.{runas_shown, members_shown};
 ghost use Rattle.sudoers_print.specs.Commands.{printed_inside, printed_runas};
-ghost use Rattle.sudoers_print.specs.Front.{BeginsWith};
 
-use crate::lists::append_list;
+use crate::lists::add_list;
 use std::alloc::{AllocError, Global};
 use sudoers_line::Kind;
 use sudoers_reader::RunasSpec;
 
 /// Appends what stands in the parentheses.
 fn append_inside(alloc: Global, out: &mut Vec<u8>, runas: &RunasSpec<'_>) -> Result<(), AllocError>
-    ensures appended { OnOk result (out.new.items ≡ out.old.items ++ printed_inside (members_shown runas.now.users) (members_shown runas.now.groups)) }
-    ensures front { BeginsWith out.new.items out.old.items }
+    ensures { OnOk result (out.new.items ≡ out.old.items ++ printed_inside (members_shown runas.now.users) (members_shown runas.now.groups)) }
 {
-    append_list(alloc, out, false, Kind::Runas, &runas.users)?;
+    add_list(alloc, out, false, Kind::Runas, &runas.users)?;
     if runas.groups.rows.is_empty() {
         return Ok(());
     }
@@ -24,7 +22,7 @@ fn append_inside(alloc: Global, out: &mut Vec<u8>, runas: &RunasSpec<'_>) -> Res
     } else {
         out.extend_from_slice(b" : ")?;
     }
-    append_list(alloc, out, false, Kind::Runas, &runas.groups)
+    add_list(alloc, out, false, Kind::Runas, &runas.groups)
 }
 
 /// Appends a Runas_Spec.
@@ -32,13 +30,8 @@ fn append_inside(alloc: Global, out: &mut Vec<u8>, runas: &RunasSpec<'_>) -> Res
 /// # Errors
 ///
 /// Memory ran out.
-pub fn append_runas(
-    alloc: Global,
-    out: &mut Vec<u8>,
-    runas: &RunasSpec<'_>,
-) -> Result<(), AllocError>
-    ensures appended { OnOk result (out.new.items ≡ out.old.items ++ printed_runas (runas_shown runas.now)) }
-    ensures front { BeginsWith out.new.items out.old.items }
+pub fn add_runas(alloc: Global, out: &mut Vec<u8>, runas: &RunasSpec<'_>) -> Result<(), AllocError>
+    ensures { OnOk result (out.new.items ≡ out.old.items ++ printed_runas (runas_shown runas.now)) }
 {
     out.extend_from_slice(b"(")?;
     append_inside(alloc, out, runas)?;

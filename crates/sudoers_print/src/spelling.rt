@@ -3,7 +3,6 @@
 ghost use Rattle.std.specs.Prelude.{◌≡◌, ◌<◌, ◌≤◌, ◌++◌, OnOk, length, List, ℕ};
 ghost use Rattle.sudoers_line.specs.Pattern.{loses_backslash};
 ghost use Rattle.sudoers_print.specs.Spelling.{is_escaped, is_control, low_digit, spelled_byte, spelled, escaped_byte, escaped, guarded};
-ghost use Rattle.sudoers_print.specs.Front.{BeginsWith};
 
 use std::alloc::AllocError;
 use sudoers_line::Spelling;
@@ -39,8 +38,7 @@ fn low_digit(number: u8) -> u8
 
 /// Appends a byte of a word.
 fn append_byte(out: &mut Vec<u8>, byte: u8) -> Result<(), AllocError>
-    ensures appended { OnOk result (out.new.items ≡ out.old.items ++ spelled_byte byte) }
-    ensures front { BeginsWith out.new.items out.old.items }
+    ensures { OnOk result (out.new.items ≡ out.old.items ++ spelled_byte byte) }
 {
     if is_escaped(byte) {
         out.extend_from_slice(&[b'\\', byte])
@@ -57,8 +55,7 @@ fn append_byte(out: &mut Vec<u8>, byte: u8) -> Result<(), AllocError>
 ///
 /// Memory ran out.
 pub fn append_spelled(out: &mut Vec<u8>, value: &[u8]) -> Result<(), AllocError>
-    ensures appended { OnOk result (out.new.items ≡ out.old.items ++ spelled value.now) }
-    ensures front { BeginsWith out.new.items out.old.items }
+    ensures { OnOk result (out.new.items ≡ out.old.items ++ spelled value.now) }
 {
     for byte in value {
         append_byte(out, *byte)?;
@@ -86,8 +83,7 @@ pub fn append_escaped_byte(
     spelling: Spelling,
     byte: u8,
 ) -> Result<(), AllocError>
-    ensures appended { OnOk result (out.new.items ≡ out.old.items ++ escaped_byte spelling byte) }
-    ensures front { BeginsWith out.new.items out.old.items }
+    ensures { OnOk result (out.new.items ≡ out.old.items ++ escaped_byte spelling byte) }
 {
     if loses_backslash(spelling, byte) {
         out.extend_from_slice(&[b'\\', byte])
@@ -106,8 +102,7 @@ pub fn append_escaped(
     spelling: Spelling,
     pattern: &[u8],
 ) -> Result<(), AllocError>
-    ensures appended { OnOk result (out.new.items ≡ out.old.items ++ escaped spelling pattern.now) }
-    ensures front { BeginsWith out.new.items out.old.items }
+    ensures { OnOk result (out.new.items ≡ out.old.items ++ escaped spelling pattern.now) }
 {
     for byte in pattern {
         append_escaped_byte(out, spelling, *byte)?;
@@ -122,9 +117,8 @@ pub fn append_escaped(
 /// Memory ran out.
 pub fn guard(out: &mut Vec<u8>, start: usize, reads_else: bool) -> Result<(), AllocError>
     requires { start ≤ length out.old.items }
-    ensures guarded { OnOk result ((front text : List ℕ) → length front ≡ start → out.old.items ≡ front ++ text
+    ensures { OnOk result ((front text : List ℕ) → length front ≡ start → out.old.items ≡ front ++ text
         → out.new.items ≡ front ++ guarded reads_else text) }
-    ensures front { (front : List ℕ) → length front ≤ start → BeginsWith out.old.items front → BeginsWith out.new.items front }
 {
     if reads_else {
         out.insert(start, b'\\')?;

@@ -2,11 +2,9 @@ use Rattle.std.proofs.Common.{◌≡◌, ◌++◌, drop, map, flat_map, codes}
 use Rattle.sudoers_line.specs.declared.node.Param.{Param}
 use Rattle.sudoers_reader.specs.Tables.{param_in}
 use Rattle.sudoers_print.specs.Parameters.{printed_param}
-use Rattle.sudoers_print.specs.Front.{BeginsWith}
 use Rattle.sudoers_print.proofs.parameters.append_params.Given as goal
 
 abbrev pub invariant-loop-row : goal.invariant-loop-row
 invariant-loop-row l =
-    (l.out.items ++ flat_map (λ (p : Param). codes ", " ++ printed_param p) (map (param_in l.params.tables.now) (drop l.row-index l.rest))
-    ≡ l.initial.out.items ++ flat_map (λ (p : Param). codes ", " ++ printed_param p) (map (param_in l.params.tables.now) l.rest))
-    × BeginsWith l.out.items l.initial.out.items
+    l.out.items ++ flat_map (λ (p : Param). codes ", " ++ printed_param p) (map (param_in l.params.tables.now) (drop l.row-index l.rest))
+    ≡ l.initial.out.items ++ flat_map (λ (p : Param). codes ", " ++ printed_param p) (map (param_in l.params.tables.now) l.rest)
