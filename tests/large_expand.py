@@ -46,59 +46,31 @@ def too_many(kind, member, use, others):
     return definitions + uses, fault("TooLarge"), *SUDOERS
 
 
-@case
-def expand_to_as_many_commands_as_there_may_be():
-    return expanded(b"Cmnd_Alias", b"/b", b"u h=A%d\n", 2, b"u h = %s\n")
+# What stands in an alias, and what uses it: the name of the members, the kind of the alias, a member, a use, the other
+# members of a use, and the use as it is printed.
+USES = (
+    ("commands", b"Cmnd_Alias", b"/b", b"u h=A%d\n", 2, b"u h = %s\n"),
+    ("users", b"User_Alias", b"u", b"A%d h=/b\n", 2, b"%s h = /b\n"),
+    ("hosts", b"Host_Alias", b"h", b"u A%d=/b\n", 2, b"u %s = /b\n"),
+    ("runas_users", b"Runas_Alias", b"r", b"u h=(A%d) /b\n", 3, b"u h = (%s) /b\n"),
+    ("runas_groups", b"Runas_Alias", b"r", b"u h=(:A%d) /b\n", 3, b"u h = (: %s) /b\n"),
+    ("members_of_scopes", b"User_Alias", b"u", b"Defaults:A%d x\n", 0, b"Defaults:%s x\n"),
+)
 
 
-@case
-def expand_to_a_command_too_many():
-    return too_many(b"Cmnd_Alias", b"/b", b"u h=A%d\n", 2)
+def enter(name, make, *words):
+    """Enters a case of this name: what `make` returns for these words."""
+
+    def made():
+        return make(*words)
+
+    made.__name__ = name
+    case(made)
 
 
-@case
-def expand_to_as_many_users_as_there_may_be():
-    return expanded(b"User_Alias", b"u", b"A%d h=/b\n", 2, b"%s h = /b\n")
-
-
-@case
-def expand_to_a_user_too_many():
-    return too_many(b"User_Alias", b"u", b"A%d h=/b\n", 2)
-
-
-@case
-def expand_to_as_many_hosts_as_there_may_be():
-    return expanded(b"Host_Alias", b"h", b"u A%d=/b\n", 2, b"u %s = /b\n")
-
-
-@case
-def expand_to_a_host_too_many():
-    return too_many(b"Host_Alias", b"h", b"u A%d=/b\n", 2)
-
-
-@case
-def expand_to_as_many_runas_users_as_there_may_be():
-    return expanded(b"Runas_Alias", b"r", b"u h=(A%d) /b\n", 3, b"u h = (%s) /b\n")
-
-
-@case
-def expand_to_a_runas_user_too_many():
-    return too_many(b"Runas_Alias", b"r", b"u h=(A%d) /b\n", 3)
-
-
-@case
-def expand_to_a_runas_group_too_many():
-    return too_many(b"Runas_Alias", b"r", b"u h=(:A%d) /b\n", 3)
-
-
-@case
-def expand_to_as_many_members_of_scopes_as_there_may_be():
-    return expanded(b"User_Alias", b"u", b"Defaults:A%d x\n", 0, b"Defaults:%s x\n")
-
-
-@case
-def expand_to_a_member_of_a_scope_too_many():
-    return too_many(b"User_Alias", b"u", b"Defaults:A%d x\n", 0)
+for members, alias_kind, one, used, beside, as_printed in USES:
+    enter(f"expand_to_as_many_{members}_as_there_may_be", expanded, alias_kind, one, used, beside, as_printed)
+    enter(f"expand_to_too_many_{members}", too_many, alias_kind, one, used, beside)
 
 
 @case

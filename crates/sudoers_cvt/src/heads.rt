@@ -18,44 +18,54 @@ use sudoers_print::{append_member, append_option, append_runas, append_tag};
 use sudoers_reader::{Member, RunasSpec};
 
 /// Appends an option, if it is set, and a blank.
-fn append_value(out: &mut Vec<u8>, name: OptionName, value: Option<&[u8]>) -> Result<(), AllocError>
+fn append_value(
+    alloc: Global,
+    out: &mut Vec<u8>,
+    name: OptionName,
+    value: Option<&[u8]>,
+) -> Result<(), AllocError>
     ensures { OnOk result (out.new.items ≡ out.old.items ++ printed_value name (value_shown value.entry)) }
 {
     let Some(value) = value else {
         return Ok(());
     };
-    append_option(out, name, value)?;
+    append_option(alloc, out, name, value)?;
     out.extend_from_slice(b" ")
 }
 
 /// Appends the options of security labels and privileges that are set.
-fn append_labels(out: &mut Vec<u8>, options: &Options<'_>) -> Result<(), AllocError>
+fn append_labels(alloc: Global, out: &mut Vec<u8>, options: &Options<'_>) -> Result<(), AllocError>
     ensures { OnOk result (out.new.items ≡ out.old.items ++ printed_labels (values_shown options.now)) }
 {
-    append_value(out, OptionName::Role, options.role)?;
-    append_value(out, OptionName::Type, options.kind)?;
-    append_value(out, OptionName::ApparmorProfile, options.apparmor_profile)?;
-    append_value(out, OptionName::Privs, options.privs)?;
-    append_value(out, OptionName::Limitprivs, options.limitprivs)
+    append_value(alloc, out, OptionName::Role, options.role)?;
+    append_value(alloc, out, OptionName::Type, options.kind)?;
+    append_value(
+        alloc,
+        out,
+        OptionName::ApparmorProfile,
+        options.apparmor_profile,
+    )?;
+    append_value(alloc, out, OptionName::Privs, options.privs)?;
+    append_value(alloc, out, OptionName::Limitprivs, options.limitprivs)
 }
 
 /// Appends the options of time and place that are set.
-fn append_limits(out: &mut Vec<u8>, options: &Options<'_>) -> Result<(), AllocError>
+fn append_limits(alloc: Global, out: &mut Vec<u8>, options: &Options<'_>) -> Result<(), AllocError>
     ensures { OnOk result (out.new.items ≡ out.old.items ++ printed_limits (values_shown options.now)) }
 {
-    append_value(out, OptionName::Notbefore, options.notbefore)?;
-    append_value(out, OptionName::Notafter, options.notafter)?;
-    append_value(out, OptionName::Timeout, options.timeout)?;
-    append_value(out, OptionName::Cwd, options.cwd)?;
-    append_value(out, OptionName::Chroot, options.chroot)
+    append_value(alloc, out, OptionName::Notbefore, options.notbefore)?;
+    append_value(alloc, out, OptionName::Notafter, options.notafter)?;
+    append_value(alloc, out, OptionName::Timeout, options.timeout)?;
+    append_value(alloc, out, OptionName::Cwd, options.cwd)?;
+    append_value(alloc, out, OptionName::Chroot, options.chroot)
 }
 
 /// Appends the options that are set, each with a blank after it.
-fn append_options(out: &mut Vec<u8>, options: &Options<'_>) -> Result<(), AllocError>
+fn append_options(alloc: Global, out: &mut Vec<u8>, options: &Options<'_>) -> Result<(), AllocError>
     ensures { OnOk result (out.new.items ≡ out.old.items ++ printed_values (values_shown options.now)) }
 {
-    append_labels(out, options)?;
-    append_limits(out, options)
+    append_labels(alloc, out, options)?;
+    append_limits(alloc, out, options)
 }
 
 /// Appends a tag, if it stands, with `: `.
@@ -127,7 +137,7 @@ pub fn append_command(
         → out.new.items ≡ out.old.items ++ printed_command (effective_command (h, member_shown member.now))) }
 {
     append_front(alloc, out, &head.runas)?;
-    append_options(out, &head.options)?;
+    append_options(alloc, out, &head.options)?;
     append_tags(out, &head.tags)?;
     append_member(alloc, out, false, Kind::Cmnd, member)
 }

@@ -64,9 +64,9 @@ fn print_lines(alloc: Global, rules: &Rules<'_>) -> Result<Vec<u8>, CvtFault>
     ensures fault { IfErr result (IsPrintFault rules.now) }
 {
     let mut text = Vec::new(alloc);
-    append_rules(alloc, &mut text, rules.defaults.as_slice())?;
-    append_rules(alloc, &mut text, rules.defs.as_slice())?;
-    append_rules(alloc, &mut text, rules.specs.as_slice())?;
+    append_rules(alloc, &mut text, rules.defaults())?;
+    append_rules(alloc, &mut text, rules.defs())?;
+    append_rules(alloc, &mut text, rules.specs())?;
     Ok(text)
 }
 

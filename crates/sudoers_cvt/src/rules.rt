@@ -19,9 +19,9 @@ use sudoers_tree::LineRow;
 /// see three lists of what lines say. There each command says all that holds of it.
 #[derive(Drop)]
 pub struct Rules<'a> {
-    pub defaults: Vec<Rule<'a>>,
-    pub defs: Vec<Rule<'a>>,
-    pub specs: Vec<Rule<'a>>,
+    defaults: Vec<Rule<'a>>,
+    defs: Vec<Rule<'a>>,
+    specs: Vec<Rule<'a>>,
 }
 
 impl<'a> Model for Rules<'a> {
@@ -94,6 +94,27 @@ impl<'a> Rules<'a> {
             rules.add_line(&lines.tables.node(&row.node))?;
         }
         Ok(rules)
+    }
+
+    /// Returns the Defaults lines.
+    pub fn defaults(&self) -> &[Rule<'a>]
+        ensures { map rule_shown result.now ≡ self.now.defaults }
+    {
+        self.defaults.as_slice()
+    }
+
+    /// Returns the definitions of aliases.
+    pub fn defs(&self) -> &[Rule<'a>]
+        ensures { map rule_shown result.now ≡ self.now.defs }
+    {
+        self.defs.as_slice()
+    }
+
+    /// Returns the user specifications.
+    pub fn specs(&self) -> &[Rule<'a>]
+        ensures { map rule_shown result.now ≡ self.now.specs }
+    {
+        self.specs.as_slice()
     }
 
     /// Returns the rules, of definitions only those with a mark. There is a mark for each definition.

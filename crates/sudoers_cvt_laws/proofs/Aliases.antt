@@ -66,27 +66,15 @@ each_said k (d ∷ ds) = ap (λ all. (k, d) ∷ all) (each_said k ds)
 
 in_defs : (n : Node) → flat_map said_in (defs_in n) ≡ said_in n
 in_defs (node.Alias k ds) = each_said k ds
-in_defs (node.Defaults scope params) = refl
-in_defs (node.Spec users groups) = refl
-in_defs node.Blank = refl
-in_defs node.Comment = refl
-in_defs (node.Include dir path) = refl
+in_defs n = refl
 
 in_defaults : (n : Node) → flat_map said_in (defaults_in n) ≡ []
-in_defaults (node.Alias k ds) = refl
 in_defaults (node.Defaults scope params) = refl
-in_defaults (node.Spec users groups) = refl
-in_defaults node.Blank = refl
-in_defaults node.Comment = refl
-in_defaults (node.Include dir path) = refl
+in_defaults n = refl
 
 in_specs : (n : Node) → flat_map said_in (specs_in n) ≡ []
-in_specs (node.Alias k ds) = refl
-in_specs (node.Defaults scope params) = refl
 in_specs (node.Spec users groups) = refl
-in_specs node.Blank = refl
-in_specs node.Comment = refl
-in_specs (node.Include dir path) = refl
+in_specs n = refl
 
 -- ---- definitions that say the same
 

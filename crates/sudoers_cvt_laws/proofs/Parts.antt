@@ -2,12 +2,15 @@
 use Rattle.std.proofs.Common.{◌≡◌, List, [], ◌∷◌, ◌++◌, map, refl, ap, ap₂, ◌∙◌, append-nil}
 use Rattle.std.specs.List.{flat_map}
 use Rattle.std.proofs.lemmas.Grind.{flat_map-append}
+use Rattle.sudoers_line.specs.declared.node.Kind.{Kind}
+use Rattle.sudoers_line.specs.declared.node.Def.{Def}
 use Rattle.sudoers_line.specs.declared.node.Node.{Node}
+use Rattle.sudoers_line.specs.declared.node.Node.TheVariants as node
 use Rattle.sudoers_tree.specs.Line.{Line}
 use Rattle.sudoers_print_laws.specs.Same.{AllSame, IsSame}
 use Rattle.sudoers_verdict.specs.Alike.{AllAlike}
 use Rattle.sudoers_match.proofs.Alike.{all_alike_append}
-use Rattle.sudoers_cvt.specs.Rules.{defaults_in, specs_in, defs_in, rules_of, lines_of}
+use Rattle.sudoers_cvt.specs.Rules.{defaults_in, specs_in, one_def, defs_in, rules_of, lines_of}
 use Rattle.sudoers_cvt_laws.specs.ReadAs.{said_by}
 
 -- ---- rules
@@ -25,6 +28,15 @@ module _ {Y : Type 0} (made_in : Node → List Y) where
   nothing from each (line ∷ lines) =
       flat_map-append made_in (from line.node) (flat_map (λ (l : Line). from l.node) lines)
       ∙ ap₂ (λ (x y : List Y). x ++ y) (each line.node) (nothing from each lines)
+
+  -- nothing is made of definitions, if nothing is of one
+  each_def : ((k : Kind) (d : Def) → made_in (one_def k d) ≡ []) → (k : Kind) (ds : List Def) → flat_map made_in (map (one_def k) ds) ≡ []
+  each_def none k [] = refl
+  each_def none k (d ∷ ds) = ap₂ (λ (x y : List Y). x ++ y) (none k d) (each_def none k ds)
+
+  pub no_defs : ((k : Kind) (d : Def) → made_in (one_def k d) ≡ []) → (n : Node) → flat_map made_in (defs_in n) ≡ []
+  no_defs none (node.Alias k ds) = each_def none k ds
+  no_defs none n = refl
 
   pub three : (lines : List Line) → flat_map made_in (lines_of (rules_of lines))
       ≡ (flat_map made_in (rules_of lines).defaults ++ flat_map made_in (rules_of lines).defs) ++ flat_map made_in (rules_of lines).specs

@@ -146,40 +146,16 @@ host_matches law who (c ∷ p) = by (reads_as_host (escaped HostName (c ∷ p)))
 
 -- what holds of each host alike holds of what it is read as
 pub same_of_hosts : {X : Type 0} (f : Atom → X) → ((p q : List ℕ) → f (atom.Host p) ≡ f (atom.Host q)) → (a : Atom) → f (read_back a) ≡ f a
-same_of_hosts f same atom.All = refl
-same_of_hosts f same (atom.Alias name) = refl
-same_of_hosts f same (atom.Name name) = refl
-same_of_hosts f same (atom.Id n) = refl
-same_of_hosts f same (atom.Group name) = refl
-same_of_hosts f same (atom.GroupId n) = refl
-same_of_hosts f same (atom.NonUnix name) = refl
-same_of_hosts f same (atom.Netgroup name) = refl
 same_of_hosts f same (atom.Host p) = by (reads_as_host (escaped HostName p))
   where
     by : (t : Bool) → f (guarded_host t p) ≡ f (atom.Host p)
     by true = refl
     by false = same (92 ∷ p) p
-same_of_hosts f same (atom.Address address) = refl
-same_of_hosts f same (atom.Network address mask) = refl
-same_of_hosts f same atom.Listing = refl
-same_of_hosts f same (atom.Path path args) = refl
-same_of_hosts f same (atom.Sudoedit args) = refl
+same_of_hosts f same a = refl
 
 host_same : PlainLaw → (who : Who) (a : Atom) → host_hits who (read_back a) ≡ host_hits who a
 host_same law who (atom.Host p) = host_matches law who p
-host_same law who atom.All = refl
-host_same law who (atom.Alias name) = refl
-host_same law who (atom.Name name) = refl
-host_same law who (atom.Id n) = refl
-host_same law who (atom.Group name) = refl
-host_same law who (atom.GroupId n) = refl
-host_same law who (atom.NonUnix name) = refl
-host_same law who (atom.Netgroup name) = refl
-host_same law who (atom.Address address) = refl
-host_same law who (atom.Network address mask) = refl
-host_same law who atom.Listing = refl
-host_same law who (atom.Path path args) = refl
-host_same law who (atom.Sudoedit args) = refl
+host_same law who a = refl
 
 pub matches_same : PlainLaw → MatchesSame read_back
 matches_same law = record {

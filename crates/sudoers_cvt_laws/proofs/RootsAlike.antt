@@ -7,7 +7,6 @@ use Rattle.std.proofs.lemmas.Grind.{flat_map-append}
 use Rattle.sudoers_line.specs.declared.node.Kind.{Kind}
 use Rattle.sudoers_line.specs.declared.node.Kind.TheVariants.{User, Runas, Host, Cmnd}
 use Rattle.sudoers_line.specs.declared.node.CmdSpec.{CmdSpec}
-use Rattle.sudoers_line.specs.declared.node.Def.{Def}
 use Rattle.sudoers_line.specs.declared.node.HostGroup.{HostGroup}
 use Rattle.sudoers_line.specs.declared.node.Member.{Member}
 use Rattle.sudoers_line.specs.declared.node.RunasSpec.{RunasSpec}
@@ -22,9 +21,9 @@ use Rattle.sudoers_check.specs.Chains.{name_in, names_in, roots_in, roots}
 use Rattle.sudoers_print_laws.specs.Same.{IsSameMember, AllSame, IsSameRunas, IsSameCmd, IsSameGroup, IsSameScope, IsSame}
 use Rattle.sudoers_match.specs.Heads.{Head, no_head, inherit, filled}
 use Rattle.sudoers_cvt.specs.Effective.{effective_command, effective_group}
-use Rattle.sudoers_cvt.specs.Rules.{defaults_in, specs_in, one_def, defs_in, rules_of, lines_of}
+use Rattle.sudoers_cvt.specs.Rules.{defaults_in, specs_in, defs_in, rules_of, lines_of}
 use Rattle.sudoers_cvt_laws.specs.ReadAs.{said_by}
-use Rattle.sudoers_cvt_laws.proofs.Parts.{made_each, nothing, three}
+use Rattle.sudoers_cvt_laws.proofs.Parts.{made_each, no_defs, nothing, three}
 use Rattle.sudoers_cvt_laws.proofs.ReadBack.{same_of_hosts}
 
 abbrev Name : Type 0
@@ -211,18 +210,6 @@ of_defaults k n = flat_map (roots_in k) (defaults_in n)
 abbrev of_specs : Kind → Node → List Name
 of_specs k n = flat_map (roots_in k) (specs_in n)
 
-each_def : (j k : Kind) (ds : List Def) → flat_map (roots_in j) (map (one_def k) ds) ≡ []
-each_def j k [] = refl
-each_def j k (d ∷ ds) = each_def j k ds
-
-no_defs : (k : Kind) (n : Node) → flat_map (roots_in k) (defs_in n) ≡ []
-no_defs k (node.Alias j ds) = each_def k j ds
-no_defs k (node.Defaults scope params) = refl
-no_defs k (node.Spec users groups) = refl
-no_defs k node.Blank = refl
-no_defs k node.Comment = refl
-no_defs k (node.Include dir path) = refl
-
 node_there : (k : Kind) (n : Node) (x : Name) → Has (roots_in k n) x → Has (of_defaults k n) x ⊎ Has (of_specs k n) x
 node_there k (node.Defaults scope params) x h = inl (has_left (roots_in k (node.Defaults scope params)) [] x h)
 node_there k (node.Spec users groups) x h = inr (has_left (roots_in k (node.Spec users (map effective_group groups))) [] x ((spec_both k users groups x).0 h))
@@ -272,7 +259,7 @@ rules_are : (k : Kind) (lines : List Line) → flat_map (roots_in k) (lines_of (
     ≡ (flat_map (of_defaults k) (said_by lines) ++ []) ++ flat_map (of_specs k) (said_by lines)
 rules_are k lines =
     three (roots_in k) lines
-    ∙ ap₂ (λ (x y : List Name). (x ++ y) ++ flat_map (roots_in k) (rules_of lines).specs) (made_each (roots_in k) defaults_in (of_defaults k) (λ n. refl) lines) (nothing (roots_in k) defs_in (no_defs k) lines)
+    ∙ ap₂ (λ (x y : List Name). (x ++ y) ++ flat_map (roots_in k) (rules_of lines).specs) (made_each (roots_in k) defaults_in (of_defaults k) (λ n. refl) lines) (nothing (roots_in k) defs_in (no_defs (roots_in k) (λ j d. refl)) lines)
     ∙ ap (λ (y : List Name). (flat_map (of_defaults k) (said_by lines) ++ []) ++ y) (made_each (roots_in k) specs_in (of_specs k) (λ n. refl) lines)
 
 rules_both : (k : Kind) (lines : List Line) (x : Name) → Has (flat_map (roots_in k) (said_by lines)) x ↔ Has (flat_map (roots_in k) (lines_of (rules_of lines))) x

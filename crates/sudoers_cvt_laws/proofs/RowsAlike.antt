@@ -3,7 +3,6 @@ use Rattle.std.proofs.Common.{◌≡◌, ℕ, List, [], ◌∷◌, ◌++◌, Opt
 use Rattle.std.specs.List.{flat_map, filter_map, cons_option}
 use Rattle.sudoers_line.specs.declared.node.Kind.{Kind}
 use Rattle.sudoers_line.specs.declared.node.Kind.TheVariants.{User, Runas, Host, Cmnd}
-use Rattle.sudoers_line.specs.declared.node.Def.{Def}
 use Rattle.sudoers_line.specs.declared.node.HostGroup.{HostGroup}
 use Rattle.sudoers_line.specs.declared.node.Member.{Member}
 use Rattle.sudoers_line.specs.declared.node.RunasSpec.{RunasSpec}
@@ -19,10 +18,10 @@ use Rattle.sudoers_match.specs.Rows.{Row, row_of, CommandRows, GroupRows, SpecRo
 use Rattle.sudoers_match.specs.Specs.{Spec, spec_of, spec_in, specs_of}
 use Rattle.sudoers_match.proofs.Alike.{all_to, joined_alike}
 use Rattle.sudoers_cvt.specs.Effective.{effective_group}
-use Rattle.sudoers_cvt.specs.Rules.{defaults_in, specs_in, one_def, defs_in, rules_of, lines_of}
+use Rattle.sudoers_cvt.specs.Rules.{defaults_in, specs_in, rules_of, lines_of}
 use Rattle.sudoers_cvt_laws.specs.ReadAs.{said_by}
 use Rattle.sudoers_cvt_laws.proofs.HeadsAlike.{IsSameHead, IsSameCommand, commands_alike, values_alike, tags_alike}
-use Rattle.sudoers_cvt_laws.proofs.Parts.{made_of_specs, made_alike, as_alike, of_others}
+use Rattle.sudoers_cvt_laws.proofs.Parts.{no_defs, made_of_specs, made_alike, as_alike, of_others}
 
 -- ---- the user specifications
 
@@ -43,11 +42,7 @@ effective_list n = map effective_spec (spec_list n)
 
 listed_first : (n : Node) (rest : List Spec) → cons_option (spec_in n) rest ≡ spec_list n ++ rest
 listed_first (node.Spec users groups) rest = refl
-listed_first (node.Defaults scope params) rest = refl
-listed_first (node.Alias k defs) rest = refl
-listed_first node.Blank rest = refl
-listed_first node.Comment rest = refl
-listed_first (node.Include dir path) rest = refl
+listed_first n rest = refl
 
 pub specs_are : (lines : List Line) → specs_of lines ≡ flat_map spec_list (said_by lines)
 specs_are lines = by lines
@@ -58,11 +53,7 @@ specs_are lines = by lines
 
 effective_append : (n : Node) (rest : List Spec) → effective_list n ++ map effective_spec rest ≡ map effective_spec (spec_list n ++ rest)
 effective_append (node.Spec users groups) rest = refl
-effective_append (node.Defaults scope params) rest = refl
-effective_append (node.Alias k defs) rest = refl
-effective_append node.Blank rest = refl
-effective_append node.Comment rest = refl
-effective_append (node.Include dir path) rest = refl
+effective_append n rest = refl
 
 effective_lists : (ns : List Node) → flat_map effective_list ns ≡ map effective_spec (flat_map spec_list ns)
 effective_lists [] = refl
@@ -70,31 +61,11 @@ effective_lists (n ∷ ns) = ap (λ (t : List Spec). effective_list n ++ t) (eff
 
 in_specs : (n : Node) → flat_map spec_list (specs_in n) ≡ effective_list n
 in_specs (node.Spec users groups) = refl
-in_specs (node.Alias k ds) = refl
-in_specs (node.Defaults scope params) = refl
-in_specs node.Blank = refl
-in_specs node.Comment = refl
-in_specs (node.Include dir path) = refl
+in_specs n = refl
 
 in_defaults : (n : Node) → flat_map spec_list (defaults_in n) ≡ []
 in_defaults (node.Defaults scope params) = refl
-in_defaults (node.Spec users groups) = refl
-in_defaults (node.Alias k ds) = refl
-in_defaults node.Blank = refl
-in_defaults node.Comment = refl
-in_defaults (node.Include dir path) = refl
-
-each_def : (k : Kind) (ds : List Def) → flat_map spec_list (map (one_def k) ds) ≡ []
-each_def k [] = refl
-each_def k (d ∷ ds) = each_def k ds
-
-in_defs : (n : Node) → flat_map spec_list (defs_in n) ≡ []
-in_defs (node.Alias k ds) = each_def k ds
-in_defs (node.Defaults scope params) = refl
-in_defs (node.Spec users groups) = refl
-in_defs node.Blank = refl
-in_defs node.Comment = refl
-in_defs (node.Include dir path) = refl
+in_defaults n = refl
 
 record IsSameSpec (s t : Spec) : Type 0 where
   users : AllSame IsSameMember s.users t.users
@@ -110,7 +81,7 @@ specs_alike : (lines read : List Line) → AllSame IsSame (lines_of (rules_of li
     → AllAlike (λ (s t : Spec). IsSameSpec (effective_spec s) t) (specs_of lines) (specs_of read)
 specs_alike lines read same =
     let made : flat_map spec_list (lines_of (rules_of lines)) ≡ map effective_spec (specs_of lines) =
-    made_of_specs spec_list effective_list in_defaults in_defs in_specs lines ∙ effective_lists (said_by lines) ∙ sym (ap (map effective_spec) (specs_are lines)) in
+    made_of_specs spec_list effective_list in_defaults (no_defs spec_list (λ k d. refl)) in_specs lines ∙ effective_lists (said_by lines) ∙ sym (ap (map effective_spec) (specs_are lines)) in
     of_others effective_spec IsSameSpec (specs_of lines) (specs_of read)
     (subst (λ xs. AllAlike IsSameSpec xs (specs_of read)) made
     (subst (λ ys. AllAlike IsSameSpec (flat_map spec_list (lines_of (rules_of lines))) ys) (sym (specs_are read))

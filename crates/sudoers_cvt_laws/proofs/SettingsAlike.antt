@@ -3,7 +3,6 @@ use Rattle.std.proofs.Common.{◌≡◌, ℕ, List, [], ◌∷◌, ◌++◌, map
 use Rattle.std.specs.List.{flat_map}
 use Rattle.sudoers_line.specs.declared.node.Kind.{Kind}
 use Rattle.sudoers_line.specs.declared.node.Kind.TheVariants.{User, Runas, Host, Cmnd}
-use Rattle.sudoers_line.specs.declared.node.Def.{Def}
 use Rattle.sudoers_line.specs.declared.node.Member.{Member}
 use Rattle.sudoers_line.specs.declared.node.Param.{Param}
 use Rattle.sudoers_line.specs.declared.node.Scope.{Scope}
@@ -14,9 +13,9 @@ use Rattle.sudoers_print_laws.specs.Same.{read_back, IsSameMember, AllSame, IsSa
 use Rattle.sudoers_verdict.specs.Alike.{AllAlike, AreAlike}
 use Rattle.sudoers_match.specs.Alike.{AreCountedAlike, AreScopesAlike, AreSettingsAlike, AreDefaultsAlike}
 use Rattle.sudoers_match.specs.Default.{settings_in, with_scope, defaults_in as settings_of, defaults_of}
-use Rattle.sudoers_cvt.specs.Rules.{defaults_in, specs_in, one_def, defs_in, rules_of, lines_of}
+use Rattle.sudoers_cvt.specs.Rules.{defaults_in, specs_in, rules_of, lines_of}
 use Rattle.sudoers_cvt_laws.specs.ReadAs.{said_by}
-use Rattle.sudoers_cvt_laws.proofs.Parts.{made_of_defaults, made_alike}
+use Rattle.sudoers_cvt_laws.proofs.Parts.{no_defs, made_of_defaults, made_alike}
 
 pub settings_are : (lines : List Line) → defaults_of lines ≡ flat_map settings_of (said_by lines)
 settings_are lines = by lines
@@ -27,31 +26,11 @@ settings_are lines = by lines
 
 pub in_defaults : (n : Node) → flat_map settings_of (defaults_in n) ≡ settings_of n
 in_defaults (node.Defaults scope params) = append-nil (settings_of (node.Defaults scope params))
-in_defaults (node.Alias k ds) = refl
-in_defaults (node.Spec users groups) = refl
-in_defaults node.Blank = refl
-in_defaults node.Comment = refl
-in_defaults (node.Include dir path) = refl
-
-each_def : (k : Kind) (ds : List Def) → flat_map settings_of (map (one_def k) ds) ≡ []
-each_def k [] = refl
-each_def k (d ∷ ds) = each_def k ds
-
-in_defs : (n : Node) → flat_map settings_of (defs_in n) ≡ []
-in_defs (node.Alias k ds) = each_def k ds
-in_defs (node.Defaults scope params) = refl
-in_defs (node.Spec users groups) = refl
-in_defs node.Blank = refl
-in_defs node.Comment = refl
-in_defs (node.Include dir path) = refl
+in_defaults n = refl
 
 in_specs : (n : Node) → flat_map settings_of (specs_in n) ≡ []
 in_specs (node.Spec users groups) = refl
-in_specs (node.Alias k ds) = refl
-in_specs (node.Defaults scope params) = refl
-in_specs node.Blank = refl
-in_specs node.Comment = refl
-in_specs (node.Include dir path) = refl
+in_specs n = refl
 
 module _ (lines read : List Line) (lists : (k : Kind) (ms ns : List Member) → AllSame IsSameMember ms ns → AreAlike read_back k lines read ms ns) where
   abbrev SettingsAlike : Option Scope × List ℕ → Option Scope × List ℕ → Type 0
@@ -84,6 +63,6 @@ module _ (lines read : List Line) (lists : (k : Kind) (ms ns : List Member) → 
 
   pub settings_alike : AllSame IsSame (lines_of (rules_of lines)) (said_by read) → AreDefaultsAlike read_back lines read
   settings_alike same =
-      subst (λ xs. AllAlike SettingsAlike xs (defaults_of read)) (made_of_defaults settings_of settings_of in_defaults in_defs in_specs lines ∙ sym (settings_are lines))
+      subst (λ xs. AllAlike SettingsAlike xs (defaults_of read)) (made_of_defaults settings_of settings_of in_defaults (no_defs settings_of (λ k d. refl)) in_specs lines ∙ sym (settings_are lines))
       (subst (λ ys. AllAlike SettingsAlike (flat_map settings_of (lines_of (rules_of lines))) ys) (sym (settings_are read))
       (made_alike SettingsAlike settings_of node_alike (lines_of (rules_of lines)) (said_by read) same))

@@ -20,11 +20,11 @@ pub fn json(alloc: Global, rules: &Rules<'_>) -> Result<Vec<u8>, CvtFault>
     ensures fault { IfErr result (λ fault. (fault ≡ NoMemory) ⊎ ((fault ≡ NotUtf8) × (is_unicode (rules_value rules.now) ≡ false))) }
 {
     let mut text = Vec::from_slice(alloc, b"{\"aliases\":[")?;
-    append_rules(alloc, &mut text, rules.defs.as_slice())?;
+    append_rules(alloc, &mut text, rules.defs())?;
     text.extend_from_slice(b",\"defaults\":[")?;
-    append_rules(alloc, &mut text, rules.defaults.as_slice())?;
+    append_rules(alloc, &mut text, rules.defaults())?;
     text.extend_from_slice(b",\"specs\":[")?;
-    append_rules(alloc, &mut text, rules.specs.as_slice())?;
+    append_rules(alloc, &mut text, rules.specs())?;
     text.extend_from_slice(b"}\n")?;
     Ok(text)
 }

@@ -53,7 +53,7 @@ fn param_text(alloc: Global, param: &Param<'_>) -> Result<Vec<u8>, AllocError>
     ensures { IfOk result (λ text. text.items ≡ printed_param (param_shown param.now)) }
 {
     let mut text = Vec::new(alloc);
-    append_param(&mut text, param)?;
+    append_param(alloc, &mut text, param)?;
     Ok(text)
 }
 
@@ -74,7 +74,7 @@ fn option_text(alloc: Global, name: OptionName, value: &[u8]) -> Result<Vec<u8>,
     ensures { IfOk result (λ text. text.items ≡ printed_option name value.now) }
 {
     let mut text = Vec::new(alloc);
-    append_option(&mut text, name, value)?;
+    append_option(alloc, &mut text, name, value)?;
     Ok(text)
 }
 

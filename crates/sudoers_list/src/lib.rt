@@ -2,9 +2,11 @@
 #![tactic(auto)]
 
 mod groups;
+mod laws;
 mod lines;
 mod listing;
 mod reason;
 
+pub use laws::one_listing;
 pub use listing::list;
 pub use reason::explain;

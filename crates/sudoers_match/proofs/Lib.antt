@@ -13,3 +13,5 @@ pub mod Stamps
 pub mod Alike
 pub mod OneAnswer
 pub mod GroupsAlike
+pub mod OneListing
+pub mod OneHead

@@ -15,7 +15,7 @@ use Rattle.sudoers_match.specs.Rows.{Row, row_of, CommandRows, GroupRows, SpecRo
 use Rattle.sudoers_match.specs.Specs.{Spec, specs_of, AreJoined}
 use Rattle.sudoers_match.proofs.Lasts.{last_one}
 
-joined_one : {X Y : Type 0} (Part : ℕ → X → List Y → Type 0) → ((i : ℕ) (x : X) (ys zs : List Y) → Part i x ys → Part i x zs → ys ≡ zs)
+pub joined_one : {X Y : Type 0} (Part : ℕ → X → List Y → Type 0) → ((i : ℕ) (x : X) (ys zs : List Y) → Part i x ys → Part i x zs → ys ≡ zs)
     → (i : ℕ) (xs : List X) (ys zs : List Y) → AreJoined Part i xs ys → AreJoined Part i xs zs → ys ≡ zs
 joined_one Part each i [] ys zs a b = a ∙ sym b
 joined_one Part each i (x ∷ xs) ys zs a b =

@@ -11,3 +11,9 @@ pub record IsHead (held : HeadHeld) (head : Head) : Type 0 where
   pub runas : option_map runas_shown held.runas ≡ head.runas
   pub options : values_shown held.options ≡ values_of head.options
   pub tags : held.tags ≡ tags_of head.tags
+
+-- The heads have the same Runas_Spec, and their options and tags say the same in the end.
+pub record AreHeadsSame (head other : Head) : Type 0 where
+  pub runas : head.runas ≡ other.runas
+  pub options : values_of head.options ≡ values_of other.options
+  pub tags : tags_of head.tags ≡ tags_of other.tags

@@ -23,7 +23,7 @@ pub use moment::stamp_number;
 pub use options::Options;
 pub use policies::{
     alike_defaults_are_same, alike_rows_answer, alike_rows_fit, alike_specs_have_same_groups,
-    one_answer,
+    one_answer, one_head, one_list_of_host_groups, one_runas_default,
 };
 pub use request::{Request, join_words};
 pub use rules::Answer;

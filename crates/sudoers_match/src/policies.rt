@@ -10,8 +10,11 @@ ghost use Rattle.sudoers_match.specs.Alike.{AreDefaultsAlike, AreRowsAlike, AreR
 ghost use Rattle.sudoers_match.specs.Answer.{Answer as AnswerOf, Answers, Fits, IsAnswer};
 ghost use Rattle.sudoers_match.specs.Default.{IsRunasDefault};
 ghost use Rattle.sudoers_match.specs.Groups.{AreHostGroups};
+ghost use Rattle.sudoers_match.specs.Heads.{Head as HeadOf};
+ghost use Rattle.sudoers_match.specs.IsHead.{AreHeadsSame, IsHead};
 ghost use Rattle.sudoers_match.specs.Rows.{Row};
 ghost use Rattle.sudoers_match.specs.Specs.{specs_of};
+ghost use Rattle.sudoers_match.specs.declared.head.Head.{Head as HeadHeld};
 ghost use Rattle.sudoers_match.specs.declared.groups.GroupPlace.{GroupPlace as GroupPlaceOf};
 
 use sudoers_verdict::{alike_lists_say_same, one_flat};
@@ -23,6 +26,24 @@ pub fn one_answer()
 {
     one_flat();
 }
+
+/// The places of the host groups for a user on a host are one list.
+pub fn one_list_of_host_groups()
+    ensures { (lines : List LineOf) (who : WhoOf) (places others : List GroupPlaceOf) → AreHostGroups lines who places
+        → AreHostGroups lines who others → places ≡ others }
+{}
+
+/// A user on a host has one runas_default.
+pub fn one_runas_default()
+    ensures { (lines : List LineOf) (who : WhoOf) (name other : List ℕ) → IsRunasDefault lines who name
+        → IsRunasDefault lines who other → name ≡ other }
+{}
+
+/// What is held of a command is a head. Heads of which the same is held say the same.
+pub fn one_head()
+    ensures some { (held : HeadHeld) → (head : HeadOf) × IsHead held head }
+    ensures same { (held : HeadHeld) (head other : HeadOf) → IsHead held head → IsHead held other → AreHeadsSame head other }
+{}
 
 /// Two policies with the same settings have the same runas_default, whoever asks. The second policy may write an atom otherwise, if that
 /// matches the same.

@@ -118,8 +118,13 @@ pub record IsReadSoFar {X : Type 0} (same : X → X → Bool) (said : List ℕ �
   pub firsts : behind same kept (said_in said rest) ≡ firsts same (said_in said all)
   pub bad : position_from (is_bad said) (i + 1) rest ≡ position_from (is_bad said) 1 all
 
-pub none_read : {X : Type 0} (same : X → X → Bool) (said : List ℕ → Option X) (name : X → List ℕ) (all : List (List ℕ)) → IsReadSoFar same said name all all 0 [] []
-none_read same said name all = record { names = refl; firsts = none_kept same (said_in said all); bad = refl }
+pub none_read : {X : Type 0} (same : X → X → Bool) (said : List ℕ → Option X) (name : X → List ℕ) (all rest : List (List ℕ)) (kept : List X) (seen : List (List ℕ))
+    → rest ≡ all → kept ≡ [] → seen ≡ [] → IsReadSoFar same said name all rest 0 kept seen
+none_read same said name all rest kept seen whole none unseen = record {
+  names = unseen ∙ sym (ap (map name) none);
+  firsts = ap (λ ys. behind same ys (said_in said rest)) none ∙ ap (λ rs. behind same [] (said_in said rs)) whole ∙ none_kept same (said_in said all);
+  bad = ap (position_from (is_bad said) 1) whole;
+}
 
 pub row_read : {X : Type 0} (same : X → X → Bool) → IsKey same → (said : List ℕ → Option X) (name : X → List ℕ) (all rest : List (List ℕ)) (i : ℕ)
     (kept kept' : List X) (seen seen' : List (List ℕ)) (row : List ℕ)
@@ -145,22 +150,45 @@ pub none_bad : {X : Type 0} (same : X → X → Bool) (said : List ℕ → Optio
     (kept : List X) (seen : List (List ℕ)) → IsReadSoFar same said name all [] i kept seen → position_from (is_bad said) 1 all ≡ None
 none_bad same said name all i kept seen s = sym s.bad
 
+-- ---- whether a name was seen
+
+pub was_new : (b said : Bool) → said ≡ not b → said ≡ true → b ≡ false
+was_new true said e t = sym t ∙ e
+was_new false said e t = refl
+
+pub was_old : (b said : Bool) → said ≡ not b → said ≡ false → b ≡ true
+was_old true said e t = refl
+was_old false said e t = sym t ∙ e
+
 -- ---- one row
 
 row_said : {X : Type 0} (said : List ℕ → Option X) (row : List ℕ) (x : X) → is_passed_over row ≡ false → said row ≡ Some x → said_of said row ≡ Some x
 row_said said row x over e = ap (λ b. if b then None else said row) over ∙ e
 
-pub kept_new : {X : Type 0} (name : X → List ℕ) (said : List ℕ → Option X) (row : List ℕ) (x : X) (xs : List X) → is_passed_over row ≡ false → said row ≡ Some x
-    → list_any (bytes_eq (name x)) (map name xs) ≡ false → xs ++ x ∷ [] ≡ with_said (λ (a b : X). bytes_eq (name a) (name b)) (said_of said row) xs
-kept_new name said row x xs over e new =
-    sym (ap (λ o. with_said (λ a b. bytes_eq (name a) (name b)) o xs) (row_said said row x over e)
-    ∙ ap (λ b. if b then xs else xs ++ x ∷ []) (map_any name (bytes_eq (name x)) xs ∙ new))
+-- what a row says, and whether its name was seen before
+pub record IsNamed {X : Type 0} (name : X → List ℕ) (said : List ℕ → Option X) (row : List ℕ) (x : X) (xs : List X) (asked : List ℕ) (seen : List (List ℕ)) (is_new : Bool) : Type 0 where
+  pub over : is_passed_over row ≡ false
+  pub says : said row ≡ Some x
+  pub asks : asked ≡ name x
+  pub names : seen ≡ map name xs
+  pub new : is_new ≡ not (list_any (bytes_eq asked) seen)
 
-pub kept_old : {X : Type 0} (name : X → List ℕ) (said : List ℕ → Option X) (row : List ℕ) (x : X) (xs : List X) → is_passed_over row ≡ false → said row ≡ Some x
-    → list_any (bytes_eq (name x)) (map name xs) ≡ true → xs ≡ with_said (λ (a b : X). bytes_eq (name a) (name b)) (said_of said row) xs
-kept_old name said row x xs over e has =
-    sym (ap (λ o. with_said (λ a b. bytes_eq (name a) (name b)) o xs) (row_said said row x over e)
-    ∙ ap (λ b. if b then xs else xs ++ x ∷ []) (map_any name (bytes_eq (name x)) xs ∙ has))
+module _ {X : Type 0} (name : X → List ℕ) (said : List ℕ → Option X) (row : List ℕ) (x : X) (xs : List X) (asked : List ℕ) (seen : List (List ℕ)) (is_new : Bool)
+    (n : IsNamed name said row x xs asked seen is_new) where
+  tells : is_new ≡ not (list_any (bytes_eq (name x)) (map name xs))
+  tells = n.new ∙ ap not (ap (λ (a : List ℕ). list_any (bytes_eq a) seen) n.asks ∙ ap (list_any (bytes_eq (name x))) n.names)
+
+  kept : (has : Bool) → list_any (bytes_eq (name x)) (map name xs) ≡ has
+      → with_said (λ (a b : X). bytes_eq (name a) (name b)) (said_of said row) xs ≡ (if has then xs else xs ++ x ∷ [])
+  kept has e =
+      ap (λ o. with_said (λ a b. bytes_eq (name a) (name b)) o xs) (row_said said row x n.over n.says)
+      ∙ ap (λ b. if b then xs else xs ++ x ∷ []) (map_any name (bytes_eq (name x)) xs ∙ e)
+
+  pub kept_new : is_new ≡ true → xs ++ x ∷ [] ≡ with_said (λ (a b : X). bytes_eq (name a) (name b)) (said_of said row) xs
+  kept_new t = sym (kept false (was_new (list_any (bytes_eq (name x)) (map name xs)) is_new tells t))
+
+  pub kept_old : is_new ≡ false → xs ≡ with_said (λ (a b : X). bytes_eq (name a) (name b)) (said_of said row) xs
+  kept_old f = sym (kept true (was_old (list_any (bytes_eq (name x)) (map name xs)) is_new tells f))
 
 -- what is next in a list, by what each shows
 pub next_at : {X Y : Type 0} (f : X → Y) (xs : List X) (i : ℕ) (d : X) → i < length xs → (y : Y) → y ≡ f (get_or xs i d)
@@ -214,16 +242,6 @@ row_passed test all rest row groups wanted split so_far has =
     let more : listed test all ≡ listed test rest =
     ap (listed test) split ∙ ap (λ b. map as_group (cond b (row ∷ filter test rest) (filter test rest))) has in
     ap (behind same_number groups) (sym more) ∙ so_far
-
--- ---- whether a name was seen
-
-pub was_new : (b said : Bool) → said ≡ not b → said ≡ true → b ≡ false
-was_new true said e t = sym t ∙ e
-was_new false said e t = refl
-
-pub was_old : (b said : Bool) → said ≡ not b → said ≡ false → b ≡ true
-was_old true said e t = refl
-was_old false said e t = sym t ∙ e
 
 -- ---- rows in memory
 

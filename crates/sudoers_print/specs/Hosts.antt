@@ -1,5 +1,5 @@
 -- How hosts are printed (sudoers(5), Host_List).
-use Rattle.std.specs.Prelude.{ℕ, ◌/◌, ◌%◌, not, Bool, true, false, List, [], ◌∷◌, ◌++◌, codes, Option, Some, None}
+use Rattle.std.specs.Prelude.{ℕ, ◌/◌, ◌%◌, not, Bool, true, false, List, ◌++◌, codes, Option, Some}
 use Rattle.std.specs.Fmt.{decimal}
 use Rattle.sudoers_text.specs.declared.token.TokenKind.TheVariants as kind
 use Rattle.sudoers_line.specs.declared.node.Atom.{Atom}

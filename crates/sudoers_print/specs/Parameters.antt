@@ -1,5 +1,5 @@
 -- How Defaults lines are printed (sudoers(5), Defaults).
-use Rattle.std.specs.Prelude.{ℕ, ◌==◌, ◌&&◌, ◌||◌, not, nat_lt, length, Bool, true, false, List, [], ◌∷◌, ◌++◌, codes, Option, Some, None, if◌then◌else◌}
+use Rattle.std.specs.Prelude.{ℕ, ◌==◌, ◌&&◌, ◌||◌, not, nat_lt, length, Bool, false, List, [], ◌++◌, codes, Option, Some, None, if◌then◌else◌}
 use Rattle.std.specs.List.{join_by, list_all}
 use Rattle.sudoers_text.specs.Part.{is_alphanumeric}
 use Rattle.sudoers_line.specs.declared.node.Kind.{Kind}

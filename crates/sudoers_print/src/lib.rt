@@ -1,6 +1,7 @@
 //! How the parts of a sudoers policy are printed.
 #![tactic(auto)]
 
+mod appending;
 mod hosts;
 mod lists;
 mod members;
@@ -10,9 +11,9 @@ mod runas;
 mod spelling;
 mod words;
 
-pub use lists::append_list;
-pub use members::append_member;
+pub use appending::{
+    append_defaults, append_list, append_member, append_option, append_param, append_runas,
+};
 pub use numbers::append_number;
-pub use parameters::{append_defaults, append_param, scope_mark};
-pub use runas::append_runas;
-pub use words::{append_option, append_tag};
+pub use parameters::scope_mark;
+pub use words::append_tag;

@@ -4,7 +4,7 @@ ghost use Rattle.std.specs.Prelude.{◌≡◌, ◌++◌, codes, false, OnOk};
 ghost use Rattle.sudoers_reader.specs.View.{members_shown};
 ghost use Rattle.sudoers_print.specs.Members.{printed_list};
 
-use crate::members::append_member;
+use crate::members::add_member;
 use std::alloc::{AllocError, Global};
 use sudoers_line::Kind;
 use sudoers_reader::{MemberRow, Rows};
@@ -14,7 +14,7 @@ use sudoers_reader::{MemberRow, Rows};
 /// # Errors
 ///
 /// Memory ran out.
-pub fn append_list(
+pub fn add_list(
     alloc: Global,
     out: &mut Vec<u8>,
     first: bool,
@@ -27,10 +27,10 @@ pub fn append_list(
     let Some((head, rest)) = members.rows.split_first() else {
         return Ok(());
     };
-    append_member(alloc, out, first, kind, &tables.member(head))?;
+    add_member(alloc, out, first, kind, &tables.member(head))?;
     for row in rest {
         out.extend_from_slice(b", ")?;
-        append_member(alloc, out, false, kind, &tables.member(row))?;
+        add_member(alloc, out, false, kind, &tables.member(row))?;
     }
     Ok(())
 }

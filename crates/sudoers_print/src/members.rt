@@ -193,7 +193,7 @@ fn append_digests(out: &mut Vec<u8>, digests: &Rows<'_, DigestRow>) -> Result<()
 /// # Errors
 ///
 /// Memory ran out.
-pub fn append_member(
+pub fn add_member(
     alloc: Global,
     out: &mut Vec<u8>,
     first: bool,

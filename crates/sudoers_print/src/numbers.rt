@@ -1,19 +1,20 @@
 //! Numbers as they are printed.
 
-ghost use Rattle.std.specs.Prelude.{◌≡◌, ◌++◌, OnOk};
+ghost use Rattle.std.specs.Prelude.{◌≡◌, ◌++◌, OnErr, OnOk};
 ghost use Rattle.std.specs.Fmt.{decimal};
 ghost use Rattle.sudoers_print.specs.Hosts.{dotted, printed_mask};
 
 use std::alloc::{AllocError, Global};
 use sudoers_line::{Address, Mask};
 
-/// Appends `number` in decimal.
+/// Appends `number` in decimal. Where memory runs out, the text stays as it was.
 ///
 /// # Errors
 ///
 /// Memory ran out.
 pub fn append_number(alloc: Global, out: &mut Vec<u8>, number: usize) -> Result<(), AllocError>
-    ensures { OnOk result (out.new.items ≡ out.old.items ++ decimal number) }
+    ensures appended { OnOk result (out.new.items ≡ out.old.items ++ decimal number) }
+    ensures kept { OnErr result (out.new.items ≡ out.old.items) }
 {
     let digits = number.to_string(alloc)?;
     out.extend_from_slice(digits.as_bytes())

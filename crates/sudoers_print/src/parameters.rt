@@ -5,7 +5,7 @@ ghost use Rattle.sudoers_reader.specs.View.{param_shown, params_shown, scope_sho
 ghost use Rattle.std.specs.List.{list_all};
 ghost use Rattle.sudoers_print.specs.Parameters.{operator_mark, is_plain, is_plain_value, fits_quotes, printed_value, printed_setting, printed_param, printed_params, scope_mark, printed_scope, printed_defaults};
 
-use crate::lists::append_list;
+use crate::lists::add_list;
 use crate::spelling::{append_spelled, is_control};
 use std::alloc::{AllocError, Global};
 use sudoers_line::{Kind, Operator};
@@ -70,7 +70,7 @@ fn append_value(out: &mut Vec<u8>, value: &[u8]) -> Result<(), AllocError>
 /// # Errors
 ///
 /// Memory ran out.
-pub fn append_param(out: &mut Vec<u8>, param: &Param<'_>) -> Result<(), AllocError>
+pub fn add_param(out: &mut Vec<u8>, param: &Param<'_>) -> Result<(), AllocError>
     ensures { OnOk result (out.new.items ≡ out.old.items ++ printed_param (param_shown param.now)) }
 {
     if param.negated {
@@ -94,10 +94,10 @@ fn append_params(out: &mut Vec<u8>, params: &Rows<'_, ParamRow>) -> Result<(), A
     let Some((first, rest)) = params.rows.split_first() else {
         return Ok(());
     };
-    append_param(out, &tables.param(first))?;
+    add_param(out, &tables.param(first))?;
     for row in rest {
         out.extend_from_slice(b", ")?;
-        append_param(out, &tables.param(row))?;
+        add_param(out, &tables.param(row))?;
     }
     Ok(())
 }
@@ -119,7 +119,7 @@ pub fn scope_mark(kind: Kind) -> &'static [u8]
 /// # Errors
 ///
 /// Memory ran out.
-pub fn append_defaults(
+pub fn add_defaults(
     alloc: Global,
     out: &mut Vec<u8>,
     scope: &Option<Scope<'_>>,
@@ -130,7 +130,7 @@ pub fn append_defaults(
     out.extend_from_slice(b"Defaults")?;
     if let Some(scope) = scope {
         out.extend_from_slice(scope_mark(scope.kind))?;
-        append_list(alloc, out, false, scope.kind, &scope.members)?;
+        add_list(alloc, out, false, scope.kind, &scope.members)?;
     }
     out.extend_from_slice(b" ")?;
     append_params(out, params)

@@ -4,7 +4,7 @@ ghost use Rattle.std.specs.Prelude.{◌≡◌, ◌++◌, codes, OnOk};
 ghost use Rattle.sudoers_reader.specs.View.{runas_shown, members_shown};
 ghost use Rattle.sudoers_print.specs.Commands.{printed_inside, printed_runas};
 
-use crate::lists::append_list;
+use crate::lists::add_list;
 use std::alloc::{AllocError, Global};
 use sudoers_line::Kind;
 use sudoers_reader::RunasSpec;
@@ -13,7 +13,7 @@ use sudoers_reader::RunasSpec;
 fn append_inside(alloc: Global, out: &mut Vec<u8>, runas: &RunasSpec<'_>) -> Result<(), AllocError>
     ensures { OnOk result (out.new.items ≡ out.old.items ++ printed_inside (members_shown runas.now.users) (members_shown runas.now.groups)) }
 {
-    append_list(alloc, out, false, Kind::Runas, &runas.users)?;
+    add_list(alloc, out, false, Kind::Runas, &runas.users)?;
     if runas.groups.rows.is_empty() {
         return Ok(());
     }
@@ -22,7 +22,7 @@ fn append_inside(alloc: Global, out: &mut Vec<u8>, runas: &RunasSpec<'_>) -> Res
     } else {
         out.extend_from_slice(b" : ")?;
     }
-    append_list(alloc, out, false, Kind::Runas, &runas.groups)
+    add_list(alloc, out, false, Kind::Runas, &runas.groups)
 }
 
 /// Appends a Runas_Spec.
@@ -30,11 +30,7 @@ fn append_inside(alloc: Global, out: &mut Vec<u8>, runas: &RunasSpec<'_>) -> Res
 /// # Errors
 ///
 /// Memory ran out.
-pub fn append_runas(
-    alloc: Global,
-    out: &mut Vec<u8>,
-    runas: &RunasSpec<'_>,
-) -> Result<(), AllocError>
+pub fn add_runas(alloc: Global, out: &mut Vec<u8>, runas: &RunasSpec<'_>) -> Result<(), AllocError>
     ensures { OnOk result (out.new.items ≡ out.old.items ++ printed_runas (runas_shown runas.now)) }
 {
     out.extend_from_slice(b"(")?;

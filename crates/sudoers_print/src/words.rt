@@ -1,6 +1,6 @@
 //! Options and tags as they are printed (sudoers(5), Option_Spec, Tag_Spec).
 
-ghost use Rattle.std.specs.Prelude.{◌≡◌, ◌++◌, codes, OnOk};
+ghost use Rattle.std.specs.Prelude.{◌≡◌, ◌++◌, codes, OnErr, OnOk};
 ghost use Rattle.sudoers_print.specs.Commands.{option_word, printed_option_value, printed_option, tag_word, printed_tag};
 
 use crate::spelling::append_spelled;
@@ -30,7 +30,7 @@ fn option_word(name: OptionName) -> &'static [u8]
 /// # Errors
 ///
 /// Memory ran out.
-pub fn append_option(out: &mut Vec<u8>, name: OptionName, value: &[u8]) -> Result<(), AllocError>
+pub fn add_option(out: &mut Vec<u8>, name: OptionName, value: &[u8]) -> Result<(), AllocError>
     ensures { OnOk result (out.new.items ≡ out.old.items ++ printed_option name value.now) }
 {
     out.extend_from_slice(option_word(name))?;
@@ -58,16 +58,37 @@ fn tag_word(tag: Tag) -> &'static [u8]
     }
 }
 
-/// Appends a tag, with `NO` before it if it is not `on`.
+/// Returns the word of a tag, with `NO` before it.
+fn negated_word(tag: Tag) -> &'static [u8]
+    ensures { result.now ≡ codes "NO" ++ tag_word tag }
+{
+    match tag {
+        Tag::Exec => b"NOEXEC",
+        Tag::Follow => b"NOFOLLOW",
+        Tag::Intercept => b"NOINTERCEPT",
+        Tag::LogInput => b"NOLOG_INPUT",
+        Tag::LogOutput => b"NOLOG_OUTPUT",
+        Tag::Mail => b"NOMAIL",
+        Tag::Passwd => b"NOPASSWD",
+        Tag::Setenv => b"NOSETENV",
+    }
+}
+
+/// Returns a tag, with `NO` before it if it is not `on`.
+fn printed_tag(tag: Tag, on: bool) -> &'static [u8]
+    ensures { result.now ≡ printed_tag tag on }
+{
+    if on { tag_word(tag) } else { negated_word(tag) }
+}
+
+/// Appends a tag, with `NO` before it if it is not `on`. Where memory runs out, the text stays as it was.
 ///
 /// # Errors
 ///
 /// Memory ran out.
 pub fn append_tag(out: &mut Vec<u8>, tag: Tag, on: bool) -> Result<(), AllocError>
-    ensures { OnOk result (out.new.items ≡ out.old.items ++ printed_tag tag on) }
+    ensures appended { OnOk result (out.new.items ≡ out.old.items ++ printed_tag tag on) }
+    ensures kept { OnErr result (out.new.items ≡ out.old.items) }
 {
-    if !on {
-        out.extend_from_slice(b"NO")?;
-    }
-    out.extend_from_slice(tag_word(tag))
+    out.extend_from_slice(printed_tag(tag, on))
 }

@@ -5,11 +5,13 @@ ghost use Rattle.sudoers_line.specs.declared.node.Node.TheVariants.{Spec};
 ghost use Rattle.sudoers_reader.specs.Tables.{commands_in, group_in, groups_in, member_in, node_in};
 ghost use Rattle.sudoers_rewrite.specs.Count.{group_count, groups_count, node_count};
 ghost use Rattle.sudoers_rewrite.specs.Extended.{IsLike, Extended, Stays};
+ghost use Rattle.sudoers_rewrite.specs.Selected.{selected_in};
 ghost use Rattle.sudoers_rewrite.specs.Written.{IsRefusal, group_if, group_of, node_if};
 
 use crate::commands::write_command_list;
 use crate::copying::write_groups;
 use crate::listing::{Source, write_list};
+use crate::selecting::Selected;
 use crate::tally::Tally;
 use std::alloc::Global;
 use sudoers_cvt::CvtFault;
@@ -50,21 +52,21 @@ fn write_group_list(
     source: &Source<'_>,
     tables: &mut Tables,
     tally: &mut Tally,
-    rows: &[GroupRow],
+    groups: &[Selected],
 ) -> Result<Range, CvtFault>
     requires { IsLike source.now.aliases.lines.tables.now tables.old }
     ensures stays { IfOk result (λ range. Stays groups_in tables.new range
-        (map (group_if source.now.expand source.now.aliases.policy.now) (map (group_in source.now.aliases.lines.tables.now) rows.now))) }
+        (map (group_if source.now.expand source.now.aliases.policy.now) (map (selected_in source.now.aliases.lines.tables.now) groups.now))) }
     ensures extended { OnOk result (Extended tables.old tables.new) }
     ensures counted { OnOk result (source.now.expand ≡ true → tally.new.count ≡ tally.old.count + groups_count
-        (map (group_if source.now.expand source.now.aliases.policy.now) (map (group_in source.now.aliases.lines.tables.now) rows.now))) }
+        (map (group_if source.now.expand source.now.aliases.policy.now) (map (selected_in source.now.aliases.lines.tables.now) groups.now))) }
     ensures fault { IfErr result (IsRefusal source.now.expand (tally.old.count + groups_count
-        (map (group_if source.now.expand source.now.aliases.policy.now) (map (group_in source.now.aliases.lines.tables.now) rows.now)))) }
+        (map (group_if source.now.expand source.now.aliases.policy.now) (map (selected_in source.now.aliases.lines.tables.now) groups.now)))) }
 {
     let mut out = Vec::new(alloc);
-    for row in rows {
-        let hosts = rows_in(source.aliases.lines.tables.members.as_slice(), row.hosts);
-        out.push(write_group(alloc, source, tables, tally, hosts, row.commands)?)?;
+    for group in groups {
+        let hosts = group.hosts.as_slice();
+        out.push(write_group(alloc, source, tables, tally, hosts, group.commands)?)?;
     }
     Ok(write_groups(tables, out.as_slice())?)
 }
@@ -77,18 +79,18 @@ pub fn write_spec(
     tables: &mut Tables,
     tally: &mut Tally,
     users: &[MemberRow],
-    groups: &[GroupRow],
+    groups: &[Selected],
 ) -> Result<NodeRow, CvtFault>
     requires { IsLike source.now.aliases.lines.tables.now tables.old }
     ensures stays { IfOk result (λ row. Stays node_in tables.new row (node_if source.now.expand source.now.aliases.policy.now
-        (Spec (map (member_in source.now.aliases.lines.tables.now) users.now) (map (group_in source.now.aliases.lines.tables.now) groups.now)))) }
+        (Spec (map (member_in source.now.aliases.lines.tables.now) users.now) (map (selected_in source.now.aliases.lines.tables.now) groups.now)))) }
     ensures extended { OnOk result (Extended tables.old tables.new) }
     ensures counted { OnOk result (source.now.expand ≡ true → tally.new.count ≡ tally.old.count
         + node_count (node_if source.now.expand source.now.aliases.policy.now
-        (Spec (map (member_in source.now.aliases.lines.tables.now) users.now) (map (group_in source.now.aliases.lines.tables.now) groups.now)))) }
+        (Spec (map (member_in source.now.aliases.lines.tables.now) users.now) (map (selected_in source.now.aliases.lines.tables.now) groups.now)))) }
     ensures fault { IfErr result (IsRefusal source.now.expand (tally.old.count
         + node_count (node_if source.now.expand source.now.aliases.policy.now
-        (Spec (map (member_in source.now.aliases.lines.tables.now) users.now) (map (group_in source.now.aliases.lines.tables.now) groups.now))))) }
+        (Spec (map (member_in source.now.aliases.lines.tables.now) users.now) (map (selected_in source.now.aliases.lines.tables.now) groups.now))))) }
 {
     let users = write_list(alloc, source, tables, tally, Kind::User, users)?;
     let groups = write_group_list(alloc, source, tables, tally, groups)?;

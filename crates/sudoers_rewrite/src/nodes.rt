@@ -9,6 +9,7 @@ ghost use Rattle.sudoers_rewrite.specs.Written.{IsRefusal, node_if};
 use crate::copying::{write_defs, write_members};
 use crate::groups::write_spec;
 use crate::listing::{Source, write_own_scope};
+use crate::selecting::select_all;
 use crate::tally::Tally;
 use std::alloc::{AllocError, Global};
 use sudoers_cvt::CvtFault;
@@ -72,8 +73,8 @@ pub fn write_node(
         }
         NodeRow::Spec { users, groups } => {
             let users = rows_in(base.members.as_slice(), users);
-            let groups = rows_in(base.groups.as_slice(), groups);
-            write_spec(alloc, source, tables, tally, users, groups)
+            let groups = select_all(alloc, base, rows_in(base.groups.as_slice(), groups))?;
+            write_spec(alloc, source, tables, tally, users, groups.as_slice())
         }
         NodeRow::Blank | NodeRow::Comment | NodeRow::Include { .. } => Ok(*row),
     }

@@ -123,6 +123,34 @@ fn select_groups(
     Ok(out)
 }
 
+/// Returns a host group of which all is left.
+fn select_whole(alloc: Global, base: &Tables, row: &GroupRow) -> Result<Selected, AllocError>
+    ensures { IfOk result (λ whole. selected_in base.now whole ≡ group_in base.now row.now) }
+{
+    let hosts = Vec::from_slice(alloc, rows_in(base.members.as_slice(), row.hosts))?;
+    let commands = row.commands;
+    Ok(Selected { hosts, commands })
+}
+
+/// Returns host groups of which all is left.
+///
+/// # Errors
+///
+/// Memory ran out.
+pub fn select_all(
+    alloc: Global,
+    base: &Tables,
+    rows: &[GroupRow],
+) -> Result<Vec<Selected>, AllocError>
+    ensures { IfOk result (λ all. map (selected_in base.now) all.items ≡ map (group_in base.now) rows.now) }
+{
+    let mut all = Vec::new(alloc);
+    for row in rows {
+        all.push(select_whole(alloc, base, row)?)?;
+    }
+    Ok(all)
+}
+
 /// Returns what is left of a user specification. Its users and hosts lead to no cyclic alias.
 fn select_spec(
     alloc: Global,

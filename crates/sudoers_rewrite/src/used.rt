@@ -69,7 +69,7 @@ pub fn check_members(count: usize, rules: &Rules<'_>) -> Result<(), CvtFault>
     ensures fault { IfErr result (λ fault. (fault ≡ TooLarge) × (member_limit < count + definitions_count rules.now.defs)) }
 {
     let mut total = count;
-    for rule in rules.defs.as_slice() {
+    for rule in rules.defs() {
         total = total.saturating_add(count_members(rule));
         if total > MEMBER_LIMIT {
             return Err(CvtFault::TooLarge);

@@ -41,11 +41,7 @@ pub record ListLaws : Type 0 where
 
 node_kept : (lines : List Line) (n : ℕ) (says : Node) → definitions_in n (expanded_node lines says) ≡ definitions_in n says
 node_kept lines n (node.Alias k defs) = refl
-node_kept lines n (node.Defaults scope params) = refl
-node_kept lines n (node.Spec users groups) = refl
-node_kept lines n node.Blank = refl
-node_kept lines n node.Comment = refl
-node_kept lines n (node.Include dir path) = refl
+node_kept lines n says = refl
 
 pub definitions_kept : (lines : List Line) → definitions (expanded lines) ≡ definitions lines
 definitions_kept lines = by 0 lines
@@ -56,19 +52,7 @@ definitions_kept lines = by 0 lines
 
 alias_kept : (k : Kind) (lines : List Line) (a : Atom) → alias_of k (expanded lines) a ≡ alias_of k lines a
 alias_kept k lines (atom.Alias name) = ap (λ ds. option_map (λ (d : Definition). d.def.members) (defined k name ds)) (definitions_kept lines)
-alias_kept k lines atom.All = refl
-alias_kept k lines (atom.Name n) = refl
-alias_kept k lines (atom.Id n) = refl
-alias_kept k lines (atom.Group n) = refl
-alias_kept k lines (atom.GroupId n) = refl
-alias_kept k lines (atom.NonUnix n) = refl
-alias_kept k lines (atom.Netgroup n) = refl
-alias_kept k lines (atom.Host p) = refl
-alias_kept k lines (atom.Address a) = refl
-alias_kept k lines (atom.Network a m) = refl
-alias_kept k lines atom.Listing = refl
-alias_kept k lines (atom.Path p a) = refl
-alias_kept k lines (atom.Sudoedit a) = refl
+alias_kept k lines a = refl
 
 -- ---- no atom of a flat list is a defined alias
 

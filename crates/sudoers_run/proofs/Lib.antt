@@ -2,3 +2,4 @@ mod ProgramLemmas
 mod ShowLemmas
 mod ConvertLemmas
 mod RewriteLemmas
+mod ListLemmas

@@ -58,11 +58,17 @@ allowed_text words (Some a) = if a.allow then joined words ++ codes "\n" else []
 abbrev pub IsAnswerText : ListWords → List Line → Who → Option Answer → List ℕ → Type 0
 IsAnswerText w lines who answer text = MatchBool w.why (IsReason lines who w.file.now answer text) (text ≡ allowed_text w.words.now answer)
 
--- The request is answered by the last row that fits.
+-- The last row that fits gives what is written and the status. A reachable alias must not be cyclic, nor the arguments too long.
+pub record IsAnswerTold (w : ListWords) (lines : List Line) (r : Request) (told : List ℕ × ℕ) : Type 0 where
+  pub straight : HasReachableCycle lines → ⊥
+  pub short : length (joined r.args) ≤ argument_limit
+  pub answer : Option Answer
+  pub is_answer : IsAnswer lines r answer
+  pub text : IsAnswerText w lines r.who answer told.0
+  pub status : told.1 ≡ allowed_status answer
+
 abbrev pub IsAnswered : ListWords → List Line → Request → Outcome → Type 0
-IsAnswered w lines r (Ok told) =
-    (HasReachableCycle lines → ⊥) × (length (joined r.args) ≤ argument_limit)
-    × ((answer : Option Answer) × IsAnswer lines r answer × IsAnswerText w lines r.who answer told.0 × (told.1 ≡ allowed_status answer))
+IsAnswered w lines r (Ok told) = IsAnswerTold w lines r told
 IsAnswered w lines r (Err fault) =
     ((fault ≡ layer.Ask Cycle) × HasReachableCycle lines)
     ⊎ ((fault ≡ layer.Ask TooLong) × (HasReachableCycle lines → ⊥) × (argument_limit < length (joined r.args)))
@@ -81,11 +87,17 @@ abbrev pub AsUser : ListWords → List Line → People → Who → List ℕ → 
 AsUser w lines people who user outcome =
     OfRequest w lines (request_told people who user (text_shown w.group) w.words.now w.moment.now) outcome
 
--- It is to run as runas_default; a reachable alias must not be cyclic.
+-- The command is to run as runas_default.
+pub record IsAskedAsDefault (w : ListWords) (lines : List Line) (people : People) (who : Who) (outcome : Outcome) : Type 0 where
+  pub straight : HasReachableCycle lines → ⊥
+  pub user : List ℕ
+  pub is_default : IsRunasDefault lines who user
+  pub asked : AsUser w lines people who user outcome
+
+-- It is, if no reachable alias is cyclic.
 abbrev pub AsDefault : ListWords → List Line → People → Who → Outcome → Type 0
 AsDefault w lines people who outcome =
-    (HasReachableCycle lines × (outcome ≡ Err (layer.Ask Cycle)))
-    ⊎ ((HasReachableCycle lines → ⊥) × ((user : List ℕ) × IsRunasDefault lines who user × AsUser w lines people who user outcome))
+    (HasReachableCycle lines × (outcome ≡ Err (layer.Ask Cycle))) ⊎ IsAskedAsDefault w lines people who outcome
 
 -- Without `-u` and `-g` it is to run as runas_default. The faults that the request has for the invoking user come first.
 abbrev pub OfFirst : ListWords → List Line → People → Result Request WhoFault → Outcome → Type 0

@@ -1,11 +1,15 @@
 //! Laws of what the program writes. Each is the contract of a function that does nothing.
 
 ghost use Rattle.std.specs.Prelude.{◌≡◌, ℕ, Bool, List, Ok};
+ghost use Rattle.sudoers_run.specs.declared.words.ListWords.{ListWords as WordsOf};
 ghost use Rattle.sudoers_run.specs.Convert.{convert_output};
+ghost use Rattle.sudoers_run.specs.List.{IsListOutcome, Outcome};
 ghost use Rattle.sudoers_run_laws.specs.Converted.{IsConverted, IsExpanded, expanding_words, plain_words};
 
 use sudoers_check::chains_are;
 use sudoers_cvt_laws::{printed_rules_answer, printed_rules_are_read, second_printing_is_same};
+use sudoers_list::one_listing;
+use sudoers_match::{one_answer, one_runas_default};
 use sudoers_rewrite_laws::{expanded_rules_are_read, printed_expansion_answers};
 use sudoers_tree::{one_outcome, read_is};
 
@@ -30,4 +34,14 @@ pub fn expanded_policy_is_printed()
     chains_are();
     expanded_rules_are_read();
     printed_expansion_answers();
+}
+
+/// The three files and the words determine what `list` writes and its status, or its fault.
+pub fn one_list_outcome()
+    ensures { (words : WordsOf) (policy passwd group : List ℕ) (outcome other : Outcome) → IsListOutcome words policy passwd group outcome
+        → IsListOutcome words policy passwd group other → outcome ≡ other }
+{
+    one_listing();
+    one_answer();
+    one_runas_default();
 }

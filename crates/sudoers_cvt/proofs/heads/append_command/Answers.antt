@@ -31,4 +31,4 @@ returns c =
     c.in_ok-append_options.ensures ∙ ap (λ x. x ++ printed_values (values_shown c.args.head.now.options)) first ∙ ap (λ v. (o ++ a) ++ printed_values v) is.options ∙ ap (λ t. (o ++ a) ++ t) (values_printed h.options) in
     let third : c.append_tags.new.out.items ≡ ((o ++ a) ++ b) ++ d =
     c.in_ok-append_tags.ensures ∙ ap (λ x. x ++ printed_tags_said c.args.head.now.tags) second ∙ ap (λ v. ((o ++ a) ++ b) ++ printed_tags_said v) is.tags ∙ ap (λ t. ((o ++ a) ++ b) ++ t) (tags_printed h.tags) in
-    e ∙ ap (λ x. x ++ m) third ∙ parts o a b d m) c.append_member.ensures
+    e ∙ ap (λ x. x ++ m) third ∙ parts o a b d m) c.append_member.ensures.appended

@@ -13,7 +13,7 @@ use Rattle.sudoers_json.proofs.rules.json.Goals as goal
 pub returns-in_err-append_rules-clause-fault : goal.returns-in_err-append_rules-clause-fault
 returns-in_err-append_rules-clause-fault c =
     let r = c.args.rules.now in
-    let defs = c.as_slice.result.now in
+    let defs = c.defs.result.now in
     let are : map rule_shown defs ≡ r.defs = search rules in
     let fault : CvtFault = c.in_err-append_rules.field-0.0 in
     let same : c.from_residual-in_err-append_rules.result ≡ Err fault = search rules in
@@ -27,7 +27,7 @@ returns-in_err-append_rules-clause-fault c =
 pub returns-in_err-append_rules-2-clause-fault : goal.returns-in_err-append_rules-2-clause-fault
 returns-in_err-append_rules-2-clause-fault c =
     let r = c.args.rules.now in
-    let defaults = c.as_slice-2.result.now in
+    let defaults = c.defaults.result.now in
     let are : map rule_shown defaults ≡ r.defaults = search rules in
     let fault : CvtFault = c.in_err-append_rules-2.field-0.0 in
     let same : c.from_residual-in_err-append_rules-2.result ≡ Err fault = search rules in
@@ -41,7 +41,7 @@ returns-in_err-append_rules-2-clause-fault c =
 pub returns-in_err-append_rules-3-clause-fault : goal.returns-in_err-append_rules-3-clause-fault
 returns-in_err-append_rules-3-clause-fault c =
     let r = c.args.rules.now in
-    let specs = c.as_slice-3.result.now in
+    let specs = c.specs.result.now in
     let are : map rule_shown specs ≡ r.specs = search rules in
     let fault : CvtFault = c.in_err-append_rules-3.field-0.0 in
     let same : c.from_residual-in_err-append_rules-3.result ≡ Err fault = search rules in
@@ -55,12 +55,12 @@ returns-in_err-append_rules-3-clause-fault c =
 pub returns-clause-text : goal.returns-clause-text
 returns-clause-text c =
     let r = c.args.rules.now in
-    let first : map rule_shown c.as_slice.result.now ≡ r.defs = search rules in
-    let second : map rule_shown c.as_slice-2.result.now ≡ r.defaults = search rules in
-    let third : map rule_shown c.as_slice-3.result.now ≡ r.specs = search rules in
-    let a = map rule_value c.as_slice.result.now in
-    let d = map rule_value c.as_slice-2.result.now in
-    let s = map rule_value c.as_slice-3.result.now in
+    let first : map rule_shown c.defs.result.now ≡ r.defs = search rules in
+    let second : map rule_shown c.defaults.result.now ≡ r.defaults = search rules in
+    let third : map rule_shown c.specs.result.now ≡ r.specs = search rules in
+    let a = map rule_value c.defs.result.now in
+    let d = map rule_value c.defaults.result.now in
+    let s = map rule_value c.specs.result.now in
     let begun : c.append_rules.new.out.items ≡ codes "{\"aliases\":[" ++ list_text false a =
     c.in_ok-append_rules.ensures.appended ∙ ap (λ x. x ++ list_text false a) c.in_ok-text.ensures.items in
     let more : c.append_rules-2.new.out.items ≡ ((codes "{\"aliases\":[" ++ list_text false a) ++ codes ",\"defaults\":[") ++ list_text false d =
@@ -68,14 +68,14 @@ returns-clause-text c =
     let all : c.append_rules-3.new.out.items ≡ ((((codes "{\"aliases\":[" ++ list_text false a) ++ codes ",\"defaults\":[") ++ list_text false d) ++ codes ",\"specs\":[") ++ list_text false s =
     c.in_ok-append_rules-3.ensures.appended ∙ ap (λ x. x ++ list_text false s) (c.in_ok-extend_from_slice-2.ensures.items ∙ ap (λ x. x ++ codes ",\"specs\":[") more) in
     c.in_ok-extend_from_slice-3.ensures.items ∙ ap (λ x. x ++ codes "}\n") all ∙ rules_text a d s
-    ∙ ap (λ (v : Data). compact_text v ++ codes "\n") (sym (rules_are r c.as_slice.result.now c.as_slice-2.result.now c.as_slice-3.result.now first second third))
+    ∙ ap (λ (v : Data). compact_text v ++ codes "\n") (sym (rules_are r c.defs.result.now c.defaults.result.now c.specs.result.now first second third))
 
 pub returns-clause-unicode : goal.returns-clause-unicode
 returns-clause-unicode c =
     let r = c.args.rules.now in
-    let first : map rule_shown c.as_slice.result.now ≡ r.defs = search rules in
-    let second : map rule_shown c.as_slice-2.result.now ≡ r.defaults = search rules in
-    let third : map rule_shown c.as_slice-3.result.now ≡ r.specs = search rules in
-    ap is_unicode (rules_are r c.as_slice.result.now c.as_slice-2.result.now c.as_slice-3.result.now first second third)
-    ∙ all_good (are_unicode (map rule_value c.as_slice.result.now)) (are_unicode (map rule_value c.as_slice-2.result.now)) (are_unicode (map rule_value c.as_slice-3.result.now))
+    let first : map rule_shown c.defs.result.now ≡ r.defs = search rules in
+    let second : map rule_shown c.defaults.result.now ≡ r.defaults = search rules in
+    let third : map rule_shown c.specs.result.now ≡ r.specs = search rules in
+    ap is_unicode (rules_are r c.defs.result.now c.defaults.result.now c.specs.result.now first second third)
+    ∙ all_good (are_unicode (map rule_value c.defs.result.now)) (are_unicode (map rule_value c.defaults.result.now)) (are_unicode (map rule_value c.specs.result.now))
     c.in_ok-append_rules.ensures.unicode c.in_ok-append_rules-2.ensures.unicode c.in_ok-append_rules-3.ensures.unicode

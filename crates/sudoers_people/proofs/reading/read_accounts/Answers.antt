@@ -9,12 +9,8 @@ use Rattle.sudoers_people.proofs.reading.read_accounts.Goals as goal
 
 pub loop-at-init : goal.loop-at-init
 loop-at-init c =
-    let all : texts_shown c.deref-row-items.result.now ≡ rows c.args.text.now = ap texts_shown c.deref-row-items.ensures.value ∙ c.in_ok-rows.ensures in
-    let none : c.new-accounts.result.items ≡ [] = search rules in
-    subst (λ rest. IsReadSoFar same_user account_in (λ x. x.name) (rows c.args.text.now) rest 0 c.new-accounts.result.items c.new-seen.result) (sym all)
-    (subst (λ kept. IsReadSoFar same_user account_in (λ x. x.name) (rows c.args.text.now) (rows c.args.text.now) 0 kept c.new-seen.result) (sym none)
-    (subst (λ seen. IsReadSoFar same_user account_in (λ x. x.name) (rows c.args.text.now) (rows c.args.text.now) 0 [] seen) (sym c.new-seen.ensures)
-    (none_read same_user account_in (λ x. x.name) (rows c.args.text.now))))
+    none_read same_user account_in (λ x. x.name) (rows c.args.text.now) _ c.new-accounts.result.items c.new-seen.result
+    (ap texts_shown c.deref-row-items.ensures.value ∙ c.in_ok-rows.ensures) (search rules) c.new-seen.ensures
 
 pub returns-then-not-branch-clause-fault : goal.returns-then-not-branch-clause-fault
 returns-then-not-branch-clause-fault c =

@@ -3,15 +3,16 @@ use Rattle.sudoers_reader.specs.declared.rows.Tables.{Tables}
 use Rattle.sudoers_reader.specs.Tables.{group_in}
 use Rattle.sudoers_rewrite.specs.Count.{groups_count}
 use Rattle.sudoers_rewrite.specs.Extended.{IsLike, Extended}
+use Rattle.sudoers_rewrite.specs.Selected.{selected_in}
 use Rattle.sudoers_rewrite.specs.Written.{group_if}
 use Rattle.sudoers_rewrite.proofs.groups.write_group_list.Given as goal
 
-abbrev pub invariant-loop-row : goal.invariant-loop-row
-invariant-loop-row l =
+abbrev pub invariant-loop-group : goal.invariant-loop-group
+invariant-loop-group l =
     let base = l.source.aliases.lines.tables.now in
     let written = group_if l.source.expand l.source.aliases.policy.now in
-    let rest = map (group_in base) (drop l.row-index l.rows) in
-    let all = map (group_in base) l.rows in
+    let rest = map (selected_in base) (drop l.group-index l.groups) in
+    let all = map (selected_in base) l.groups in
     record {
       extended : Extended l.fn.tables l.tables;
       like : IsLike base l.tables;

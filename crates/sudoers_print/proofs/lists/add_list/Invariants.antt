@@ -2,7 +2,7 @@ use Rattle.std.proofs.Common.{◌≡◌, ◌++◌, drop, map, flat_map, codes, f
 use Rattle.sudoers_line.specs.declared.node.Member.{Member}
 use Rattle.sudoers_reader.specs.Tables.{member_in}
 use Rattle.sudoers_print.specs.Members.{printed_member}
-use Rattle.sudoers_print.proofs.lists.append_list.Given as goal
+use Rattle.sudoers_print.proofs.lists.add_list.Given as goal
 
 abbrev pub invariant-loop-row : goal.invariant-loop-row
 invariant-loop-row l =
