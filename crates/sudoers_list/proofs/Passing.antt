@@ -1,5 +1,5 @@
 -- Commands of a list, one line after another.
-use Rattle.std.proofs.Common.{◌≡◌, ℕ, ◌+◌, ◌<◌, length, drop, get_or, OnOk, Result, Ok, Err, is_ok, if◌then◌else◌, false, List, [], ◌∷◌, ◌++◌, map, flat_map, codes, refl, sym, ap, ◌∙◌, append-nil, append_assoc}
+use Rattle.std.proofs.Common.{◌≡◌, ℕ, suc, Option, Some, None, slice_get, ◌+◌, ◌<◌, length, drop, get_or, OnOk, Result, Ok, Err, is_ok, if◌then◌else◌, false, List, [], ◌∷◌, ◌++◌, map, flat_map, codes, refl, sym, ap, ◌∙◌, append-nil, append_assoc}
 use Rattle.std.proofs.lemmas.List.{drop_more}
 use Rattle.sudoers_line.specs.declared.node.Kind.TheVariants.{Runas}
 use Rattle.sudoers_line.specs.declared.node.CmdSpec.{CmdSpec}
@@ -11,7 +11,7 @@ use Rattle.sudoers_print.specs.Members.{printed_list}
 use Rattle.sudoers_print.specs.Commands.{printed_inside}
 use Rattle.sudoers_cvt.specs.Effective.{effective_command, effective_commands}
 use Rattle.sudoers_list.specs.Listing.{users_or}
-use Rattle.sudoers_list.specs.Inside.{printed_behind}
+use Rattle.sudoers_list.specs.Inside.{IsAt, printed_behind}
 
 -- what stands in the parentheses, where there are users
 pub inside : (user : List ℕ) (us gs : List Member) → printed_list false Runas (users_or user us) ++ printed_behind gs ≡ printed_inside (users_or user us) gs
@@ -63,3 +63,32 @@ on_ok (Err e) P Q next h = tt
 pub when_ok : {T E X : Type 0} (r : Result T E) (new one other : X) → new ≡ (if is_ok r then one else other) → OnOk r (new ≡ one)
 when_ok (Ok v) new one other e = e
 when_ok (Err f) new one other e = tt
+
+-- ---- one command of a list
+
+pub at_first : (held : HeadHeld) (cs : List CmdSpec) (n : ℕ) → IsHead held no_head → IsAt held n cs (slice_get (effective_commands cs) n)
+at_first held cs n is = record { head = no_head; is_head = is; says = refl }
+
+-- it is a later one
+pub at_next : (held held' : HeadHeld) (left n : ℕ) (c : CmdSpec) (cs all : List CmdSpec) (wanted : Option CmdSpec) → all ≡ c ∷ cs → left ≡ suc n
+    → (s : IsAt held left all wanted) → IsHead held' (inherit s.head c) → IsAt held' n cs wanted
+at_next held held' left n c cs all wanted split one s is = record {
+  head = inherit s.head c;
+  is_head = is;
+  says =
+      ap (slice_get (map effective_command (filled s.head (c ∷ cs)))) (sym one)
+      ∙ ap (λ xs. slice_get (map effective_command (filled s.head xs)) left) (sym split)
+      ∙ s.says;
+}
+
+-- it is this one
+pub at_this : (held : HeadHeld) (left : ℕ) (c : CmdSpec) (cs all : List CmdSpec) (wanted : Option CmdSpec) → all ≡ c ∷ cs → left ≡ 0
+    → (s : IsAt held left all wanted) → Some (effective_command (inherit s.head c, c.member)) ≡ wanted
+at_this held left c cs all wanted split none s =
+    ap (slice_get (map effective_command (filled s.head (c ∷ cs)))) (sym none)
+    ∙ ap (λ xs. slice_get (map effective_command (filled s.head xs)) left) (sym split)
+    ∙ s.says
+
+-- it is past the last
+pub at_none : (held : HeadHeld) (left : ℕ) (wanted : Option CmdSpec) → IsAt held left [] wanted → None ≡ wanted
+at_none held left wanted s = s.says
