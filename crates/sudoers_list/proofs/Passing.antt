@@ -1,16 +1,29 @@
--- Commands of a list, one line after another.
-use Rattle.std.proofs.Common.{◌≡◌, ℕ, suc, Option, Some, None, slice_get, ◌+◌, ◌<◌, length, drop, get_or, OnOk, Result, Ok, Err, is_ok, if◌then◌else◌, false, List, [], ◌∷◌, ◌++◌, map, flat_map, codes, refl, sym, ap, ◌∙◌, append-nil, append_assoc}
-use Rattle.std.proofs.lemmas.List.{drop_more}
+-- Commands of a list, one line after another, and user specifications by their numbers.
+use Rattle.std.proofs.Common.{◌≡◌, ℕ, suc, Option, Some, None, slice_get, ◌+◌, ◌<◌, ◌≤◌, arith, length, drop, get_or, OnOk, Result, Ok, Err, is_ok, if◌then◌else◌, false, List, [], ◌∷◌, ◌++◌, map, flat_map, codes, refl, sym, ap, ◌∙◌, append-nil, append_assoc}
+use Rattle.std.proofs.lemmas.List.{drop_more, length-append}
+use Rattle.sudoers_text.specs.Fault.{lf_count}
+use Rattle.sudoers_text.specs.Line.{join}
 use Rattle.sudoers_line.specs.declared.node.Kind.TheVariants.{Runas}
 use Rattle.sudoers_line.specs.declared.node.CmdSpec.{CmdSpec}
+use Rattle.sudoers_line.specs.declared.node.HostGroup.{HostGroup}
 use Rattle.sudoers_line.specs.declared.node.Member.{Member}
+use Rattle.sudoers_reader.specs.declared.list.Rows.{Rows}
+use Rattle.sudoers_reader.specs.declared.rows.GroupRow.{GroupRow}
+use Rattle.sudoers_reader.specs.declared.rows.MemberRow.{MemberRow}
+use Rattle.sudoers_reader.specs.declared.view.Node.{Node as NodeView}
+use Rattle.sudoers_reader.specs.declared.view.Node.TheVariants as view
+use Rattle.sudoers_reader.specs.View.{node_shown}
+use Rattle.sudoers_tree.specs.Line.{Line}
+use Rattle.sudoers_tree.specs.Policy.{texts}
 use Rattle.sudoers_match.specs.declared.head.Head.{Head as HeadHeld}
 use Rattle.sudoers_match.specs.Heads.{Head, no_head, inherit, filled}
 use Rattle.sudoers_match.specs.IsHead.{IsHead}
+use Rattle.sudoers_match.specs.Specs.{Spec, spec_in}
 use Rattle.sudoers_print.specs.Members.{printed_list}
 use Rattle.sudoers_print.specs.Commands.{printed_inside}
 use Rattle.sudoers_cvt.specs.Effective.{effective_command, effective_commands}
 use Rattle.sudoers_list.specs.Listing.{users_or}
+use Rattle.sudoers_list.specs.Reason.{specs_on}
 use Rattle.sudoers_list.specs.Inside.{IsAt, printed_behind}
 
 -- what stands in the parentheses, where there are users
@@ -52,9 +65,9 @@ pub next_at : {X Y : Type 0} (f : X → Y) (xs : List X) (i : ℕ) (d : X) → i
     → map f (drop i xs) ≡ y ∷ map f (drop (i + 1) xs)
 next_at f xs i d h y e = ap (map f) (drop_more xs i d h) ∙ ap (λ z. z ∷ map f (drop (i + 1) xs)) (sym e)
 
--- a line in its parts
-pub parts : (o s r b x y m n : List ℕ) → ((((o ++ s) ++ r) ++ b) ++ ((x ++ y) ++ m)) ++ n ≡ o ++ ((s ++ ((((r ++ b) ++ x) ++ y) ++ m)) ++ n)
-parts o s r b x y m n = simp append_assoc
+-- a command in its parts
+pub parts : (o r b x y m : List ℕ) → ((o ++ r) ++ b) ++ ((x ++ y) ++ m) ≡ o ++ ((((r ++ b) ++ x) ++ y) ++ m)
+parts o r b x y m = simp append_assoc
 
 pub on_ok : {T E : Type 0} (r : Result T E) (P Q : Type 0) → (P → Q) → OnOk r P → OnOk r Q
 on_ok (Ok v) P Q next h = next h
@@ -92,3 +105,36 @@ at_this held left c cs all wanted split none s =
 -- it is past the last
 pub at_none : (held : HeadHeld) (left : ℕ) (wanted : Option CmdSpec) → IsAt held left [] wanted → None ≡ wanted
 at_none held left wanted s = s.says
+
+-- ---- user specifications by their numbers
+
+-- a line that is none
+pub other_passed : (row n : ℕ) (l : Line) (ls : List Line) → spec_in l.node ≡ None
+    → slice_get (specs_on row (l ∷ ls)) n ≡ slice_get (specs_on (row + lf_count l.text) ls) n
+other_passed row n l ls h = rw h refl
+
+-- one before the one that is looked for
+pub spec_passed : (row left n : ℕ) (l : Line) (ls : List Line) (s : Spec) → spec_in l.node ≡ Some s → left ≡ suc n
+    → slice_get (specs_on row (l ∷ ls)) left ≡ slice_get (specs_on (row + lf_count l.text) ls) n
+spec_passed row left n l ls s h one = rw (h, one) refl
+
+-- a line that is no user specification
+pub none_in : (n : NodeView) → ((users : Rows MemberRow) (groups : Rows GroupRow) → n ≡ view.Spec users groups → ⊥) → spec_in (node_shown n) ≡ None
+none_in (view.Spec users groups) other = absurd (other users groups refl)
+none_in view.Blank other = refl
+none_in view.Comment other = refl
+none_in (view.Include dir path) other = refl
+none_in (view.Defaults scope params) other = refl
+none_in (view.Alias k defs) other = refl
+
+-- one line more, whatever it is
+pub line_passed : (row count left n : ℕ) (l : Line) (ls all : List Line) (wanted : Option (ℕ × List HostGroup)) → all ≡ l ∷ ls
+    → count ≡ lf_count l.text → count ≤ length l.text
+    → slice_get (specs_on row (l ∷ ls)) left ≡ slice_get (specs_on (row + lf_count l.text) ls) n
+    → (slice_get (specs_on row all) left ≡ wanted) × (row + length (join (texts all)) ≤ 1048577)
+    → (slice_get (specs_on (row + count) ls) n ≡ wanted) × (row + count + length (join (texts ls)) ≤ 1048577)
+line_passed row count left n l ls all wanted split counted within same inv =
+    let now : slice_get (specs_on row (l ∷ ls)) left ≡ wanted = ap (λ xs. slice_get (specs_on row xs) left) (sym split) ∙ inv.0 in
+    let size : length (join (texts all)) ≡ length l.text + length (join (texts ls)) = ap (λ xs. length (join (texts xs))) split ∙ length-append l.text (join (texts ls)) in
+    let most = inv.1 in
+    (ap (λ k. slice_get (specs_on (row + k) ls) n) counted ∙ sym same ∙ now, omega (arith, most, size, within))

@@ -125,7 +125,7 @@ pub fn explain(
     answer: Option<Answer<'_>>,
     file: &[u8],
 ) -> Result<Vec<u8>, AskFault>
-    ensures text { IfOk result (λ text. IsReason policy.now who.now file.now (option_map answer_shown answer) text.items) }
+    ensures text { IfOk result (λ text. IsReason policy.now who.now file.now (option_map answer_shown answer.entry) text.items) }
     ensures straight { IfOk result (λ _. HasReachableCycle policy.now → ⊥) }
     ensures fault { IfErr result (λ fault. (fault ≡ NoMemory) ⊎ ((fault ≡ Cycle) × HasReachableCycle policy.now)) }
 {

@@ -1,5 +1,5 @@
 -- A run of `list` has one outcome.
-use Rattle.std.proofs.Common.{◌≡◌, ◌⊎◌, inl, inr, ◌∙◌, ◌<◌, ◌≤◌, ⊎_elim, Bool, true, false, ℕ, List, [], ◌∷◌, length, Option, Some, None, Result, Ok, Err, MatchBool, refl, sym, ap, ap₂, subst, absurd, arith}
+use Rattle.std.proofs.Common.{◌≡◌, ◌⊎◌, inl, inr, ◌∙◌, ◌<◌, ◌≤◌, ⊎_elim, Bool, true, false, ℕ, List, [], ◌∷◌, length, Option, Some, None, Result, Ok, Err, MatchBool, refl, sym, ap, ap₂, subst, arith}
 use Rattle.sudoers_tree.specs.Line.{Line}
 use Rattle.sudoers_tree.specs.declared.fault.ReadFault.{ReadFault}
 use Rattle.sudoers_tree.specs.Reading.{read_of}

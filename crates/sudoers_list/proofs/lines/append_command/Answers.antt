@@ -17,7 +17,7 @@ returns c =
     let user = c.args.names.now.user.now in
     let d = c.args.names.now.default.now in
     let member = member_shown c.args.member.now in
-    on_ok c.extend_from_slice-4.result _ _ (λ e h is.
+    on_ok c.extend_from_slice-2.result _ _ (λ e h is.
     let bare : Head = record { runas = None; options = h.options; tags = h.tags } in
     let r = printed_runas (listed_runas user d h.runas) in
     let x = printed_options (listed (option_of h.options)) in
@@ -25,11 +25,9 @@ returns c =
     let m = printed_member false Cmnd member in
     let said : c.in_ok-command.command.items ≡ (x ++ y) ++ m =
     c.in_ok-command.ensures bare (record { runas = refl; options = is.options; tags = is.tags }) in
-    let first : c.append_runas.new.out.items ≡ (o ++ codes "    ") ++ r =
-    c.in_ok-append_runas.ensures ∙ ap (λ (t : List ℕ). t ++ printed_runas (listed_runas user d (option_map runas_shown c.args.head.now.runas))) c.in_ok-extend_from_slice.ensures.items
-    ∙ ap (λ (s : Option RunasSpec). (o ++ codes "    ") ++ printed_runas (listed_runas user d s)) is.runas in
-    let all : c.extend_from_slice-3.new.self.items ≡ (((o ++ codes "    ") ++ r) ++ codes " ") ++ ((x ++ y) ++ m) =
-    c.in_ok-extend_from_slice-3.ensures.items
-    ∙ ap (λ (t : List ℕ). t ++ c.as_slice.result.now) (c.in_ok-extend_from_slice-2.ensures.items ∙ ap (λ (t : List ℕ). t ++ codes " ") first)
-    ∙ ap (λ (t : List ℕ). (((o ++ codes "    ") ++ r) ++ codes " ") ++ t) (c.as_slice.ensures.value ∙ said) in
-    e ∙ ap (λ (t : List ℕ). t ++ codes "\n") all ∙ parts o (codes "    ") r (codes " ") x y m (codes "\n")) (when_ok c.extend_from_slice-4.result _ _ _ c.extend_from_slice-4.ensures.items)
+    let first : c.append_runas.new.out.items ≡ o ++ r =
+    c.in_ok-append_runas.ensures ∙ ap (λ (s : Option RunasSpec). o ++ printed_runas (listed_runas user d s)) is.runas in
+    e
+    ∙ ap (λ (t : List ℕ). t ++ c.as_slice.result.now) (c.in_ok-extend_from_slice.ensures.items ∙ ap (λ (t : List ℕ). t ++ codes " ") first)
+    ∙ ap (λ (t : List ℕ). ((o ++ r) ++ codes " ") ++ t) (c.as_slice.ensures.value ∙ said)
+    ∙ parts o r (codes " ") x y m) (when_ok c.extend_from_slice-2.result _ _ _ c.extend_from_slice-2.ensures.items)
