@@ -1,12 +1,16 @@
-"""Each error of a policy, as `show`, `check` and `edit` print it: of their input, and of the result of an edit.
+"""Each error of a policy, as `show`, `check`, `list` and `edit` print it: of their input, and of the result of an edit.
 
-The text of an error begins with FILE: the word given to `show` or `check`, and `policy` in `edit`. `check` prints an
+The text of an error begins with FILE: the word given to `show`, `check` or `list`, and `policy` in `edit`. `check` prints an
 error of the policy on standard output.
 """
 
 from program import Wanted, fault, run
 
 MARK = b"%%\n"
+
+# A listing and a question, and the files that they read besides.
+LIST = ("list", "--passwd", "passwd", "--group-file", "group", "-U", "bob", "--host", "h", "--moment", "2026010100Z", "-")
+FILES = (("passwd", b"bob:x:1:5:::\n"), ("group", b""))
 
 # A logical line with a syntax error, without its line end; the physical line and the column of the error, from 1; and
 # the cause.
@@ -77,7 +81,7 @@ class Stand:
 
     def answers(self, wanted, text, words, stdin):
         """A run that has to answer so because of the error with this text."""
-        problems = wanted.problems(run(self.program, words, stdin))
+        problems = wanted.problems(run(self.program, words, stdin, files=FILES))
         self.tally.note(f"{text} of {' '.join(words) or 'no words'}, {stdin!r}", problems)
 
     def ends_in(self, text, words, stdin):
@@ -92,8 +96,10 @@ class Stand:
         self.answers(Wanted(status=1), "-" + text, ("check", "-q", "-"), policy)
 
     def refuses(self, policy, text):
-        """`show`, `check` and `edit` print the error of a policy."""
+        """`show`, `check`, `list` and `edit` print the error of a policy."""
         self.ends_in("-" + text, ("show", "-"), policy)
+        self.ends_in("-" + text, LIST, policy)
+        self.ends_in("-" + text, (*LIST, "/bin/ls"), policy)
         self.is_checked(policy, text)
         self.ends_in("policy" + text, (), MARK + policy)
         self.ends_in("policy" + text, ("edit",), b"delete 1\n" + MARK + policy)
