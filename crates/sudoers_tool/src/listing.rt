@@ -11,9 +11,21 @@ pub fn list_words<'a>(alloc: Global, file: Arg<'a>) -> Result<Command<'a>, Alloc
     let command = Command::new(alloc, "list")
         .about("Print what a user may run on a host, or whether he may run a command there")
         .arg(user_word(alloc))?
-        .arg(needed(alloc, "PASSWD", "passwd").help("File with the users, as passwd(5)"))?
-        .arg(needed(alloc, "GROUPS", "group-file").help("File with the groups, as group(5)"))?
-        .arg(needed(alloc, "HOST", "host").help("Long name of the host"))?;
+        .arg(
+            needed(alloc, "PASSWD", "passwd")
+                .value_name("FILE")
+                .help("File with the users, as passwd(5)"),
+        )?
+        .arg(
+            needed(alloc, "GROUPS", "group-file")
+                .value_name("FILE")
+                .help("File with the groups, as group(5)"),
+        )?
+        .arg(
+            needed(alloc, "HOST", "host")
+                .value_name("NAME")
+                .help("Long name of the host"),
+        )?;
     add_question(alloc, command, file)
 }
 
