@@ -12,8 +12,8 @@ use std::marker::Model;
 use sudoers_line::LineFault;
 use sudoers_reader::{Rows, Tables, growth_goes_on};
 
-/// Lines, and the tables in which they say something. Contracts see the list of the lines with what they say. The lines of
-/// `known` are none of them: what these say is known while others are read.
+/// Lines, and the tables in which they say something. Contracts see the list of the lines with what they say. `known` holds
+/// rows of an earlier reading, which the list leaves out. A line that stands there is not read again.
 #[derive(Drop)]
 pub struct Tree {
     tables: Tables,
