@@ -12,7 +12,6 @@ ghost use Rattle.sudoers_edit.specs.OneLine.{IsSound};
 
 use crate::edit::{EditFault, Edits};
 use crate::reread::reread;
-use std::alloc::Global;
 use sudoers_text::{lines_of_join, lines_stand_alone};
 use sudoers_tree::{Policy, policy_is_cut};
 
@@ -23,12 +22,12 @@ pub struct Landed {
     pub inverse: Edits,
 }
 
-/// Reads the text to which an edit leads that only its result can refuse.
-pub fn land(alloc: Global, whole: &[u8], inverse: Edits) -> Result<Landed, EditFault>
+/// Reads the text `whole` to which an edit of a policy leads that only its result can refuse.
+pub fn land(policy: &Policy, whole: &[u8], inverse: Edits) -> Result<Landed, EditFault>
     ensures { (edit : AnEdit) (lines : List (List ℕ)) → Leads edit inverse lines whole.now → Lands edit lines result }
 {
     reads_lines();
-    let policy = reread(alloc, whole)?;
+    let policy = reread(policy, whole)?;
     Ok(Landed { policy, inverse })
 }
 
@@ -38,7 +37,7 @@ pub fn copied(policy: &Policy) -> Result<Policy, EditFault>
 {
     is_sound(policy);
     policy.is_policy();
-    reread(policy.allocator(), policy.text()?.as_slice())
+    reread(policy, policy.text()?.as_slice())
 }
 
 /// A law: what the lines of a policy are.

@@ -37,7 +37,7 @@ pub fn line_inserted(policy: &Policy, at: u32, text: &[u8]) -> Result<Landed, Ed
     let whole = text_with(alloc, &policy.lines(), place, text)?;
     let inverse = Edits::one(alloc, Edit::Delete { at })?;
     is_sound(policy);
-    land(alloc, whole.as_slice(), inverse)
+    land(policy, whole.as_slice(), inverse)
 }
 
 /// A line taken out.
@@ -53,7 +53,7 @@ pub fn line_deleted(policy: &Policy, at: u32) -> Result<Landed, EditFault>
     let whole = text_without(alloc, &policy.lines(), place)?;
     let inverse = Edits::one(alloc, Edit::Insert { at, text })?;
     is_sound(policy);
-    land(alloc, whole.as_slice(), inverse)
+    land(policy, whole.as_slice(), inverse)
 }
 
 /// A line that stands elsewhere.
@@ -73,7 +73,7 @@ pub fn line_moved(policy: &Policy, from: u32, to: u32) -> Result<Landed, EditFau
     let back = Edit::Move { from: to, to: from };
     let inverse = Edits::one(alloc, back)?;
     is_sound(policy);
-    land(alloc, whole.as_slice(), inverse)
+    land(policy, whole.as_slice(), inverse)
 }
 
 /// LF put behind the last line.
@@ -95,7 +95,7 @@ pub fn end_closed(policy: &Policy) -> Result<Landed, EditFault>
     let inverse = Edits::one(alloc, Edit::OpenEnd)?;
     is_sound(policy);
     stays_cut();
-    land(alloc, whole.as_slice(), inverse)
+    land(policy, whole.as_slice(), inverse)
 }
 
 /// The LF at the end of the last line taken away.
@@ -114,7 +114,7 @@ pub fn end_opened(policy: &Policy) -> Result<Landed, EditFault>
     let inverse = Edits::one(alloc, Edit::EndLine)?;
     is_sound(policy);
     stays_cut();
-    land(alloc, whole.as_slice(), inverse)
+    land(policy, whole.as_slice(), inverse)
 }
 
 /// Returns whether a line without LF would stand before another once the text stands at a place.

@@ -99,7 +99,7 @@ fn renamed_once(policy: &Policy, kind: Kind, name: &[u8], fresh: &[u8]) -> Resul
     if is_one_too_long(lines.as_slice()) {
         return Err(EditFault::TooLarge);
     }
-    policy_of_lines(policy.allocator(), lines.as_slice())
+    policy_of_lines(policy, lines.as_slice())
 }
 
 /// Returns whether the name is defined or mentioned in the kind.
@@ -112,13 +112,13 @@ fn is_taken(policy: &Policy, kind: Kind, fresh: &[u8]) -> Result<bool, AllocErro
     Ok(!policy.mentions(kind, fresh)?.is_empty())
 }
 
-/// Returns the policy that lines are, if the lines that are read are these.
-fn policy_of_lines(alloc: Global, lines: &[Text]) -> Result<Policy, EditFault>
+/// Returns the policy that the changed lines of a policy are, if the lines that are read are these.
+fn policy_of_lines(policy: &Policy, lines: &[Text]) -> Result<Policy, EditFault>
     ensures { MatchResult result (λ new. if_lines lines.now (policy_or_refusal (join lines.now)) ≡ Ok (texts new))
         (λ fault. Refuses fault (if_lines lines.now (policy_or_refusal (join lines.now)))) }
 {
-    let text = joined(alloc, lines)?;
-    let new = reread(alloc, text.as_slice())?;
+    let text = joined(policy.allocator(), lines)?;
+    let new = reread(policy, text.as_slice())?;
     if !are_lines(&new.lines(), lines) {
         return Err(no_way_back());
     }

@@ -1,4 +1,4 @@
-//! The texts that edits lead to, read anew.
+//! The texts that edits lead to, and the policies that these are.
 ghost use Rattle.std.specs.Prelude.{◌≡◌, ◌-◌, ◌<◌, ◌≤◌, ◌++◌, List, ℕ, length, map, take, drop, Ok, IfOk, MatchResult};
 ghost use Rattle.sudoers_text.specs.Line.{join};
 ghost use Rattle.sudoers_tree.specs.Line.{line_in, lines_shown};
@@ -12,15 +12,15 @@ use std::alloc::{AllocError, Global};
 use sudoers_text::TEXT_LIMIT;
 use sudoers_tree::{LineRow, Policy, Rows, append_texts};
 
-/// Returns the policy that a text is.
-pub fn reread(alloc: Global, text: &[u8]) -> Result<Policy, EditFault>
+/// Returns the policy that a text is. Lines of `policy` that stand in it at about the same place are not read again.
+pub fn reread(policy: &Policy, text: &[u8]) -> Result<Policy, EditFault>
     ensures { MatchResult result (λ policy. policy_or_refusal text.now ≡ Ok policy)
         (λ fault. Refuses fault (policy_or_refusal text.now)) }
 {
     if text.len() > TEXT_LIMIT {
         return Err(EditFault::TooLarge);
     }
-    Ok(Policy::read(alloc, text)?)
+    Ok(policy.reread(text)?)
 }
 
 /// Returns the text of lines of which the line `from` stands at `to`.

@@ -281,7 +281,7 @@ fn line_replaced(
         return Err(EditFault::OpenLine);
     }
     let whole = text_replaced(alloc, &policy.lines(), at, text)?;
-    land(alloc, whole.as_slice(), inverse)
+    land(policy, whole.as_slice(), inverse)
 }
 
 /// Returns whether a line without LF would stand before another once the text stands in the place of a line.

@@ -1,45 +1,62 @@
 -- Lines in tables that grow.
-use Rattle.std.proofs.Common.{◌≡◌, ℕ, List, [], ◌∷◌, ◌++◌, length, slice_get, Some, map, refl, sym, ap, ap₂, ◌∙◌}
-use Rattle.std.proofs.lemmas.List.{map-append}
+use Rattle.std.proofs.Common.{◌≡◌, ℕ, List, [], ◌∷◌, ◌++◌, length, slice_get, Some, Ok, map, refl, sym, ap, ap₂, subst, ◌∙◌}
+use Rattle.std.proofs.lemmas.List.{append-nil, map-append}
+use Rattle.std.proofs.lemmas.List.Elements.{All-head, All-tail, All-weaker}
+use Rattle.std.specs.List.{All}
 use Rattle.sudoers_line.specs.declared.node.Node.{Node}
 use Rattle.sudoers_reader.specs.declared.rows.NodeRow.{NodeRow}
 use Rattle.sudoers_reader.specs.declared.rows.Tables.{Tables}
 use Rattle.sudoers_reader.specs.declared.rows.Text.{Text}
-use Rattle.sudoers_reader.specs.Tables.{Grown, Lasts, Keeps, node_in, text_in}
+use Rattle.sudoers_reader.specs.Outcome.{outcome_of}
+use Rattle.sudoers_reader.specs.Tables.{Grown, Grows, Lasts, Keeps, node_in, text_in}
 use Rattle.sudoers_tree.specs.declared.line.LineRow.{LineRow}
 use Rattle.sudoers_tree.specs.Line.{Line, line_in}
-use Rattle.sudoers_tree.specs.Tree.{LinesLast}
+use Rattle.sudoers_tree.specs.Tree.{Stands}
 
 abbrev pub GrowOn : Type 0
 GrowOn = (t u v : Tables) → Grown t u → Grown u v → Grown t v
 
--- Lines last in grown tables.
-pub lines_on : GrowOn → (t u : Tables) (rows : List LineRow) → Grown t u → LinesLast t rows → LinesLast u rows
-lines_on on t u rows g last v h = last v (on t u v g h) ∙ sym (last u g)
+-- A row stands in grown tables.
+stands_on : GrowOn → (t u : Tables) → Grown t u → (row : LineRow) → Stands t row → Stands u row
+stands_on on t u g row stands = record {
+  lasts = λ v h. stands.lasts v (on t u v g h) ∙ sym (stands.lasts u g);
+  says = subst (λ (line : Line). outcome_of line.text ≡ Ok line.node) (sym (stands.lasts u g)) stands.says;
+}
+
+pub all_on : GrowOn → (t u : Tables) → Grown t u → (rows : List LineRow) → All (Stands t) rows → All (Stands u) rows
+all_on on t u g rows all = All-weaker (Stands t) (Stands u) (stands_on on t u g) rows all
+
+-- The rows hold the same lines in grown tables.
+pub same_lines : (t u : Tables) → Grown t u → (rows : List LineRow) → All (Stands t) rows → map (line_in u) rows ≡ map (line_in t) rows
+same_lines t u g [] all = refl
+same_lines t u g (row ∷ rows) all =
+    ap₂ (λ (l : Line) (ls : List Line). l ∷ ls) ((All-head (Stands t) row rows all).lasts u g) (same_lines t u g rows (All-tail (Stands t) row rows all))
+
+-- A table with the same rows.
+pub grows_same : {X : Type 0} (xs ys : List X) → ys ≡ xs → Grows xs ys
+grows_same xs ys is = ([], is ∙ sym (append-nil xs))
 
 abbrev row_of : Text → NodeRow → LineRow
 row_of text node = record { text = text; node = node }
 
-module _ (on : GrowOn) (t u : Tables) (node : NodeRow) (text : Text) (bytes : List ℕ) (lasts : Lasts node_in t node) (g : Grown t u) (keeps : Keeps text_in u text bytes) where
-  -- what the last line says for good
-  last_line : (v : Tables) → Grown u v → line_in v (row_of text node) ≡ record { text = bytes; node = node_in t node }
-  last_line v h =
-      let same : text_in v text ≡ bytes = keeps v h in
-      let says : node_in v node ≡ node_in t node = lasts v (on t u v g h) in
-      ap₂ (λ (b : List ℕ) (n : Node). (let line : Line = record { text = b; node = n } in line)) same says
+abbrev line_of : List ℕ → Node → Line
+line_of text node = record { text = text; node = node }
 
-  module _ (rows more : List LineRow) (is : more ≡ rows ++ row_of text node ∷ []) (last : LinesLast u rows) where
-    all_at : (v : Tables) → Grown u v → map (line_in v) more ≡ map (line_in u) rows ++ record { text = bytes; node = node_in t node } ∷ []
-    all_at v h =
-        ap (map (line_in v)) is
-        ∙ map-append (line_in v) rows (row_of text node ∷ [])
-        ∙ ap₂ (λ (ls : List Line) (l : Line). ls ++ l ∷ []) (last v h) (last_line v h)
+-- A row stands whose line was read into tables, and whose text was kept in them then.
+pub read_stands : GrowOn → ((t : Tables) → Grown t t) → (t u : Tables) (node : NodeRow) (text : Text) (bytes : List ℕ) → outcome_of bytes ≡ Ok (node_in t node)
+    → Lasts node_in t node → Grown t u → Keeps text_in u text bytes → Stands u (row_of text node)
+read_stands on self t u node text bytes says lasts g keeps = record {
+  lasts = λ v h. ap₂ line_of (keeps v h ∙ sym (keeps u (self u))) (lasts v (on t u v g h) ∙ sym (lasts u g));
+  says = ap outcome_of (keeps u (self u)) ∙ says ∙ ap (λ (n : Node). Ok n) (sym (lasts u g));
+}
 
-    pub one_more : (self : Grown u u) → map (line_in u) more ≡ map (line_in u) rows ++ record { text = bytes; node = node_in t node } ∷ []
-    one_more self = all_at u self
-
-    pub lasts_more : (self : Grown u u) → LinesLast u more
-    lasts_more self v h = all_at v h ∙ sym (all_at u self)
+-- The lines of the rows with one more.
+pub one_more : (t : Tables) (rows more : List LineRow) (row : LineRow) (bytes : List ℕ) → more ≡ rows ++ row ∷ [] → text_in t row.text ≡ bytes
+    → map (line_in t) more ≡ map (line_in t) rows ++ line_of bytes (node_in t row.node) ∷ []
+one_more t rows more row bytes is text =
+    ap (map (line_in t)) is
+    ∙ map-append (line_in t) rows (row ∷ [])
+    ∙ ap (λ (b : List ℕ). map (line_in t) rows ++ line_of b (node_in t row.node) ∷ []) text
 
 -- The last line stands at the number of those before it.
 pub last_at : (lines : List Line) (line : Line) → slice_get (lines ++ line ∷ []) (length lines) ≡ Some line

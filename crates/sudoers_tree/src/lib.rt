@@ -5,6 +5,7 @@ mod changed;
 mod fault;
 mod index;
 mod kind;
+mod known;
 mod laws;
 mod line;
 mod mention;

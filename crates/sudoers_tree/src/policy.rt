@@ -28,6 +28,7 @@ use crate::line::{Line, LineRow};
 use crate::mention::append_mentions;
 use crate::place::{Place, Span};
 use crate::reading::{Reading, read_lines};
+use crate::tree::Tree;
 use std::alloc::{AllocError, Global};
 use std::boxed::Box;
 use std::marker::Model;
@@ -76,14 +77,28 @@ impl Policy {
         // In one word: the text's outcome, of which there is exactly one.
         ensures outcome { ReadGives result (read_of text.now) }
     {
-        read_is();
-        let lines = cut(alloc, text)?;
-        let reading = read_lines(alloc, &lines)?;
-        Ok(Policy {
-            reading: Box::new(alloc, reading)?,
-            size: text.len(),
-            alloc,
-        })
+        read_knowing(alloc, None, text)
+    }
+
+    /// Returns the policy that `text` is, as [`Policy::read`] does. A line of this policy that stands there at the same place,
+    /// or beside it, is not read again.
+    ///
+    /// # Errors
+    ///
+    /// Those of [`Policy::read`].
+    pub fn reread(&self, text: &[u8]) -> Result<Policy, ReadFault>
+        // What is given is a policy, and the text is its lines joined.
+        ensures policy { IfOk result (λ lines. IsPolicy lines × (join (texts lines) ≡ text.now)) }
+        // A fault is the text's first, or memory ran out.
+        ensures fault { IfErr result (λ fault. (fault ≡ ReadFault.NoMemory) ⊎ IsFaultOf text.now fault) }
+        // In one word: the text's outcome, of which there is exactly one.
+        ensures outcome { ReadGives result (read_of text.now) }
+    {
+        let tree = &self.reading.tree;
+        if tree.is_mostly_unused(self.size) {
+            return Policy::read(self.alloc, text);
+        }
+        read_knowing(self.alloc, Some(tree), text)
     }
 
     /// A law: the lines are a policy, and are those of their text.
@@ -125,7 +140,7 @@ impl Policy {
         lines_are_whole(self);
         whole_lines_are_read();
         let text = text_with(self.alloc, &self.lines(), at, line)?;
-        *self = Policy::read(self.alloc, text.as_slice())?;
+        *self = self.reread(text.as_slice())?;
         Ok(())
     }
 
@@ -144,7 +159,7 @@ impl Policy {
         lines_are_whole(self);
         whole_lines_are_read();
         let text = text_without(self.alloc, &self.lines(), at)?;
-        *self = Policy::read(self.alloc, text.as_slice())?;
+        *self = self.reread(text.as_slice())?;
         Ok(())
     }
 
@@ -165,7 +180,7 @@ impl Policy {
         lines_are_whole(self);
         whole_lines_are_read();
         let text = text_replaced(self.alloc, &self.lines(), at, line)?;
-        *self = Policy::read(self.alloc, text.as_slice())?;
+        *self = self.reread(text.as_slice())?;
         Ok(())
     }
 
@@ -243,6 +258,23 @@ impl Policy {
         }
         Ok(spans)
     }
+}
+
+/// Returns the policy that a text is. What the lines of `known` say is not read again.
+fn read_knowing(alloc: Global, known: Option<&Tree>, text: &[u8]) -> Result<Policy, ReadFault>
+    ensures policy { IfOk result (λ lines. IsPolicy lines × (join (texts lines) ≡ text.now)) }
+    ensures fault { IfErr result (λ fault. (fault ≡ ReadFault.NoMemory) ⊎ IsFaultOf text.now fault) }
+    ensures outcome { ReadGives result (read_of text.now) }
+{
+    read_is();
+    let lines = cut(alloc, text)?;
+    let tree = Tree::new(alloc, known, lines.len())?;
+    let reading = read_lines(alloc, tree, &lines)?;
+    Ok(Policy {
+        reading: Box::new(alloc, reading)?,
+        size: text.len(),
+        alloc,
+    })
 }
 
 /// Returns the members of the definition at a place, from 0.

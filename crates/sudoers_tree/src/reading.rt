@@ -76,18 +76,20 @@ impl Reading {
     }
 }
 
-/// What the lines of a text say, or the first fault.
-pub fn read_lines(alloc: Global, lines: &Lines<'_>) -> Result<Reading, ReadFault>
-    requires { length (join lines.now) ≤ text_limit }
+/// Reads lines into the tree `tree` of no lines, and returns what they say, or the first fault.
+pub fn read_lines(alloc: Global, tree: Tree, lines: &Lines<'_>) -> Result<Reading, ReadFault>
+    requires empty { tree ≡ [] }
+    requires fits { length (join lines.now) ≤ text_limit }
     ensures { ReadsAll result (read_behind [] lines.now) }
 {
     let mut reading = Reading {
-        tree: Tree::with_capacity(alloc, lines.len())?,
+        tree,
         index: Index::new(alloc),
         row: 1,
     };
     while let Some(text) = lines.get(reading.tree.len()) {
         reading.take_line(alloc, text)?;
     }
+    reading.tree.forget(alloc);
     Ok(reading)
 }

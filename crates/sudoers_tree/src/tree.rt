@@ -5,44 +5,72 @@ ghost use Rattle.sudoers_reader.specs.Outcome.{outcome_of};
 ghost use Rattle.sudoers_tree.specs.Line.{line_shown, lines_shown};
 ghost use Rattle.sudoers_tree.specs.Tree.{ReadsOne};
 
+use crate::known::{copy_tables, row_of};
 use crate::line::{Line, LineRow};
 use std::alloc::{AllocError, Global};
 use std::marker::Model;
 use sudoers_line::LineFault;
-use sudoers_reader::{Rows, Tables, growth_goes_on, keep_text, read_line};
+use sudoers_reader::{Rows, Tables, growth_goes_on};
 
-/// Lines, and the tables in which they say something. Contracts see the list of the lines with what they say.
+/// Lines, and the tables in which they say something. Contracts see the list of the lines with what they say. `known` holds
+/// rows of an earlier reading, which the list leaves out. A line that stands there is not read again.
 #[derive(Drop)]
 pub struct Tree {
     tables: Tables,
+    known: Vec<LineRow>,
     rows: Vec<LineRow>,
 }
 
 impl Model for Tree {
     ghost use Rattle.std.specs.Prelude.{List, map};
+    ghost use Rattle.std.specs.List.{All};
     ghost use Rattle.sudoers_tree.specs.Line.{Line, line_in};
-    ghost use Rattle.sudoers_tree.specs.Tree.{LinesLast};
+    ghost use Rattle.sudoers_tree.specs.Tree.{Stands};
 
     ghost Value = { List Line };
 
     ghost view = { λ tree. map (line_in tree.tables) tree.rows.items };
 
-    ghost invariant = { λ tree. LinesLast tree.tables tree.rows.items };
+    ghost invariant = { λ tree. All (Stands tree.tables) tree.known.items × All (Stands tree.tables) tree.rows.items };
 }
 
 impl Tree {
-    /// Returns no lines, with room for so many.
+    /// Returns no lines, with room for `count`. The tables are new, or a copy of those of `known`, whose lines need not be
+    /// read again.
     ///
     /// # Errors
     ///
     /// Want of memory alone.
-    pub fn with_capacity(alloc: Global, count: usize) -> Result<Tree, AllocError>
+    pub fn new(alloc: Global, known: Option<&Tree>, count: usize) -> Result<Tree, AllocError>
         ensures { IfOk result (λ tree. tree ≡ []) }
     {
-        Ok(Tree {
-            tables: Tables::new(alloc),
-            rows: Vec::with_capacity(alloc, count)?,
-        })
+        growth_goes_on();
+        let rows = Vec::with_capacity(alloc, count)?;
+        match known {
+            Some(tree) => Ok(Tree {
+                tables: copy_tables(alloc, &tree.tables)?,
+                known: Vec::from_slice(alloc, tree.rows.as_slice())?,
+                rows,
+            }),
+            None => Ok(Tree {
+                tables: Tables::new(alloc),
+                known: Vec::new(alloc),
+                rows,
+            }),
+        }
+    }
+
+    /// Forgets the known lines.
+    pub fn forget(&mut self, alloc: Global)
+        ensures { self.new ≡ self.old }
+    {
+        self.known = Vec::new(alloc);
+    }
+
+    /// Returns whether the tables of lines of `size` bytes hold more that is unused than what these lines say. A line leaves
+    /// at most twice its bytes there: its text, and the texts of its tokens.
+    pub fn is_mostly_unused(&self, size: usize) -> bool {
+        self.tables.bytes.len() / 4 > size
     }
 
     /// Returns how many lines there are.
@@ -72,7 +100,7 @@ impl Tree {
         }
     }
 
-    /// Reads a line, and appends it.
+    /// Appends a line with what it says. A line that is known near its place is not read.
     ///
     /// # Errors
     ///
@@ -81,9 +109,9 @@ impl Tree {
         ensures { ReadsOne result self.old self.new line.now (outcome_of line.now) }
     {
         growth_goes_on();
-        let node = read_line(alloc, &mut self.tables, line)?;
-        let text = keep_text(&mut self.tables, line)?;
-        self.rows.push(LineRow { text, node })?;
+        let at = self.rows.len();
+        let row = row_of(alloc, &mut self.tables, self.known.as_slice(), at, line)?;
+        self.rows.push(row)?;
         Ok(())
     }
 }

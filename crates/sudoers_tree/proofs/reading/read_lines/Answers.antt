@@ -5,9 +5,10 @@ use Rattle.sudoers_text.specs.Line.{join}
 use Rattle.sudoers_text.specs.Fault.{text_limit}
 use Rattle.sudoers_tree.specs.Line.{Line}
 use Rattle.sudoers_tree.specs.declared.fault.ReadFault.{ReadFault}
+use Rattle.sudoers_tree.specs.Definition.{definitions}
 use Rattle.sudoers_tree.specs.Policy.{texts}
 use Rattle.sudoers_tree.specs.Reading.{line_behind, read_behind}
-use Rattle.sudoers_tree.specs.Index.{Takes, ReadsAll}
+use Rattle.sudoers_tree.specs.Index.{Indexes, Takes, ReadsAll}
 use Rattle.sudoers_tree.proofs.Joined.{fits_before, drop_none}
 use Rattle.sudoers_tree.proofs.Taken.{next_texts, next_read, stops}
 use Rattle.sudoers_tree.proofs.reading.read_lines.Goals as goal
@@ -29,23 +30,23 @@ fewer lines read new line text next more = omega (arith, slice_get_within lines 
 pub take_line-requires-clause-fits : goal.take_line-requires-clause-fits
 take_line-requires-clause-fits c =
     let read : List Line = c.loop-text.reading.tree in
-    let count : c.len-in-loop-text.result ≡ length read = search rules in
-    let next = at_next c.args.lines.now c.len-in-loop-text.result (length read) (Some c.in-Some.text.now) count c.in-Some.ensures in
-    room c.args.lines.now read c.in-Some.text.now c.loop-text.invariant.0 next c.requires
+    let count : c.len.result ≡ length read = search rules in
+    let next = at_next c.args.lines.now c.len.result (length read) (Some c.in-Some.text.now) count c.in-Some.ensures in
+    room c.args.lines.now read c.in-Some.text.now c.loop-text.invariant.0 next c.requires.fits
 
 pub loop-text-smaller : goal.loop-text-smaller
 loop-text-smaller c =
     let read : List Line = c.loop-text.reading.tree in
-    let count : c.len-in-loop-text.result ≡ length read = search rules in
-    let next = at_next c.args.lines.now c.len-in-loop-text.result (length read) (Some c.in-Some.text.now) count c.in-Some.ensures in
+    let count : c.len.result ≡ length read = search rules in
+    let next = at_next c.args.lines.now c.len.result (length read) (Some c.in-Some.text.now) count c.in-Some.ensures in
     fewer c.args.lines.now read c.take_line.new.self.tree c.in_ok-take_line.ensures.taken.0 c.in-Some.text.now next c.in_ok-take_line.ensures.taken.2
 
 pub loop-text-preserved : goal.loop-text-preserved
 loop-text-preserved c =
     let lines : List (List ℕ) = c.args.lines.now in
     let read : List Line = c.loop-text.reading.tree in
-    let count : c.len-in-loop-text.result ≡ length read = search rules in
-    let next = at_next lines c.len-in-loop-text.result (length read) (Some c.in-Some.text.now) count c.in-Some.ensures in
+    let count : c.len.result ≡ length read = search rules in
+    let next = at_next lines c.len.result (length read) (Some c.in-Some.text.now) count c.in-Some.ensures in
     let line : Line = c.in_ok-take_line.ensures.taken.0 in
     let is : line_behind read c.in-Some.text.now ≡ Ok line = c.in_ok-take_line.ensures.taken.1 in
     let more : read ++ line ∷ [] ≡ c.take_line.new.self.tree = sym c.in_ok-take_line.ensures.taken.2 in (
@@ -58,10 +59,10 @@ pub returns-in_err-take_line : goal.returns-in_err-take_line
 returns-in_err-take_line c =
     let lines : List (List ℕ) = c.args.lines.now in
     let read : List Line = c.loop-text.reading.tree in
-    let count : c.len-in-loop-text.result ≡ length read = search rules in
-    let next = at_next lines c.len-in-loop-text.result (length read) (Some c.in-Some.text.now) count c.in-Some.ensures in
+    let count : c.len.result ≡ length read = search rules in
+    let next = at_next lines c.len.result (length read) (Some c.in-Some.text.now) count c.in-Some.ensures in
     let fault : ReadFault = c.in_err-take_line.field-0.0 in
-    let same : c.from_residual-in_err-take_line.result ≡ Err fault = search rules in
+    let same : c.from_residual.result ≡ Err fault = search rules in
     let taken : Takes (Err fault) read c.take_line.new.self.tree (line_behind read c.in-Some.text.now) = c.in_err-take_line.ensures.taken in
     subst (λ r. ReadsAll r (read_behind [] lines)) (sym same)
     (stops lines read c.take_line.new.self.tree c.in-Some.text.now fault next c.loop-text.invariant.2 taken)
@@ -70,6 +71,7 @@ pub returns : goal.returns
 returns c =
     let lines : List (List ℕ) = c.args.lines.now in
     let read : List Line = c.loop-text.reading.tree in
-    let count : c.len-in-loop-text.result ≡ length read = search rules in
-    let none = at_next lines c.len-in-loop-text.result (length read) None count c.in_default.ensures in
+    let count : c.len.result ≡ length read = search rules in
+    let none = at_next lines c.len.result (length read) None count c.in_default.ensures in
+    subst (λ (ls : List Line). (read_behind [] lines ≡ Ok ls) × Indexes c.loop-text.reading.index (definitions ls)) (sym c.forget.ensures)
     (sym (ap (read_behind read) (sym (drop_none lines (length read) none)) ∙ c.loop-text.invariant.2), c.loop-text.invariant.1.index)

@@ -1,38 +1,50 @@
-use Rattle.std.proofs.Common.{◌≡◌, ◌++◌, ◌∷◌, [], ◌∙◌, List, map, sym, ap, subst}
+use Rattle.std.proofs.Common.{◌≡◌, ◌++◌, ◌∷◌, [], ◌∙◌, List, map, sym, ap}
+use Rattle.std.proofs.lemmas.List.Elements.{All-push, All-same}
 use Rattle.sudoers_line.specs.declared.node.Node.{Node}
+use Rattle.sudoers_reader.specs.declared.rows.Tables.{Tables}
+use Rattle.sudoers_reader.specs.Outcome.{outcome_of}
 use Rattle.sudoers_reader.specs.Tables.{node_in}
 use Rattle.sudoers_tree.specs.Line.{Line, line_in}
-use Rattle.sudoers_tree.specs.Tree.{LinesLast}
-use Rattle.sudoers_tree.proofs.TreeLines.{lines_on, one_more, lasts_more}
+use Rattle.sudoers_tree.specs.Tree.{Stands}
+use Rattle.sudoers_tree.proofs.TreeLines.{all_on, same_lines, one_more}
 use Rattle.sudoers_tree.proofs.tree.Tree.read.Goals as goal
 
 pub invariant_of-self : goal.invariant_of-self
-invariant_of-self c = lines_on c.growth_goes_on.ensures.on _ _ _ c.in_err-node.ensures.grown c.self.invariant
-
-pub invariant_of-self-in_err-text : goal.invariant_of-self-in_err-text
-invariant_of-self-in_err-text c =
-    lines_on c.growth_goes_on.ensures.on _ _ _ c.in_err-text.ensures.grown (lines_on c.growth_goes_on.ensures.on _ _ _ c.in_ok-node.ensures.grown c.self.invariant)
+invariant_of-self c =
+    let on = c.growth_goes_on.ensures.on in
+    let grown = c.in_err-row.ensures.grown in
+    (all_on on _ _ grown _ c.self.invariant.0, all_on on _ _ grown _ c.self.invariant.1)
 
 pub invariant_of-self-in_err-push : goal.invariant_of-self-in_err-push
 invariant_of-self-in_err-push c =
     let on = c.growth_goes_on.ensures.on in
-    let last = lines_on on _ _ _ c.in_ok-text.ensures.grown (lines_on on _ _ _ c.in_ok-node.ensures.grown c.self.invariant) in
-    subst (LinesLast c.keep_text.new.tables) (sym c.in_err-push.ensures.items) last
+    let grown = c.in_ok-row.ensures.grown in (
+      all_on on _ _ grown _ c.self.invariant.0,
+      All-same (Stands c.row_of.new.tables) _ _ c.in_err-push.ensures.items (all_on on _ _ grown _ c.self.invariant.1),
+    )
 
 pub invariant_of-self-2 : goal.invariant_of-self-2
 invariant_of-self-2 c =
     let on = c.growth_goes_on.ensures.on in
-    let last = lines_on on _ _ _ c.in_ok-text.ensures.grown (lines_on on _ _ _ c.in_ok-node.ensures.grown c.self.invariant) in
-    lasts_more on _ _ c.in_ok-node.node c.in_ok-text.text c.args.line.now c.in_ok-node.ensures.gives.1 c.in_ok-text.ensures.grown c.in_ok-text.ensures.keeps _ _ c.in_ok-push.ensures.items last (c.growth_goes_on.ensures.same _)
+    let grown = c.in_ok-row.ensures.grown in
+    let rows = c.self.inside.rows.items in
+    let stands = Stands c.row_of.new.tables in (
+      all_on on _ _ grown _ c.self.invariant.0,
+      All-same stands _ (rows ++ c.in_ok-row.row ∷ []) c.in_ok-push.ensures.items
+          (All-push stands rows c.in_ok-row.row (all_on on _ _ grown rows c.self.invariant.1) c.in_ok-row.ensures.gives.0),
+    )
 
 pub returns : goal.returns
 returns c =
-    let on = c.growth_goes_on.ensures.on in
-    let kept = lines_on on _ _ _ c.in_ok-node.ensures.grown c.self.invariant in
-    let last = lines_on on _ _ _ c.in_ok-text.ensures.grown kept in
-    let more = one_more on _ _ c.in_ok-node.node c.in_ok-text.text c.args.line.now c.in_ok-node.ensures.gives.1 c.in_ok-text.ensures.grown c.in_ok-text.ensures.keeps _ _ c.in_ok-push.ensures.items last (c.growth_goes_on.ensures.same _) in
-    let node : Node = node_in c.read_line.new.tables c.in_ok-node.node in
-    let line : Line = record { text = c.args.line.now; node = node } in
-    let before : map (line_in c.keep_text.new.tables) c.self.inside.rows.items ≡ c.args.self.now =
-    kept _ c.in_ok-text.ensures.grown ∙ c.self.invariant _ c.in_ok-node.ensures.grown ∙ c.self.view_is in
-    (node, c.in_ok-node.ensures.gives.0, more ∙ ap (λ (ls : List Line). ls ++ line ∷ []) before)
+    let old : Tables = c.self.inside.tables in
+    let new : Tables = c.row_of.new.tables in
+    let row = c.in_ok-row.row in
+    let node : Node = node_in new row.node in
+    let text = c.in_ok-row.ensures.gives.1 in
+    let before : map (line_in new) c.self.inside.rows.items ≡ c.args.self.now =
+    same_lines old new c.in_ok-row.ensures.grown c.self.inside.rows.items c.self.invariant.1 ∙ c.self.view_is in
+    let line : Line = record { text = c.args.line.now; node = node } in (
+      node,
+      ap outcome_of (sym text) ∙ c.in_ok-row.ensures.gives.0.says,
+      one_more new c.self.inside.rows.items _ row c.args.line.now c.in_ok-push.ensures.items text ∙ ap (λ (ls : List Line). ls ++ line ∷ []) before,
+    )

@@ -9,7 +9,7 @@ use Rattle.sudoers_tree.specs.Reading.{read_of, IsOutcome, ReadGives}
 use Rattle.sudoers_tree.specs.Definition.{definitions}
 use Rattle.sudoers_tree.specs.Index.{Indexes}
 use Rattle.sudoers_tree.proofs.ReadText.{not_cut, is_cut, faulty, fault_given}
-use Rattle.sudoers_tree.proofs.policy.Policy.read.Goals as goal
+use Rattle.sudoers_tree.proofs.policy.read_knowing.Goals as goal
 
 pub returns-in_err-lines-clause-outcome : goal.returns-in_err-lines-clause-outcome
 returns-in_err-lines-clause-outcome c =

@@ -1,0 +1,98 @@
+//! Rows of lines that are known, or that are read.
+
+ghost use Rattle.std.specs.Prelude.{◌≡◌, IfOk, IfSome};
+ghost use Rattle.std.specs.List.{All, Contains};
+ghost use Rattle.sudoers_reader.specs.Tables.{Grown, text_in};
+ghost use Rattle.sudoers_tree.specs.Tree.{GivesLine, Stands};
+
+use crate::line::LineRow;
+use std::alloc::{AllocError, Global};
+use sudoers_line::LineFault;
+use sudoers_reader::{Tables, growth_goes_on, keep_text, read_line};
+
+/// How many rows more a copy of a table has room for, beside a sixteenth of its rows.
+const ROOM: usize = 256;
+
+/// Returns a row of the line with the number `at`. It is one of the rows `known` if one near `at` holds the line; else the
+/// line is read.
+///
+/// # Errors
+///
+/// The first fault of the line, or want of memory.
+pub fn row_of(
+    alloc: Global,
+    tables: &mut Tables,
+    known: &[LineRow],
+    at: usize,
+    line: &[u8],
+) -> Result<LineRow, LineFault>
+    requires { All (Stands tables.old) known.now }
+    ensures gives { GivesLine tables.new result line.now }
+    ensures grown { Grown tables.old tables.new }
+{
+    growth_goes_on();
+    match known_row(tables, known, at, line) {
+        Some(row) => Ok(row),
+        None => read_row(alloc, tables, line),
+    }
+}
+
+/// Reads a line, and returns its row.
+fn read_row(alloc: Global, tables: &mut Tables, line: &[u8]) -> Result<LineRow, LineFault>
+    ensures gives { GivesLine tables.new result line.now }
+    ensures grown { Grown tables.old tables.new }
+{
+    growth_goes_on();
+    let node = read_line(alloc, tables, line)?;
+    let text = keep_text(tables, line)?;
+    Ok(LineRow { text, node })
+}
+
+/// Returns the row of `known` that holds the line, if it is the one at `at` or stands beside it: an edit moves the other lines
+/// by one place at most.
+fn known_row(tables: &Tables, known: &[LineRow], at: usize, line: &[u8]) -> Option<LineRow>
+    ensures { IfSome result (λ row. Contains known.now row × (text_in tables.now row.text ≡ line.now)) }
+{
+    for place in at.saturating_sub(1)..at.saturating_add(2) {
+        let row = known.get(place)?;
+        if tables.text(row.text) == line {
+            return Some(*row);
+        }
+    }
+    None
+}
+
+/// Returns tables with the rows of others.
+///
+/// # Errors
+///
+/// Want of memory alone.
+pub fn copy_tables(alloc: Global, from: &Tables) -> Result<Tables, AllocError>
+    ensures forth { IfOk result (λ tables. Grown from.now tables) }
+    ensures back { IfOk result (λ tables. Grown tables from.now) }
+{
+    Ok(Tables {
+        bytes: copy_rows(alloc, from.bytes.as_slice())?,
+        digests: copy_rows(alloc, from.digests.as_slice())?,
+        members: copy_rows(alloc, from.members.as_slice())?,
+        options: copy_rows(alloc, from.options.as_slice())?,
+        tags: copy_rows(alloc, from.tags.as_slice())?,
+        commands: copy_rows(alloc, from.commands.as_slice())?,
+        groups: copy_rows(alloc, from.groups.as_slice())?,
+        defs: copy_rows(alloc, from.defs.as_slice())?,
+        params: copy_rows(alloc, from.params.as_slice())?,
+    })
+}
+
+/// Returns a table with these rows, and room for some more.
+fn copy_rows<T: Copy>(alloc: Global, rows: &[T]) -> Result<Vec<T>, AllocError>
+    ensures { IfOk result (λ table. table.items ≡ rows.now) }
+{
+    let room = rows.len() / 16;
+    let mut table = Vec::with_capacity(
+        alloc,
+        rows.len().saturating_add(room).saturating_add(ROOM),
+    )?;
+    table.extend_from_slice(rows)?;
+    Ok(table)
+}
