@@ -1,5 +1,5 @@
 -- A user on a host has one list of host groups, and one runas_default.
-use Rattle.std.proofs.Common.{◌≡◌, ◌⊎◌, inl, inr, ℕ, List, Option, sym, ap, ◌∙◌}
+use Rattle.std.proofs.Common.{◌≡◌, inl, inr, ℕ, List, Option, sym, ap, ◌∙◌}
 use Rattle.sudoers_line.specs.declared.node.HostGroup.{HostGroup}
 use Rattle.sudoers_line.specs.declared.node.Scope.{Scope}
 use Rattle.sudoers_tree.specs.Line.{Line}

@@ -1,10 +1,10 @@
-use Rattle.std.proofs.Common.{rules, ◌≡◌, ◌+◌, ◌∙◌, ap, sym, subst, length, [], nat_lt, false, Some, inr}
+use Rattle.std.proofs.Common.{rules, ◌≡◌, ◌+◌, ◌∙◌, ap, length, nat_lt, false, Some, inr}
 use Rattle.sudoers_text.specs.Fault.{text_limit}
 use Rattle.sudoers_people.specs.declared.fault.PeopleFile.TheVariants.{Passwd}
 use Rattle.sudoers_people.specs.Seen.{texts_shown}
 use Rattle.sudoers_people.specs.Rows.{account_in}
 use Rattle.sudoers_people.specs.People.{same_user, rows}
-use Rattle.sudoers_people.proofs.Firsts.{IsReadSoFar, names_are_keys, none_read, next_read, next_bad, fault_at}
+use Rattle.sudoers_people.proofs.Firsts.{names_are_keys, none_read, next_read, next_bad, fault_at}
 use Rattle.sudoers_people.proofs.reading.read_accounts.Goals as goal
 
 pub loop-at-init : goal.loop-at-init
