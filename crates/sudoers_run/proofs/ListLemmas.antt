@@ -1,26 +1,32 @@
 -- What `list` says of files of which a front was read, and of words.
-use Rattle.std.proofs.Common.{◌≡◌, ◌⊎◌, inl, inr, ◌∙◌, ◌<◌, ◌≤◌, ◌+◌, ◌++◌, ⊎_elim, Bool, true, false, ℕ, List, [], ◌∷◌, length, Option, Some, None, IfSome, Result, Ok, Err, if◌then◌else◌, refl, sym, ap, subst, arith, rules}
-use Rattle.std.proofs.lemmas.Bool.{lt-ltb}
-use Rattle.std.specs.Option.{option_or}
-use Rattle.std.specs.Io.KnownBytes.{Consumes}
+use Rattle.std.proofs.Common.{◌≡◌, ◌⊎◌, inl, inr, ◌∙◌, ◌<◌, ◌≤◌, ◌+◌, ◌++◌, ⊎_elim, false, ℕ, List, [], ◌∷◌, length, Option, Some, None, IfSome, Result, Ok, Err, MatchResult, refl, sym, ap, subst, arith}
+use Rattle.std.proofs.lemmas.Bool.{lt-ltb, cases_lt}
+use Rattle.std.proofs.lemmas.List.{length-append}
+use Rattle.std.specs.Option.{is_some, option_or}
 use Rattle.sudoers_text.specs.Fault.{text_limit}
 use Rattle.sudoers_tree.specs.Line.{Line}
 use Rattle.sudoers_tree.specs.Reading.{read_of}
+use Rattle.sudoers_check.specs.Chains.{HasReachableCycle}
+use Rattle.sudoers_hits.specs.declared.asked.Who.{Who}
 use Rattle.sudoers_match.specs.declared.request.Request.{Request}
-use Rattle.sudoers_people.specs.declared.account.Account.{Account}
+use Rattle.sudoers_match.specs.Default.{IsRunasDefault}
 use Rattle.sudoers_people.specs.declared.fault.PeopleFile.{PeopleFile}
 use Rattle.sudoers_people.specs.declared.fault.PeopleFile.TheVariants.{Passwd, Group}
 use Rattle.sudoers_people.specs.declared.fault.PeopleFault.{PeopleFault}
 use Rattle.sudoers_people.specs.declared.fault.PeopleFault.TheVariants as people
 use Rattle.sudoers_people.specs.declared.fault.WhoFault.{WhoFault}
 use Rattle.sudoers_people.specs.Rows.{account_in, group_in}
-use Rattle.sudoers_people.specs.People.{file_fault, people_fault, people_of, people_told, unless}
+use Rattle.sudoers_people.specs.Person.{who_told}
+use Rattle.sudoers_people.specs.Asked.{request_told}
+use Rattle.sudoers_people.specs.People.{People, file_fault, people_of, people_told, unless}
 use Rattle.sudoers_run.specs.declared.fault.LayerFault.{LayerFault}
 use Rattle.sudoers_run.specs.declared.fault.LayerFault.TheVariants as layer
-use Rattle.sudoers_run.specs.declared.fault.ToolFault.{ToolFault}
+use Rattle.sudoers_run.specs.declared.fault.ToolFault.TheVariants as tool
+use Rattle.sudoers_run.specs.Device.{Rose, counted_by}
 use Rattle.sudoers_run.specs.declared.words.ListWords.{ListWords}
 use Rattle.sudoers_run.specs.Program.{IsFront}
-use Rattle.sudoers_run.specs.List.{IfKnown, IsListOutcome, OfPolicy, OfRequest, Outcome, TellsWho}
+use Rattle.sudoers_run.specs.declared.list.Listed.{Listed}
+use Rattle.sudoers_run.specs.List.{AsUser, IfKnown, IsAnswered, IsAsked, IsListOutcome, OfFirst, OfPeople, OfPolicy, OfRequest, OfWho, OfWords, Outcome, Stopped, TellsList, TellsWho, text_shown}
 use Rattle.sudoers_run.proofs.ShowLemmas.{read_large}
 
 -- It says what the file says: it is all of it, or both are too large.
@@ -28,14 +34,13 @@ abbrev pub Stands : List ℕ → List ℕ → Type 0
 Stands front known = (front ≡ known) ⊎ ((text_limit < length front) × (text_limit < length known))
 
 longer : (front rest known : List ℕ) → known ≡ front ++ rest → text_limit < length front → text_limit < length known
-longer front rest known e h = let l : length known ≡ length front + length rest = search (rules, e) in omega (arith, h, l)
+longer front rest known e h = let l : length known ≡ length front + length rest = ap length e ∙ length-append front rest in omega (arith, h, l)
 
 pub stands : (old new : Option (List ℕ)) (front : List ℕ) → IsFront text_limit old new front → IfSome old (Stands front)
 stands None new front is = tt
 stands (Some known) None front is = absurd is.taken
 stands (Some known) (Some rest) front is =
-    let cases : (length front ≤ text_limit) ⊎ (text_limit < length front) = omega arith in
-    ⊎_elim (λ h. inl (is.all h)) (λ h. inr (h, longer front rest known is.taken h)) cases
+    ⊎_elim (λ h. inr (h, longer front rest known is.taken h)) (λ h. inl (is.all h)) (cases_lt text_limit (length front))
 
 pub same_policy : (front known : List ℕ) → Stands front known → read_of front ≡ read_of known
 same_policy front known (inl e) = ap read_of e
@@ -85,3 +90,72 @@ if_known (Some p') (Some u') (Some g') p u g Q sp su sg all = all p' u' g' sp su
 pub of_request : (w : ListWords) (lines : List Line) (told : Result Request WhoFault) (fault : LayerFault) → TellsWho told fault → OfRequest w lines told (Err fault)
 of_request w lines (Ok r) fault is = absurd is
 of_request w lines (Err said) fault is = ap Err is
+
+-- What is asked without a user and a group is asked as runas_default.
+pub asked_as_default : (w : ListWords) (lines : List Line) (people : People) (who : Who) (first : Request) (user : List ℕ) → text_shown w.target ≡ None → text_shown w.group ≡ None
+    → request_told people who w.user.now (text_shown w.group) w.words.now w.moment.now ≡ Ok first
+    → (HasReachableCycle lines → ⊥) → IsRunasDefault lines first.who user
+    → (o : Outcome) → AsUser w lines people first.who user o → IsAsked w lines people who (text_shown w.target) (text_shown w.group) o
+asked_as_default w lines people who first user none nobody told straight is o asked =
+    subst (λ t. IsAsked w lines people who t (text_shown w.group) o) (sym none)
+    (subst (λ g. IsAsked w lines people who None g o) (sym nobody)
+    (subst (λ r. OfFirst w lines people r o) (sym (ap (λ g. request_told people who w.user.now g w.words.now w.moment.now) (sym nobody) ∙ told))
+    (inr (record { straight = straight; user = user; is_default = is; asked = asked }))))
+
+pub asked_of : (w : ListWords) (lines : List Line) (people : People) (who : Who) (first : Request) (user : List ℕ) (result : Result Request LayerFault) → text_shown w.target ≡ None → text_shown w.group ≡ None
+    → request_told people who w.user.now (text_shown w.group) w.words.now w.moment.now ≡ Ok first
+    → (HasReachableCycle lines → ⊥) → IsRunasDefault lines first.who user
+    → MatchResult result (λ r. request_told people first.who user (text_shown w.group) w.words.now w.moment.now ≡ Ok r)
+    (λ fault. (fault ≡ layer.NoMemory) ⊎ TellsWho (request_told people first.who user (text_shown w.group) w.words.now w.moment.now) fault)
+    → MatchResult result (λ r. (o : Outcome) → IsAnswered w lines r o → IsAsked w lines people who (text_shown w.target) (text_shown w.group) o)
+    (λ fault. (fault ≡ layer.NoMemory) ⊎ IsAsked w lines people who (text_shown w.target) (text_shown w.group) (Err fault))
+asked_of w lines people who first user (Ok r) none nobody told straight is e =
+    λ o a. asked_as_default w lines people who first user none nobody told straight is o (subst (λ x. OfRequest w lines x o) (sym e) a)
+asked_of w lines people who first user (Err fault) none nobody told straight is (inl e) = inl e
+asked_of w lines people who first user (Err fault) none nobody told straight is (inr t) =
+    inr (asked_as_default w lines people who first user none nobody told straight is (Err fault) (of_request w lines _ fault t))
+
+-- What comes of words, where there are some.
+of_words : (w : ListWords) (lines : List Line) (people : People) (who : Who) (words : List (List ℕ)) (o : Outcome) → (words ≡ [] → ⊥)
+    → IsAsked w lines people who (text_shown w.target) (text_shown w.group) o → OfWords w lines people who words o
+of_words w lines people who [] o some asked = absurd (some refl)
+of_words w lines people who (word ∷ words) o some asked = asked
+
+pub outcome_of_words : (w : ListWords) (policy passwd group : List ℕ) (lines : List Line) (people : People) (who : Who) → read_of policy ≡ Ok lines
+    → people_told passwd group ≡ Ok people → who_told people w.user.now w.host.now w.interfaces.now ≡ Ok who → (w.words.now ≡ [] → ⊥)
+    → (o : Outcome) → IsAsked w lines people who (text_shown w.target) (text_shown w.group) o → IsListOutcome w policy passwd group o
+outcome_of_words w policy passwd group lines people who read told is some o asked =
+    subst (λ r. OfPolicy w (people_told passwd group) r o) (sym read)
+    (subst (λ r. OfPeople w lines r o) (sym told)
+    (subst (λ r. OfWho w lines people r o) (sym is) (of_words w lines people who w.words.now o some asked)))
+
+pub outcome_of : (w : ListWords) (policy passwd group : List ℕ) (lines : List Line) (people : People) (who : Who) (r : Request) (result : Result Listed LayerFault) → read_of policy ≡ Ok lines
+    → people_told passwd group ≡ Ok people → who_told people w.user.now w.host.now w.interfaces.now ≡ Ok who → (w.words.now ≡ [] → ⊥)
+    → ((o : Outcome) → IsAnswered w lines r o → IsAsked w lines people who (text_shown w.target) (text_shown w.group) o)
+    → MatchResult result (λ listed. IsAnswered w lines r (Ok (listed.text.items, listed.status))) (λ fault. (fault ≡ layer.NoMemory) ⊎ IsAnswered w lines r (Err fault))
+    → MatchResult result (λ listed. IsListOutcome w policy passwd group (Ok (listed.text.items, listed.status))) (λ fault. (fault ≡ layer.NoMemory) ⊎ IsListOutcome w policy passwd group (Err fault))
+outcome_of w policy passwd group lines people who r (Ok listed) read told is some asked a =
+    outcome_of_words w policy passwd group lines people who read told is some (Ok (listed.text.items, listed.status)) (asked _ a)
+outcome_of w policy passwd group lines people who r (Err fault) read told is some asked (inl e) = inl e
+outcome_of w policy passwd group lines people who r (Err fault) read told is some asked (inr a) =
+    inr (outcome_of_words w policy passwd group lines people who read told is some (Err fault) (asked _ a))
+
+-- ---- readers
+
+pub stopped : (ends ends-new given given-new size : ℕ) → (size ≤ text_limit → Rose ends ends-new) → (text_limit < size → counted_by (text_limit + 1) given ≤ given-new)
+    → Stopped ends ends-new given given-new
+stopped ends ends-new given given-new size ended more = ⊎_elim (λ h. inr (more h)) (λ h. inl (ended h)) (cases_lt text_limit size)
+
+pub tells : (w : ListWords) (policy passwd group : List ℕ) (fault : LayerFault) → (fault ≡ layer.NoMemory) ⊎ IsListOutcome w policy passwd group (Err fault)
+    → (p' u' g' : List ℕ) → Stands policy p' → Stands passwd u' → Stands group g' → TellsList w (tool.Layer fault) p' u' g'
+tells w policy passwd group fault (inl e) p' u' g' sp su sg = inl e
+tells w policy passwd group fault (inr o) p' u' g' sp su sg = inr (moved w policy passwd group p' u' g' (Err fault) sp su sg o)
+
+-- what stands behind an option that is not there
+pub none_of : {X : Type 0} (o : Option X) → ((x : X) → o ≡ Some x → ⊥) → o ≡ None
+none_of None other = refl
+none_of (Some x) other = absurd (other x refl)
+
+pub nobody_of : {X : Type 0} (o : Option X) → is_some o ≡ false → o ≡ None
+nobody_of None e = refl
+nobody_of (Some x) e = absurd cc

@@ -1,12 +1,10 @@
 -- What `list` writes for a policy, the people of a machine, and what is asked of them (sudo(8), the option `-l`).
-use Rattle.std.specs.Prelude.{◌≡◌, ◌⊎◌, ◌+◌, ◌<◌, ◌≤◌, ℕ, Bool, true, false, List, [], ◌∷◌, ◌++◌, codes, length, Option, Some, None, IfSome, Result, Ok, Err, MatchBool, if◌then◌else◌}
+use Rattle.std.specs.Prelude.{◌≡◌, ◌⊎◌, ◌+◌, ◌<◌, ◌≤◌, ℕ, List, [], ◌∷◌, ◌++◌, codes, length, Option, Some, None, IfSome, Result, Ok, Err, MatchBool, if◌then◌else◌}
 use Rattle.std.specs.Borrow.{Bor}
 use Rattle.std.specs.Option.{option_map}
 use Rattle.sudoers_text.specs.Fault.{text_limit}
-use Rattle.sudoers_text.specs.declared.fault.TextFault.TheVariants as text
 use Rattle.sudoers_tree.specs.Line.{Line}
 use Rattle.sudoers_tree.specs.declared.fault.ReadFault.{ReadFault}
-use Rattle.sudoers_tree.specs.declared.fault.ReadFault.TheVariants as read
 use Rattle.sudoers_tree.specs.Reading.{read_of}
 use Rattle.sudoers_check.specs.Chains.{HasReachableCycle}
 use Rattle.sudoers_hits.specs.declared.asked.Who.{Who}
@@ -18,10 +16,10 @@ use Rattle.sudoers_people.specs.People.{People, people_told}
 use Rattle.sudoers_people.specs.Person.{who_told}
 use Rattle.sudoers_people.specs.Asked.{request_told}
 use Rattle.sudoers_people.specs.declared.fault.PeopleFault.{PeopleFault}
-use Rattle.sudoers_people.specs.declared.fault.PeopleFault.TheVariants as people
 use Rattle.sudoers_people.specs.declared.fault.WhoFault.{WhoFault}
 use Rattle.sudoers_list.specs.Listing.{IsListing}
 use Rattle.sudoers_list.specs.Reason.{IsReason}
+use Rattle.sudoers_run.specs.Device.{Rose, counted_by}
 use Rattle.sudoers_run.specs.declared.words.ListWords.{ListWords}
 use Rattle.sudoers_run.specs.declared.fault.LayerFault.{LayerFault}
 use Rattle.sudoers_run.specs.declared.fault.LayerFault.TheVariants as layer
@@ -170,16 +168,13 @@ IsListFault (tool.Layer fault) = IsAskFault fault
 IsListFault tool.NoMark = ⊥
 IsListFault tool.InputTooLarge = ⊥
 
--- The outcome asks that each file was read to its end: not if reading failed or was given up, nor if a file is too large or memory
--- ran out.
-abbrev pub NeedsEnds : Result ℕ ToolFault → Type 0
-NeedsEnds (Ok status) = Unit {0}
-NeedsEnds (Err tool.Write) = Unit {0}
-NeedsEnds (Err tool.Read) = ⊥
-NeedsEnds (Err tool.NoEnd) = ⊥
-NeedsEnds (Err tool.NoMark) = ⊥
-NeedsEnds (Err tool.InputTooLarge) = ⊥
-NeedsEnds (Err (tool.Layer layer.NoMemory)) = ⊥
-NeedsEnds (Err (tool.Layer (layer.Policy (read.Text text.TooLarge)))) = ⊥
-NeedsEnds (Err (tool.Layer (layer.People people.TooLarge))) = ⊥
-NeedsEnds (Err (tool.Layer fault)) = Unit {0}
+-- The files were read: reading did not fail, nor was it given up, and memory did not run out.
+abbrev pub AreRead : Result ℕ ToolFault → Type 0
+AreRead (Err tool.Read) = ⊥
+AreRead (Err tool.NoEnd) = ⊥
+AreRead (Err (tool.Layer layer.NoMemory)) = ⊥
+AreRead outcome = Unit {0}
+
+-- The reader told its end, or gave a byte past the limit of a file: the counts of ends and of bytes show it.
+abbrev pub Stopped : ℕ → ℕ → ℕ → ℕ → Type 0
+Stopped ends ends-new given given-new = Rose ends ends-new ⊎ (counted_by (text_limit + 1) given ≤ given-new)

@@ -10,7 +10,7 @@ ghost use Rattle.sudoers_run.specs.Check.{TellsCheck, check_text as text_of_chec
 
 use crate::device::{Sink, Source};
 use crate::fault::ToolFault;
-use crate::fault_text::read_fault_text;
+use crate::fault_texts::read_fault_text;
 use crate::program::{read_all, write_all};
 use std::alloc::{AllocError, Global};
 use sudoers_check::{check_text, report_text};

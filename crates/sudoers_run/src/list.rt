@@ -11,7 +11,7 @@ ghost use Rattle.sudoers_people.specs.Person.{who_told};
 ghost use Rattle.sudoers_people.specs.Asked.{request_told};
 ghost use Rattle.sudoers_run.specs.Device.{Rose, Writes, AppendsFront, TakesAtMost, counted_by};
 ghost use Rattle.sudoers_run.specs.Program.{pull_limit};
-ghost use Rattle.sudoers_run.specs.List.{IfKnown, IsAnswered, IsAnswerText, IsAsked, IsListOutcome, IsListFault, IsAskFault, NeedsEnds, Outcome, TellsList, TellsWho, allowed_status, allowed_text, text_shown};
+ghost use Rattle.sudoers_run.specs.List.{AreRead, IfKnown, IsAnswered, IsAnswerText, IsAsked, IsListOutcome, IsListFault, IsAskFault, Outcome, Stopped, TellsList, TellsWho, allowed_status, allowed_text, text_shown};
 
 use crate::device::{Sink, Source};
 use crate::fault::{LayerFault, ToolFault};
@@ -22,9 +22,9 @@ use sudoers_hits::Who;
 use sudoers_line::Items;
 use sudoers_list::{explain, list};
 use sudoers_match::{Answer, Request, answer, join_words, runas_default};
-use sudoers_people::{People, PeopleFault, request_for, who_for};
-use sudoers_text::{TEXT_LIMIT, TextFault};
-use sudoers_tree::{Policy, ReadFault};
+use sudoers_people::{People, request_for, who_for};
+use sudoers_text::TEXT_LIMIT;
+use sudoers_tree::Policy;
 
 /// Reads a policy and the files passwd and group, and writes what the user of `words` may run on his host (sudo(8), the option `-l`).
 /// If `words` hold a command, it writes the command if he may run it, or the rule that decides. The status is 0 for a listing and for a
@@ -65,16 +65,17 @@ pub fn run_list<P: Source, U: Source, G: Source, W: Sink>(
         × (U.Source.pulls passwd.new ≤ U.Source.pulls passwd.old + pull_limit) × (G.Source.pulls group.new ≤ G.Source.pulls group.old + pull_limit) }
     ensures no_end { result ≡ Err ToolFault.NoEnd → (counted_by pull_limit (P.offers policy.old) ≤ P.offers policy.new)
         ⊎ ((counted_by pull_limit (U.offers passwd.old) ≤ U.offers passwd.new) ⊎ (counted_by pull_limit (G.offers group.old) ≤ G.offers group.new)) }
-    // Of each file at most one byte past the limit is taken, and only there the file is too large.
+    // Of each file at most one byte past the limit is taken.
     ensures most { TakesAtMost (P.remaining policy.old) (P.remaining policy.new) (text_limit + 1)
         × TakesAtMost (U.remaining passwd.old) (U.remaining passwd.new) (text_limit + 1)
         × TakesAtMost (G.remaining group.old) (G.remaining group.new) (text_limit + 1) }
-    ensures given { result ≡ Err (ToolFault.Layer (LayerFault.Policy (ReadFault.Text TextFault.TooLarge)))
-        → counted_by (text_limit + 1) (P.given policy.old) ≤ P.given policy.new }
-    ensures given_people { result ≡ Err (ToolFault.Layer (LayerFault.People PeopleFault.TooLarge))
-        → (counted_by (text_limit + 1) (U.given passwd.old) ≤ U.given passwd.new) ⊎ (counted_by (text_limit + 1) (G.given group.old) ≤ G.given group.new) }
-    // Any other outcome, but want of memory and a file that is too large, comes only where each reader told its end.
-    ensures ended { NeedsEnds result → Rose (P.ends policy.old) (P.ends policy.new) × Rose (U.ends passwd.old) (U.ends passwd.new) × Rose (G.ends group.old) (G.ends group.new) }
+    // Any outcome but a fault of reading and want of memory comes only where each reader told its end, or gave a byte past the limit.
+    ensures stopped { AreRead result → Stopped (P.ends policy.old) (P.ends policy.new) (P.given policy.old) (P.given policy.new)
+        × Stopped (U.ends passwd.old) (U.ends passwd.new) (U.given passwd.old) (U.given passwd.new)
+        × Stopped (G.ends group.old) (G.ends group.new) (G.given group.old) (G.given group.new) }
+    // A file is asked for only once the one before it was read.
+    ensures order { ((U.Source.pulls passwd.new ≡ U.Source.pulls passwd.old) ⊎ Stopped (P.ends policy.old) (P.ends policy.new) (P.given policy.old) (P.given policy.new))
+        × ((G.Source.pulls group.new ≡ G.Source.pulls group.old) ⊎ Stopped (U.ends passwd.old) (U.ends passwd.new) (U.given passwd.old) (U.given passwd.new)) }
 {
     let policy = read_front(alloc, policy, TEXT_LIMIT)?;
     let passwd = read_front(alloc, passwd, TEXT_LIMIT)?;
@@ -192,7 +193,7 @@ fn answer_text(
 
 /// Returns the exit status of an answer.
 fn allowed_status(answer: Option<Answer<'_>>) -> u8
-    ensures { result ≡ allowed_status (option_map answer_shown answer) }
+    ensures { result ≡ allowed_status (option_map answer_shown answer.entry) }
 {
     match answer {
         Some(answer) if answer.allow => 0,
@@ -206,7 +207,7 @@ fn allowed_text(
     words: &[Items<u8>],
     answer: Option<Answer<'_>>,
 ) -> Result<Vec<u8>, AllocError>
-    ensures { IfOk result (λ text. text.items ≡ allowed_text words.now (option_map answer_shown answer)) }
+    ensures { IfOk result (λ text. text.items ≡ allowed_text words.now (option_map answer_shown answer.entry)) }
 {
     match answer {
         Some(answer) if answer.allow => {

@@ -97,7 +97,7 @@ pub fn read_front<R: Source>(
     limit: usize,
 ) -> Result<Vec<u8>, ToolFault>
     requires { limit ≤ input_limit }
-    ensures front { IfOk result (IsFront limit (R.remaining reader.old) (R.remaining reader.new)) }
+    ensures front { IfOk result (λ front. IsFront limit (R.remaining reader.old) (R.remaining reader.new) front.items) }
     ensures most { TakesAtMost (R.remaining reader.old) (R.remaining reader.new) (limit + 1) }
     ensures faults { IfErr result IsFrontFault }
     ensures reads { Reads pull_limit result (R.Source.failures reader.old) (R.Source.failures reader.new)
@@ -112,18 +112,17 @@ pub fn read_front<R: Source>(
         // Only the proof looks at this count.
         let _ = pull;
         let room = buffer.len().min(limit + 1 - input.len());
-        match reader.pull(&mut buffer[..room]) {
-            Ok(Pulled::Bytes(n)) => {
-                if n == 0 {
-                    return Ok(input);
-                }
-                input.extend_from_slice(&buffer[..n])?;
-                if input.len() > limit {
-                    return Ok(input);
-                }
-            }
-            Ok(Pulled::Interrupted) => {}
+        let n = match reader.pull(&mut buffer[..room]) {
+            Ok(Pulled::Bytes(n)) => n,
+            Ok(Pulled::Interrupted) => continue,
             Err(DeviceFailed) => return Err(ToolFault::Read),
+        };
+        if n == 0 {
+            return Ok(input);
+        }
+        input.extend_from_slice(&buffer[..n])?;
+        if input.len() > limit {
+            return Ok(input);
         }
     }
     Err(ToolFault::NoEnd)

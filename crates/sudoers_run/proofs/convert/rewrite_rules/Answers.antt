@@ -1,12 +1,10 @@
-use Rattle.std.proofs.Common.{◌≡◌, ◌⊎◌, inl, inr, ◌∙◌, ◌+◌, ◌≤◌, Bool, true, false, ℕ, List, Result, Ok, Err, MatchResult, sym, ap, subst, arith, rules}
+use Rattle.std.proofs.Common.{◌≡◌, ◌∙◌, ◌+◌, ◌≤◌, true, false, List, sym, ap, arith, rules}
 use Rattle.sudoers_tree.specs.Line.{Line, lines_shown}
 use Rattle.sudoers_cvt.specs.Rules.{Rules}
 use Rattle.sudoers_rewrite.specs.Changed.{changes_shown}
 use Rattle.sudoers_rewrite.specs.Count.{definitions_count, lines_count, member_limit}
 use Rattle.sudoers_rewrite.specs.Rewrite.{Changes, member_count, rewritten, used_rules}
-use Rattle.sudoers_run.specs.declared.fault.LayerFault.{LayerFault}
-use Rattle.sudoers_run.specs.declared.fault.LayerFault.TheVariants as layer
-use Rattle.sudoers_run.specs.Convert.{converted, form_fault, rewritten_rules, IsRewriteFault}
+use Rattle.sudoers_run.specs.Convert.{converted, rewritten_rules}
 use Rattle.sudoers_run.proofs.RewriteLemmas.{are_rules, told_alike}
 use Rattle.sudoers_run.proofs.convert.rewrite_rules.Goals as goal
 use Rattle.sudoers_run.proofs.convert.rewrite_rules.Goals.{then-changes+in_ok-check_members, else-changes}

@@ -1,7 +1,7 @@
 use Rattle.std.proofs.Common.{◌≡◌, ◌≤◌, ◌+◌, vec_len}
 use Rattle.std.specs.Io.KnownBytes.{Consumes}
 use Rattle.sudoers_run.specs.Device.{counted_by}
-use Rattle.sudoers_run.proofs.program.read_all.Given as goal
+use Rattle.sudoers_run.proofs.program.read_front.Given as goal
 
 abbrev pub invariant-loop-pull : goal.invariant-loop-pull
 invariant-loop-pull g l =
