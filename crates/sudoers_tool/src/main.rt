@@ -27,9 +27,10 @@ const VERSION: &str = "0.6.0";
 
 /// What help prints last.
 const EXIT_STATUS: &str =
-    "Exit status: 0 success; 1 an error, or a policy that `check` does not pass; 2 a wrong command line. See sudoers_tool(8).";
+    "Exit status: 0 success; 1 an error, a policy that `check` does not pass, or a command that `list` does not allow; 2 a wrong command line. See sudoers_tool(8).";
 
-/// Returns the exit status: 0 for success, 1 for an error or a policy that `check` does not pass, 2 for a wrong command line.
+/// Returns the exit status: 0 for success, 1 for an error, a policy that `check` does not pass or a command that is not allowed, 2 for a
+/// wrong command line.
 fn main(rt: HostRuntime) -> ExitCode {
     match run(&rt) {
         Ok(code) => code,
