@@ -95,8 +95,82 @@ fn command_word<'a>(alloc: Global) -> Arg<'a> {
     )
 }
 
+/// What the command line asks for.
+#[derive(Drop)]
+pub struct Asked {
+    user: Items<u8>,
+    host: Items<u8>,
+    moment: Items<u8>,
+    interfaces: Items<u8>,
+    target: Option<Items<u8>>,
+    group: Option<Items<u8>>,
+    command: Vec<Items<u8>>,
+    why: bool,
+    file: Items<u8>,
+}
+
+impl Asked {
+    /// Returns what `words` ask of the policy `file`.
+    fn of(alloc: Global, file: &str, words: &ArgMatches<'_>) -> Result<Asked, AllocError> {
+        Ok(Asked {
+            user: needed_text(alloc, words, "USER")?,
+            host: needed_text(alloc, words, "HOST")?,
+            moment: needed_text(alloc, words, "STAMP")?,
+            interfaces: needed_text(alloc, words, "INTERFACES")?,
+            target: text_of(alloc, words, "TARGET")?,
+            group: text_of(alloc, words, "GROUP")?,
+            command: command_of(alloc, words)?,
+            why: words.get_flag("why"),
+            file: Items::from_slice(alloc, file.as_bytes())?,
+        })
+    }
+
+    /// Returns the words for the library.
+    fn words(&self) -> ListWords<'_> {
+        ListWords {
+            user: self.user.as_slice(),
+            host: self.host.as_slice(),
+            moment: self.moment.as_slice(),
+            interfaces: self.interfaces.as_slice(),
+            target: bytes_of(&self.target),
+            group: bytes_of(&self.group),
+            words: self.command.as_slice(),
+            why: self.why,
+            file: self.file.as_slice(),
+        }
+    }
+}
+
+/// Returns the text of an option, if it is there.
+fn text_of(
+    alloc: Global,
+    words: &ArgMatches<'_>,
+    id: &str,
+) -> Result<Option<Items<u8>>, AllocError> {
+    match words.get_str(id) {
+        Some(text) => Ok(Some(Items::from_slice(alloc, text.as_bytes())?)),
+        None => Ok(None),
+    }
+}
+
+/// Returns the text of an option, empty if it is not there.
+fn needed_text(alloc: Global, words: &ArgMatches<'_>, id: &str) -> Result<Items<u8>, AllocError> {
+    match text_of(alloc, words, id)? {
+        Some(text) => Ok(text),
+        None => Ok(Items::new(alloc)),
+    }
+}
+
+/// Returns the bytes of a text, if it is there.
+fn bytes_of(text: &Option<Items<u8>>) -> Option<&[u8]> {
+    match text {
+        Some(text) => Some(text.as_slice()),
+        None => None,
+    }
+}
+
 /// Returns the command and its arguments.
-fn words_of(alloc: Global, words: &ArgMatches<'_>) -> Result<Vec<Items<u8>>, AllocError> {
+fn command_of(alloc: Global, words: &ArgMatches<'_>) -> Result<Vec<Items<u8>>, AllocError> {
     let mut command = Vec::new(alloc);
     if let Some(given) = words.get_strs("WORD") {
         for word in given {
@@ -106,38 +180,14 @@ fn words_of(alloc: Global, words: &ArgMatches<'_>) -> Result<Vec<Items<u8>>, All
     Ok(command)
 }
 
-/// Returns the bytes of an option, if it is there.
-fn bytes_of<'a>(words: &ArgMatches<'a>, id: &str) -> Option<&'a [u8]> {
-    match words.get_str(id) {
-        Some(text) => Some(text.as_bytes()),
-        None => None,
-    }
-}
-
-/// Returns what the words of `list` ask for.
-fn asked_of<'a>(file: &'a str, words: &ArgMatches<'a>, command: &'a [Items<u8>]) -> ListWords<'a> {
-    ListWords {
-        user: bytes_of(words, "USER").unwrap_or(b""),
-        host: bytes_of(words, "HOST").unwrap_or(b""),
-        moment: bytes_of(words, "STAMP").unwrap_or(b""),
-        interfaces: bytes_of(words, "INTERFACES").unwrap_or(b""),
-        target: bytes_of(words, "TARGET"),
-        group: bytes_of(words, "GROUP"),
-        words: command,
-        why: words.get_flag("why"),
-        file: file.as_bytes(),
-    }
-}
-
 /// Lists by a policy file, or by the standard input.
 pub fn list_file(rt: &HostRuntime, file: &str, words: &ArgMatches<'_>) -> Result<u8, ToolFault> {
-    let command = words_of(rt.alloc(), words)?;
-    let asked = asked_of(file, words, command.as_slice());
+    let asked = Asked::of(rt.alloc(), file, words)?;
     if file == STDIN {
-        return list_policy(rt, &mut Counted::new(rt.stdin()), words, &asked);
+        return list_policy(rt, &mut Counted::new(rt.stdin()), words, &asked.words());
     }
     let opened = open(rt, file)?;
-    list_policy(rt, &mut Counted::new(opened), words, &asked)
+    list_policy(rt, &mut Counted::new(opened), words, &asked.words())
 }
 
 /// Opens the files of people, and lists by a policy that is open.
