@@ -59,9 +59,10 @@ fn user_word<'a>(alloc: Global) -> Arg<'a> {
 
 /// Returns the option with the interfaces of the host.
 fn interfaces_word<'a>(alloc: Global) -> Arg<'a> {
-    Arg::new(alloc, "INTERFACES").long("interfaces").help(
-        "Addresses of the host with their bits, as 10.1.2.9/24,192.168.0.1/16",
-    )
+    Arg::new(alloc, "INTERFACES")
+        .long("interfaces")
+        .value_name("LIST")
+        .help("Addresses of the host with their bits, as 10.1.2.9/24,192.168.0.1/16")
 }
 
 /// Returns the option with the user as whom a command is to run.
