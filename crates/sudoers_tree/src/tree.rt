@@ -67,8 +67,8 @@ impl Tree {
         self.known = Vec::new(alloc);
     }
 
-    /// Returns whether the tables of lines of `size` bytes hold more that is unused than what these lines say. A line leaves
-    /// at most twice its bytes there: its text, and the texts of its tokens.
+    /// Returns whether the tables are so large for lines of `size` bytes that more than half of their bytes are unused. A line
+    /// needs at most twice its bytes there: its text, and the texts of its tokens.
     pub fn is_mostly_unused(&self, size: usize) -> bool {
         self.tables.bytes.len() / 4 > size
     }
