@@ -2,7 +2,7 @@
 
 use case_frames::{next_case, next_part};
 use std::alloc::{AllocError, Global};
-use sudoers_check::{check_text, report_text};
+use sudoers_check::{check, report_text};
 use sudoers_edit::{Edit, Edits, MAX_EDITS, ScriptFault, Text, read_script, write_script};
 use sudoers_tree::{ALIAS_LIMIT, Kind, Policy, lf_count, read_line};
 
@@ -63,8 +63,9 @@ fn rows_of(alloc: Global, text: &[u8]) -> Result<String, AllocError> {
 
 fn reported(alloc: Global, text: &[u8], parts: &[u8]) -> Result<String, AllocError> {
     let (file, strict) = next_part(parts).unwrap_or((b"", b""));
-    match check_text(alloc, text) {
-        Ok(report) => {
+    match Policy::read(alloc, text) {
+        Ok(policy) => {
+            let report = check(alloc, &policy)?;
             let text = report_text(alloc, &report, file, strict == b"s".as_slice())?;
             format!(in alloc; "{text:?}")
         }

@@ -3,13 +3,17 @@ use Rattle.std.proofs.Common.{◌≡◌, ℕ, suc, ◌+◌, ◌<◌, Bool, true,
 use Rattle.std.proofs.lemmas.List.{map-append}
 use Rattle.std.specs.List.{AllByRecursion, cons_option}
 use Rattle.sudoers_line.specs.declared.node.Kind.{Kind}
+use Rattle.sudoers_line.specs.declared.node.Atom.{Atom}
+use Rattle.sudoers_line.specs.declared.node.Atom.TheVariants as atom
 use Rattle.sudoers_line.specs.declared.node.Def.{Def}
+use Rattle.sudoers_line.specs.declared.node.Member.{Member}
+use Rattle.sudoers_line.specs.Listed.{AliasMember, alias_of, aliases_among, listed_as}
 use Rattle.sudoers_tree.specs.Line.{Line}
 use Rattle.sudoers_tree.specs.Definition.{Definition, definitions_from, defines}
 use Rattle.sudoers_check.specs.Mentioned.{Mention, mentioned_in}
-use Rattle.sudoers_check.specs.Chains.{names_in}
+use Rattle.sudoers_check.specs.Chains.{name_in, names_in}
 use Rattle.sudoers_check.specs.Graph.{AreNodes, IsGraph}
-use Rattle.sudoers_check.specs.Numbers.{number_of, numbers_of, numbers_among, nodes_of, graph_of, roots_since, is_rooting}
+use Rattle.sudoers_check.specs.Numbers.{number_of, numbers_of, numbers_named, numbers_among, nodes_of, graph_of, roots_since, is_rooting}
 
 -- ---- those of a line
 
@@ -20,6 +24,17 @@ nodes_from ds k line n (d ∷ defs) = ap (λ rest. numbers_of k (names_in d.memb
 
 pub nodes_append : (ds xs ys : List Definition) → nodes_of ds (xs ++ ys) ≡ nodes_of ds xs ++ nodes_of ds ys
 nodes_append ds xs ys = map-append (λ (d : Definition). numbers_of d.kind (names_in d.def.members) ds) xs ys
+
+-- the numbers of the aliases of a list
+pub names_listed : (ds : List Definition) (k : Kind) (members : List Member)
+    → numbers_named ds (aliases_among (listed_as k members)) ≡ numbers_of k (names_in members) ds
+names_listed ds k [] = refl
+names_listed ds k (m ∷ members) = by m.atom (names_listed ds k members)
+  where
+    by : (a : Atom) → numbers_named ds (aliases_among (listed_as k members)) ≡ numbers_of k (names_in members) ds
+        → numbers_named ds (alias_of k m a ++ aliases_among (listed_as k members)) ≡ numbers_of k (name_in a ++ names_in members) ds
+    by (atom.Alias name) rest = ap (cons_option (number_of k name ds)) rest
+    by other rest = rest
 
 -- ---- numbers are those of nodes
 

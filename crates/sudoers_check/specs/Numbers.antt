@@ -6,6 +6,7 @@ use Rattle.std.specs.Option.{option_map}
 use Rattle.sudoers_line.specs.declared.node.Kind.{Kind}
 use Rattle.sudoers_line.specs.declared.node.Node.{Node}
 use Rattle.sudoers_line.specs.declared.node.Node.TheVariants as node
+use Rattle.sudoers_line.specs.Listed.{AliasMember}
 use Rattle.sudoers_tree.specs.Line.{Line}
 use Rattle.sudoers_tree.specs.Definition.{Definition, defines}
 use Rattle.sudoers_check.specs.Mentioned.{Mention, mentioned_in}
@@ -40,6 +41,10 @@ number_of k name (d ∷ ds) = if defines k name d then Some 0 else option_map su
 -- the numbers of those of the names that are defined
 abbrev pub numbers_of : Kind → List (List ℕ) → List Definition → List ℕ
 numbers_of k names ds = filter_map (λ name. number_of k name ds) names
+
+-- the numbers of those of the aliases that are defined
+abbrev pub numbers_named : List Definition → List AliasMember → List ℕ
+numbers_named ds aliases = filter_map (λ (a : AliasMember). number_of a.kind a.name ds) aliases
 
 -- each of the others with the numbers of those that it mentions
 abbrev pub nodes_of : List Definition → List Definition → List (List ℕ)

@@ -1,10 +1,9 @@
 //! The checks.
 
-ghost use Rattle.std.specs.Prelude.{◌≡◌, ◌++◌, ◌⊎◌, ◌↔◌, IsTrue, List, true, false, length, map, Ok, Err, IfOk, IfErr, OnOk};
+ghost use Rattle.std.specs.Prelude.{◌≡◌, ◌++◌, ◌↔◌, IsTrue, true, false, length, map, IfOk, OnOk};
 ghost use Rattle.sudoers_reader.specs.View.{node_shown};
-ghost use Rattle.sudoers_tree.specs.Line.{Line as LineOf, lines_shown};
+ghost use Rattle.sudoers_tree.specs.Line.{lines_shown};
 ghost use Rattle.sudoers_tree.specs.Definition.{definitions, Definition};
-ghost use Rattle.sudoers_tree.specs.Reading.{read_of};
 ghost use Rattle.sudoers_check.specs.Chains.{HasReachableCycle};
 ghost use Rattle.sudoers_check.specs.Led.{is_used, is_cyclic, unused_of, cyclic_of};
 ghost use Rattle.sudoers_check.specs.Numbers.{picked, graph_of};
@@ -19,7 +18,7 @@ use crate::numbers::Numbers;
 use crate::report::Report;
 use crate::walk::Walk;
 use std::alloc::{AllocError, Global};
-use sudoers_tree::{Kind, LineRow, Node, Place, Policy, ReadFault, Rows};
+use sudoers_tree::{Kind, LineRow, Node, Place, Policy, Rows};
 
 /// Returns what is to be noted of the aliases of a policy (visudo(8)).
 ///
@@ -38,21 +37,6 @@ pub fn check(alloc: Global, policy: &Policy) -> Result<Report, AllocError>
         cyclic: marked_notes(alloc, policy, cyclic.as_slice(), true)?,
         unused: marked_notes(alloc, policy, reached.as_slice(), false)?,
     })
-}
-
-/// Returns what is to be noted of the aliases of the policy that a text is (visudo(8)), or why it is none.
-///
-/// # Errors
-///
-/// Those of [`Policy::read`](sudoers_tree::Policy::read).
-pub fn check_text(alloc: Global, text: &[u8]) -> Result<Report, ReadFault>
-    // The text is a policy, and this is to be noted of it.
-    ensures report { IfOk result (λ report. (policy : List LineOf) × (read_of text.now ≡ Ok policy) × (report ≡ report_of policy)) }
-    // A fault is the text's first, or memory ran out.
-    ensures fault { IfErr result (λ fault. (fault ≡ ReadFault.NoMemory) ⊎ (read_of text.now ≡ Err fault)) }
-{
-    let policy = Policy::read(alloc, text)?;
-    Ok(check(alloc, &policy)?)
 }
 
 /// Returns the definitions to which no user specification and no Defaults line leads, with their kinds, in file order.

@@ -15,7 +15,7 @@ mod roots;
 mod seen;
 mod walk;
 
-pub use checking::{check, check_text, mark_used, reachable_cycle, unused};
+pub use checking::{check, mark_used, reachable_cycle, unused};
 pub use laws::{chains_are, mentions_are, numbers_are};
 pub use numbers::Numbers;
 pub use report::{Note, Report, report_text};

@@ -1,12 +1,9 @@
 //! Notes of names with their places.
 
-ghost use Rattle.std.specs.Prelude.{◌≡◌, ◌++◌, ◌∷◌, [], ◌+◌, ◌<◌, ◌≤◌, ◌^◌, List, ℕ, length, map, IfOk, OnOk};
-ghost use Rattle.sudoers_text.specs.Line.{join};
-ghost use Rattle.sudoers_text.specs.Fault.{text_limit};
+ghost use Rattle.std.specs.Prelude.{◌≡◌, ◌++◌, ◌∷◌, [], ◌+◌, ◌<◌, ◌^◌, List, ℕ, length, map, IfOk, OnOk};
 ghost use Rattle.sudoers_line.specs.declared.node.Kind.{Kind as KindOf};
 ghost use Rattle.sudoers_reader.specs.View.{defs_shown, node_shown};
 ghost use Rattle.sudoers_tree.specs.Definition.{definitions};
-ghost use Rattle.sudoers_tree.specs.Policy.{texts};
 ghost use Rattle.sudoers_check.specs.Report.{note_of_mention, note_of_definition, undefined_of, undefined_behind, is_first_undefined};
 ghost use Rattle.sudoers_check.specs.Mentioned.{Mention as MentionOf};
 ghost use Rattle.sudoers_check.specs.Numbers.{picked, count_in as count_of};
@@ -35,7 +32,7 @@ pub fn marked_notes(
     ensures { IfOk result (λ notes. notes
         ≡ map (note_of_definition policy.now) (picked wanted marks.now (definitions policy.now))) }
 {
-    within_limit(policy);
+    policy.text_is_within_limit();
     let mut notes = Vec::new(alloc);
     let mut row = 1;
     let mut rest = marks;
@@ -48,13 +45,6 @@ pub fn marked_notes(
         row += lf_count(line.text);
     }
     Ok(Items::from_vec(notes))
-}
-
-/// A law: a policy's text is within the limit.
-fn within_limit(policy: &Policy)
-    ensures { length (join (texts policy.now)) ≤ text_limit }
-{
-    policy.is_policy();
 }
 
 /// Adds the notes of those of a line's definitions that have this mark.
@@ -113,7 +103,7 @@ fn note_defs(
 pub fn undefined_notes(alloc: Global, policy: &Policy) -> Result<Items<Note>, AllocError>
     ensures { IfOk result (λ notes. notes ≡ map (note_of_mention policy.now) (undefined_of policy.now)) }
 {
-    within_limit(policy);
+    policy.text_is_within_limit();
     let mut notes = Vec::new(alloc);
     let mut seen = Seen::new(alloc);
     let mut row = 1;

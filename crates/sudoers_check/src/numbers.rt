@@ -2,19 +2,19 @@
 
 ghost use Rattle.std.specs.Prelude.{◌≡◌, ◌≢◌, ◌<◌, ◌≤◌, ◌++◌, ℕ, List, length, map, slice_index_or, None, IfOk, IfSome, OnOk};
 ghost use Rattle.sudoers_line.specs.declared.node.Def.{Def as DefOf};
-ghost use Rattle.sudoers_reader.specs.View.{defs_shown, members_shown, node_shown};
+ghost use Rattle.sudoers_reader.specs.View.{defs_shown, node_shown};
 ghost use Rattle.sudoers_tree.specs.Definition.{definitions, definitions_in};
 ghost use Rattle.sudoers_tree.specs.Line.{lines_shown};
 ghost use Rattle.sudoers_check.specs.Chains.{names_in};
 ghost use Rattle.sudoers_check.specs.declared.numbers.First.{First as FirstOf};
-ghost use Rattle.sudoers_check.specs.Numbers.{first_of, firsts_since, number_of, numbers_of, nodes_of, graph_of, roots_since, numbers_among};
+ghost use Rattle.sudoers_check.specs.Numbers.{first_of, firsts_since, number_of, numbers_of, numbers_named, nodes_of, graph_of, roots_since, numbers_among};
 ghost use Rattle.sudoers_check.specs.Mentioned.{mentioned_in as mentions_of};
 
 use crate::graph::Graph;
 use crate::lines::{count_definitions, is_rooting};
 use crate::mentioned::mentioned_in;
 use std::alloc::{AllocError, Global};
-use sudoers_tree::{Atom, DefRow, Kind, LineRow, MemberRow, Node, Policy, Rows};
+use sudoers_tree::{AliasMember, DefRow, Kind, LineRow, Node, Policy, Rows, list_aliases};
 
 /// A line that defines aliases, and how many definitions stand before it.
 #[derive(Clone, Copy)]
@@ -133,6 +133,7 @@ impl<'a> Numbers<'a> {
         }
     }
 
+    #[tactic(auto, using(crate::proofs::Nodes::names_listed))]
     fn append_nodes(
         &self,
         alloc: Global,
@@ -145,29 +146,24 @@ impl<'a> Numbers<'a> {
     {
         let tables = defs.tables;
         for row in defs.rows {
-            let members = tables.members(row.members);
-            nodes.push(self.of_members(alloc, kind, &members)?)?;
+            let aliases = list_aliases(alloc, kind, &tables.members(row.members))?;
+            nodes.push(self.of_aliases(alloc, aliases.as_slice())?)?;
         }
         Ok(())
     }
 
-    /// Returns the numbers of the definitions that members name.
-    fn of_members(
+    /// Returns the numbers of the definitions that aliases name.
+    fn of_aliases(
         &self,
         alloc: Global,
-        kind: Kind,
-        members: &Rows<'_, MemberRow>,
+        aliases: &[AliasMember<'_>],
     ) -> Result<Vec<usize>, AllocError>
-        ensures { IfOk result (λ numbers. numbers.items
-            ≡ numbers_of kind (names_in (members_shown members.now)) (definitions self.now.policy.now)) }
+        ensures { IfOk result (λ numbers. numbers.items ≡ numbers_named (definitions self.now.policy.now) aliases.now) }
     {
         let mut numbers = Vec::new(alloc);
-        let tables = members.tables;
-        for row in members.rows {
-            if let Atom::Alias(name) = tables.atom(row.atom) {
-                if let Some(number) = self.of(kind, name) {
-                    numbers.push(number)?;
-                }
+        for alias in aliases {
+            if let Some(number) = self.of(alias.kind, alias.name) {
+                numbers.push(number)?;
             }
         }
         Ok(numbers)

@@ -2,6 +2,7 @@
 use Rattle.std.proofs.Common.{◌≡◌, ℕ, Bool, true, false, ◌&&◌, ◌-◌, List, [], ◌∷◌, ◌++◌, length, map, refl, sym, ap, ◌∙◌, bytes_eq, flat_map, if◌then◌else◌, arith}
 use Rattle.std.proofs.lemmas.List.Concat.{flat_map-append}
 use Rattle.sudoers_line.specs.declared.node.Kind.{Kind}
+use Rattle.sudoers_line.specs.declared.node.Kind.TheVariants as kind
 use Rattle.sudoers_line.specs.declared.node.Atom.{Atom}
 use Rattle.sudoers_line.specs.declared.node.Atom.TheVariants as atom
 use Rattle.sudoers_line.specs.declared.node.Member.{Member}
@@ -11,7 +12,7 @@ use Rattle.sudoers_reader.specs.declared.rows.DefRow.{DefRow}
 use Rattle.sudoers_reader.specs.declared.view.Node.{Node as NodeView}
 use Rattle.sudoers_reader.specs.declared.view.Node.TheVariants as node_view
 use Rattle.sudoers_reader.specs.View.{node_shown}
-use Rattle.sudoers_line.specs.Listed.{Listed, listed, alias_of, aliases_among, aliases_in}
+use Rattle.sudoers_line.specs.Listed.{Listed, listed, listed_as, alias_of, aliases_among, aliases_in}
 use Rattle.sudoers_tree.specs.declared.place.Span.{Span}
 use Rattle.sudoers_tree.specs.Definition.{is_kind}
 use Rattle.sudoers_tree.specs.Mention.{members_in, of_kind, span_of}
@@ -42,6 +43,23 @@ picked k name (l ∷ ls) = grind (
   of_atom k l.0 name l.1 l.1.atom,
   flat_map-append (start_if k name) (alias_of l.0 l.1 l.1.atom) (aliases_among ls),
 )
+
+-- members of one list
+same_kind : (k : Kind) → is_kind k k ≡ true
+same_kind kind.User = refl
+same_kind kind.Runas = refl
+same_kind kind.Host = refl
+same_kind kind.Cmnd = refl
+
+all_of_kind : (k : Kind) (members : List Member) → of_kind k (listed_as k members) ≡ members
+all_of_kind k [] = refl
+all_of_kind k (m ∷ members) =
+    ap (λ same. if same then m ∷ of_kind k (listed_as k members) else of_kind k (listed_as k members)) (same_kind k)
+    ∙ ap (λ rest. m ∷ rest) (all_of_kind k members)
+
+pub picked_list : (k : Kind) (name : List ℕ) (members : List Member)
+    → flat_map (start_if k name) (aliases_among (listed_as k members)) ≡ starts_among name members
+picked_list k name members = sym (picked k name (listed_as k members)) ∙ ap (starts_among name) (all_of_kind k members)
 
 -- a line that makes no definitions
 pub starts_picked : (k : Kind) (name : List ℕ) (n : NodeView) → ((j : Kind) (m : Node) → members_in j m ≡ of_kind j (listed m))

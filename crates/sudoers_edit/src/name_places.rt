@@ -1,12 +1,12 @@
 //! Where the name of an alias stands in a line.
 ghost use Rattle.std.specs.Prelude.{◌≡◌, ◌++◌, IfOk, OnOk};
 ghost use Rattle.std.specs.List.{flat_map};
-ghost use Rattle.sudoers_reader.specs.View.{def_shown, defs_shown, member_shown, members_shown, node_shown};
-ghost use Rattle.sudoers_edit.specs.Renaming.{start_if, starts_of, starts_among, starts_in_def, starts_in};
+ghost use Rattle.sudoers_reader.specs.View.{def_shown, defs_shown, node_shown};
+ghost use Rattle.sudoers_edit.specs.Renaming.{start_if, starts_in_def, starts_in};
 
 use std::alloc::{AllocError, Global};
 use sudoers_tree::{
-    AliasMember, Atom, Def, DefRow, Kind, Member, MemberRow, Node, Rows, alias_members, is_kind,
+    AliasMember, Def, DefRow, Kind, Node, Rows, alias_members, is_kind, list_aliases,
     members_are_listed,
 };
 
@@ -24,7 +24,7 @@ pub fn name_starts(
     match *node {
         Node::Alias { kind: other, defs } => {
             if is_kind(kind, other) {
-                in_defs(name, &defs, &mut starts)?;
+                in_defs(alloc, kind, name, &defs, &mut starts)?;
             }
             Ok(starts)
         }
@@ -54,44 +54,34 @@ fn in_aliases(
 }
 
 /// Adds where the name stands in definitions.
-fn in_defs(name: &[u8], defs: &Rows<'_, DefRow>, starts: &mut Vec<usize>) -> Result<(), AllocError>
+fn in_defs(
+    alloc: Global,
+    kind: Kind,
+    name: &[u8],
+    defs: &Rows<'_, DefRow>,
+    starts: &mut Vec<usize>,
+) -> Result<(), AllocError>
     ensures { OnOk result (starts.new.items ≡ starts.old.items ++ flat_map (starts_in_def name.now) (defs_shown defs.now)) }
 {
     for row in defs.rows {
-        in_def(name, &defs.tables.def(row), starts)?;
+        in_def(alloc, kind, name, &defs.tables.def(row), starts)?;
     }
     Ok(())
 }
 
-fn in_def(name: &[u8], def: &Def<'_>, starts: &mut Vec<usize>) -> Result<(), AllocError>
+#[tactic(auto, using(crate::proofs::StartLemmas::picked_list))]
+fn in_def(
+    alloc: Global,
+    kind: Kind,
+    name: &[u8],
+    def: &Def<'_>,
+    starts: &mut Vec<usize>,
+) -> Result<(), AllocError>
     ensures { OnOk result (starts.new.items ≡ starts.old.items ++ starts_in_def name.now (def_shown def.now)) }
 {
     if name == def.name {
         starts.push(def.start)?;
     }
-    in_list(name, &def.members, starts)
-}
-
-fn in_list(
-    name: &[u8],
-    members: &Rows<'_, MemberRow>,
-    starts: &mut Vec<usize>,
-) -> Result<(), AllocError>
-    ensures { OnOk result (starts.new.items ≡ starts.old.items ++ starts_among name.now (members_shown members.now)) }
-{
-    for row in members.rows {
-        in_member(name, &members.tables.member(row), starts)?;
-    }
-    Ok(())
-}
-
-fn in_member(name: &[u8], member: &Member<'_>, starts: &mut Vec<usize>) -> Result<(), AllocError>
-    ensures { OnOk result (starts.new.items ≡ starts.old.items ++ starts_of name.now (member_shown member.now)) }
-{
-    if let Atom::Alias(other) = member.atom {
-        if name == other {
-            starts.push(member.stop.saturating_sub(name.len()))?;
-        }
-    }
-    Ok(())
+    let aliases = list_aliases(alloc, kind, &def.members)?;
+    in_aliases(kind, name, aliases.as_slice(), starts)
 }

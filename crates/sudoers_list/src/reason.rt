@@ -1,11 +1,8 @@
 //! Why a request is answered as it is.
 
-ghost use Rattle.std.specs.Prelude.{◌≡◌, ◌⊎◌, ◌≤◌, ◌++◌, slice_get, length, IfOk, IfErr, OnOk};
+ghost use Rattle.std.specs.Prelude.{◌≡◌, ◌⊎◌, ◌++◌, slice_get, IfOk, IfErr, OnOk};
 ghost use Rattle.std.specs.Option.{option_map};
-ghost use Rattle.sudoers_text.specs.Fault.{text_limit};
-ghost use Rattle.sudoers_text.specs.Line.{join};
 ghost use Rattle.sudoers_reader.specs.View.{group_shown};
-ghost use Rattle.sudoers_tree.specs.Policy.{texts};
 ghost use Rattle.sudoers_check.specs.Chains.{HasReachableCycle};
 ghost use Rattle.sudoers_verdict.specs.declared.verdict.AskFault.TheVariants.{Cycle, NoMemory};
 ghost use Rattle.sudoers_match.specs.Answer.{answer_shown};
@@ -28,18 +25,11 @@ pub struct SpecAt<'a> {
     groups: Rows<'a, GroupRow>,
 }
 
-/// A law: the text of a policy is within the limit.
-fn within_limit(policy: &Policy)
-    ensures { length (join (texts policy.now)) ≤ text_limit }
-{
-    policy.is_policy();
-}
-
 /// Returns the user specification with the number `spec`, from 0.
 fn find_spec<'a>(policy: &'a Policy, spec: usize) -> Option<SpecAt<'a>>
     ensures { option_map spec_shown result ≡ slice_get (specs_on 1 policy.now) spec }
 {
-    within_limit(policy);
+    policy.text_is_within_limit();
     let mut row = 1;
     let mut left = spec;
     let lines = policy.lines();

@@ -37,4 +37,4 @@ pub use tables::{keep_rows, keep_text};
 pub use view::{
     Args, Atom, CmdSpec, Def, Digest, HostGroup, Member, Node, Param, RunasSpec, Scope, Setting,
 };
-pub use walk::alias_members;
+pub use walk::{alias_members, list_aliases};

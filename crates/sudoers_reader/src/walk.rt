@@ -34,6 +34,23 @@ pub fn alias_members<'a>(alloc: Global, node: &Node<'a>) -> Result<Vec<AliasMemb
     Ok(found)
 }
 
+/// Returns the aliases that are members of a list of this kind, in the order in which they stand there.
+///
+/// # Errors
+///
+/// Want of memory alone.
+pub fn list_aliases<'a>(
+    alloc: Global,
+    kind: Kind,
+    members: &Rows<'a, MemberRow>,
+) -> Result<Vec<AliasMember<'a>>, AllocError>
+    ensures { IfOk result (λ found. found.items ≡ aliases_among (listed_as kind (members_shown members.now))) }
+{
+    let mut found = Vec::new(alloc);
+    append_list(kind, members, &mut found)?;
+    Ok(found)
+}
+
 fn append_scope<'a>(
     scope: &Option<Scope<'a>>,
     found: &mut Vec<AliasMember<'a>>,

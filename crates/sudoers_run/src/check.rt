@@ -13,9 +13,9 @@ use crate::fault::ToolFault;
 use crate::fault_texts::read_fault_text;
 use crate::program::{read_all, write_all};
 use std::alloc::{AllocError, Global};
-use sudoers_check::{check_text, report_text};
+use sudoers_check::{check, report_text};
 use sudoers_text::{TEXT_LIMIT, TextFault};
-use sudoers_tree::ReadFault;
+use sudoers_tree::{Policy, ReadFault};
 
 /// Reads a policy file and writes what is to be noted of its aliases, or, where the file is no policy, its fault. The status
 /// is 0 where the file is fine, and else 1; with `strict`, undefined names and cyclic aliases are faults. With `quiet`,
@@ -108,11 +108,12 @@ fn checked(alloc: Global, input: &[u8], file: &[u8], strict: bool) -> Result<Out
     ensures text { IfOk result (λ outcome. outcome.text.items ≡ text_of_check file.now strict (read_of input.now)) }
     ensures status { IfOk result (λ outcome. outcome.status ≡ check_status strict (read_of input.now)) }
 {
-    let report = match check_text(alloc, input) {
-        Ok(report) => report,
+    let policy = match Policy::read(alloc, input) {
+        Ok(policy) => policy,
         Err(ReadFault::NoMemory) => return Err(AllocError),
         Err(fault) => return refused(alloc, &fault, file),
     };
+    let report = check(alloc, &policy)?;
     let text = report_text(alloc, &report, file, strict)?;
     let status = if report.is_fine(strict) { 0 } else { 1 };
     Ok(Outcome { text, status })

@@ -4,9 +4,7 @@ ghost use Rattle.std.specs.Io.KnownBytes.{Keeps, Appends};
 ghost use Rattle.sudoers_text.specs.Fault.{text_limit};
 ghost use Rattle.sudoers_run.specs.Device.{Rose, Reads, Writes, AppendsFront, counted_by};
 ghost use Rattle.sudoers_run.specs.Program.{pull_limit, TellsLayer};
-ghost use Rattle.sudoers_text.specs.Line.{join};
 ghost use Rattle.sudoers_reader.specs.View.{def_shown, defs_shown, node_shown};
-ghost use Rattle.sudoers_tree.specs.Policy.{texts};
 ghost use Rattle.sudoers_run.specs.Shown.{kind_word as word_of_kind, shown as shown_policy, shown_def, shown_defs, shown_line};
 ghost use Rattle.sudoers_run.specs.Show.{show_output, TellsShow, IsFileFault, IsShowFault, StopsShow, NeedsShowEnd};
 
@@ -81,18 +79,11 @@ fn show_text(alloc: Global, input: &[u8]) -> Result<Vec<u8>, LayerFault>
     Ok(shown(alloc, &policy)?)
 }
 
-/// A law: a policy's text is within the limit.
-fn within_limit(policy: &Policy)
-    ensures { length (join (texts policy.now)) ≤ text_limit }
-{
-    policy.is_policy();
-}
-
 /// Returns what is shown of a policy.
 fn shown(alloc: Global, policy: &Policy) -> Result<Vec<u8>, AllocError>
     ensures { IfOk result (λ out. out.items ≡ shown_policy policy.now) }
 {
-    within_limit(policy);
+    policy.text_is_within_limit();
     let mut out = Vec::new(alloc);
     let mut row = 1;
     let lines = policy.lines();

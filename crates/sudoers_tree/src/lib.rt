@@ -37,5 +37,5 @@ pub use sudoers_line::{
 pub use sudoers_reader::{
     Args, Atom, CmdSpec, CommandRow, Def, DefRow, Digest, DigestRow, GroupRow, HostGroup, Member,
     MemberRow, Node, NodeRow, OptionRow, Param, ParamRow, Reading, Rows, RunasSpec, Scope, Setting,
-    Tables, TagRow, alias_members,
+    Tables, TagRow, alias_members, list_aliases,
 };

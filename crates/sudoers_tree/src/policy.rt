@@ -110,6 +110,13 @@ impl Policy {
         let _ = &self.reading;
     }
 
+    /// A law: the text is within the limit.
+    pub fn text_is_within_limit(&self)
+        ensures { length (join (texts self.now)) ≤ text_limit }
+    {
+        self.is_policy();
+    }
+
     /// The text, byte for byte.
     ///
     /// # Errors

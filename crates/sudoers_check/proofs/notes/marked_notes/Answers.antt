@@ -14,7 +14,7 @@ loop-line_row-init c =
     let same = c.lines-lines.ensures in
     let empty = c.new-notes.ensures.items in (
       ap (λ xs. xs ++ noted_from c.args.wanted 1 c.args.marks.now (lines_shown c.lines-lines.result)) empty,
-      omega (arith, c.within_limit.ensures, ap (λ ls. length (join (texts ls))) same),
+      omega (arith, c.text_is_within_limit.ensures, ap (λ ls. length (join (texts ls))) same),
       c.requires ∙ since_length 0 lines ∙ ap total (sym same),
     )
 
