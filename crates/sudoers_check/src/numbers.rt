@@ -2,7 +2,7 @@
 
 ghost use Rattle.std.specs.Prelude.{◌≡◌, ◌≢◌, ◌<◌, ◌≤◌, ◌++◌, ℕ, List, length, map, slice_index_or, None, IfOk, IfSome, OnOk};
 ghost use Rattle.sudoers_line.specs.declared.node.Def.{Def as DefOf};
-ghost use Rattle.sudoers_reader.specs.View.{defs_shown, node_shown};
+ghost use Rattle.sudoers_reader.specs.View.{defs_shown, members_shown, node_shown};
 ghost use Rattle.sudoers_tree.specs.Definition.{definitions, definitions_in};
 ghost use Rattle.sudoers_tree.specs.Line.{lines_shown};
 ghost use Rattle.sudoers_check.specs.Chains.{names_in};
@@ -14,7 +14,9 @@ use crate::graph::Graph;
 use crate::lines::{count_definitions, is_rooting};
 use crate::mentioned::mentioned_in;
 use std::alloc::{AllocError, Global};
-use sudoers_tree::{AliasMember, DefRow, Kind, LineRow, Node, Policy, Rows, list_aliases};
+use sudoers_tree::{
+    AliasMember, DefRow, Kind, LineRow, MemberRow, Node, Policy, Rows, list_aliases,
+};
 
 /// A line that defines aliases, and how many definitions stand before it.
 #[derive(Clone, Copy)]
@@ -133,7 +135,6 @@ impl<'a> Numbers<'a> {
         }
     }
 
-    #[tactic(auto, using(crate::proofs::Nodes::names_listed))]
     fn append_nodes(
         &self,
         alloc: Global,
@@ -146,10 +147,25 @@ impl<'a> Numbers<'a> {
     {
         let tables = defs.tables;
         for row in defs.rows {
-            let aliases = list_aliases(alloc, kind, &tables.members(row.members))?;
-            nodes.push(self.of_aliases(alloc, aliases.as_slice())?)?;
+            let members = tables.members(row.members);
+            nodes.push(self.of_members(alloc, kind, &members)?)?;
         }
         Ok(())
+    }
+
+    /// Returns the numbers of the definitions that members name.
+    #[tactic(auto, using(crate::proofs::Nodes::names_listed))]
+    fn of_members(
+        &self,
+        alloc: Global,
+        kind: Kind,
+        members: &Rows<'_, MemberRow>,
+    ) -> Result<Vec<usize>, AllocError>
+        ensures { IfOk result (λ numbers. numbers.items
+            ≡ numbers_of kind (names_in (members_shown members.now)) (definitions self.now.policy.now)) }
+    {
+        let aliases = list_aliases(alloc, kind, members)?;
+        self.of_aliases(alloc, aliases.as_slice())
     }
 
     /// Returns the numbers of the definitions that aliases name.
