@@ -1,12 +1,12 @@
 //! Where the name of an alias stands in a line.
 ghost use Rattle.std.specs.Prelude.{◌≡◌, ◌++◌, IfOk, OnOk};
 ghost use Rattle.std.specs.List.{flat_map};
-ghost use Rattle.sudoers_reader.specs.View.{def_shown, defs_shown, node_shown};
-ghost use Rattle.sudoers_edit.specs.Renaming.{start_if, starts_in_def, starts_in};
+ghost use Rattle.sudoers_reader.specs.View.{def_shown, defs_shown, members_shown, node_shown};
+ghost use Rattle.sudoers_edit.specs.Renaming.{start_if, starts_among, starts_in_def, starts_in};
 
 use std::alloc::{AllocError, Global};
 use sudoers_tree::{
-    AliasMember, Def, DefRow, Kind, Node, Rows, alias_members, is_kind, list_aliases,
+    AliasMember, Def, DefRow, Kind, MemberRow, Node, Rows, alias_members, is_kind, list_aliases,
     members_are_listed,
 };
 
@@ -69,7 +69,6 @@ fn in_defs(
     Ok(())
 }
 
-#[tactic(auto, using(crate::proofs::StartLemmas::picked_list))]
 fn in_def(
     alloc: Global,
     kind: Kind,
@@ -82,6 +81,19 @@ fn in_def(
     if name == def.name {
         starts.push(def.start)?;
     }
-    let aliases = list_aliases(alloc, kind, &def.members)?;
+    in_list(alloc, kind, name, &def.members, starts)
+}
+
+#[tactic(auto, using(crate::proofs::StartLemmas::picked_list))]
+fn in_list(
+    alloc: Global,
+    kind: Kind,
+    name: &[u8],
+    members: &Rows<'_, MemberRow>,
+    starts: &mut Vec<usize>,
+) -> Result<(), AllocError>
+    ensures { OnOk result (starts.new.items ≡ starts.old.items ++ starts_among name.now (members_shown members.now)) }
+{
+    let aliases = list_aliases(alloc, kind, members)?;
     in_aliases(kind, name, aliases.as_slice(), starts)
 }
