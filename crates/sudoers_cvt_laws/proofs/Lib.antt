@@ -15,3 +15,4 @@ pub mod RowsAlike
 pub mod RootsAlike
 pub mod SameAnswers
 pub mod SameCycles
+pub mod AnswersBack

@@ -34,7 +34,7 @@ spec_list node.Blank = []
 spec_list node.Comment = []
 spec_list (node.Include dir path) = []
 
-abbrev effective_spec : Spec → Spec
+abbrev pub effective_spec : Spec → Spec
 effective_spec s = spec_of s.users (map effective_group s.groups)
 
 abbrev effective_list : Node → List Spec
@@ -67,9 +67,9 @@ in_defaults : (n : Node) → flat_map spec_list (defaults_in n) ≡ []
 in_defaults (node.Defaults scope params) = refl
 in_defaults n = refl
 
-record IsSameSpec (s t : Spec) : Type 0 where
-  users : AllSame IsSameMember s.users t.users
-  groups : AllSame IsSameGroup s.groups t.groups
+pub record IsSameSpec (s t : Spec) : Type 0 where
+  pub users : AllSame IsSameMember s.users t.users
+  pub groups : AllSame IsSameGroup s.groups t.groups
 
 node_alike : (n m : Node) → IsSame n m → AllAlike IsSameSpec (spec_list n) (spec_list m)
 node_alike (node.Spec users groups) (node.Spec others places) same = (record { users = same.0; groups = same.1 }, tt)
@@ -77,7 +77,7 @@ node_alike (node.Defaults scope params) (node.Defaults other settings) same = tt
 node_alike (node.Alias k ds) (node.Alias j es) same = tt
 node_alike n m same = absurd same
 
-specs_alike : (lines read : List Line) → AllSame IsSame (lines_of (rules_of lines)) (said_by read)
+pub specs_alike : (lines read : List Line) → AllSame IsSame (lines_of (rules_of lines)) (said_by read)
     → AllAlike (λ (s t : Spec). IsSameSpec (effective_spec s) t) (specs_of lines) (specs_of read)
 specs_alike lines read same =
     let made : flat_map spec_list (lines_of (rules_of lines)) ≡ map effective_spec (specs_of lines) =
@@ -121,7 +121,7 @@ module _ (lines read : List Line) (lists : (k : Kind) (ms ns : List Member) → 
       command = refl;
     }
 
-    rows_alike : (k : ℕ) (h g : Head) → IsSameHead h g → (flat : List Signed)
+    pub rows_alike : (k : ℕ) (h g : Head) → IsSameHead h g → (flat : List Signed)
         → AllAlike RowsEqual (map (row_of i j users hosts k h) flat) (map (row_of i j others places k g) (map (rewritten read_back) flat))
     rows_alike k h g same [] = tt
     rows_alike k h g same (s ∷ flat) = (row_alike k h g same s, rows_alike k h g same flat)

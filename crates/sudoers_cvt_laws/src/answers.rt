@@ -17,7 +17,10 @@ ghost use Rattle.sudoers_cvt.specs.Rules.{rules_of, printed, fits};
 
 use crate::laws::printed_rules_are_read;
 use sudoers_hits::plain_first_is;
-use sudoers_match::{alike_defaults_are_same, alike_rows_answer, alike_specs_have_same_groups};
+use sudoers_match::{
+    alike_defaults_are_same, alike_rows_answer, alike_rows_fit, alike_specs_have_same_groups,
+    one_answer,
+};
 use sudoers_verdict::rewritten_lists_are_alike;
 
 /// What a printed member is read as matches what the member matches. A host may have got a backslash.
@@ -27,11 +30,13 @@ pub fn read_member_matches_same()
     plain_first_is();
 }
 
-/// What is read of the printed rules of a policy gives each request the answer of the policy. Each user has the same runas_default, and
-/// rules at the same places. A reachable alias is cyclic in both, or in neither.
+/// What is read of the printed rules of a policy gives each request the answer of the policy, and no other. Each user has the same
+/// runas_default, and rules at the same places. A reachable alias is cyclic in both, or in neither.
 pub fn printed_rules_answer()
     ensures answer { (lines read : List LineOf) → IsPolicy lines → fits (rules_of lines) ≡ true → read_of (printed (rules_of lines)) ≡ Ok read
         → (request : RequestOf) (answer : Option AnswerOf) → IsAnswer lines request answer → IsAnswer read request answer }
+    ensures back { (lines read : List LineOf) → IsPolicy lines → fits (rules_of lines) ≡ true → read_of (printed (rules_of lines)) ≡ Ok read
+        → (request : RequestOf) (answer : Option AnswerOf) → IsAnswer read request answer → IsAnswer lines request answer }
     ensures default { (lines read : List LineOf) → IsPolicy lines → fits (rules_of lines) ≡ true → read_of (printed (rules_of lines)) ≡ Ok read
         → (who : WhoOf) (name : List ℕ) → IsRunasDefault lines who name ↔ IsRunasDefault read who name }
     ensures groups { (lines read : List LineOf) → IsPolicy lines → fits (rules_of lines) ≡ true → read_of (printed (rules_of lines)) ≡ Ok read
@@ -44,5 +49,7 @@ pub fn printed_rules_answer()
     rewritten_lists_are_alike();
     alike_defaults_are_same();
     alike_rows_answer();
+    alike_rows_fit();
     alike_specs_have_same_groups();
+    one_answer();
 }

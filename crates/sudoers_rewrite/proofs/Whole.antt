@@ -20,7 +20,7 @@ use Rattle.sudoers_rewrite.specs.Count.{lines_count, member_limit, node_count}
 use Rattle.sudoers_rewrite.specs.Expand.{expanded_node, expanded_scope, expanded_list, with_member}
 use Rattle.sudoers_rewrite.specs.declared.filter.Filter.{Filter}
 use Rattle.sudoers_rewrite.specs.Filter.{filtered_node}
-use Rattle.sudoers_rewrite.specs.Rewrite.{Changes, expanded_if, filtered_by, rewritten}
+use Rattle.sudoers_rewrite.specs.Rewrite.{Changes, expanded_if, filtered_by, member_count, rewritten}
 use Rattle.sudoers_rewrite.specs.Written.{IsRefusal, command_if, group_if, node_if, runas_if, scope_if, scope_list_if, written_lines}
 use Rattle.sudoers_rewrite.proofs.Extending.{map_same, option_same}
 
@@ -118,7 +118,11 @@ pub refusal_within : (expand : Bool) (n m : ℕ) (fault : CvtFault) → IsRefusa
 refusal_within expand n m fault (inl e) le = inl e
 refusal_within expand n m fault (inr (e, is, less)) le = let more = le is in inr (e, is, omega arith)
 
--- a fault of changing a policy, of which `round` says whether a reachable alias is cyclic, and whose new lines have so many members
+-- The rules have the members of the lines, and those of definitions.
+pub lines_within : (lines : List Line) → lines_count lines ≤ member_count lines
+lines_within lines = omega arith
+
+-- a fault of changing a policy, of which `round` says whether a reachable alias is cyclic, and whose new rules have so many members
 abbrev pub IsWhole : Bool → Bool → ℕ → CvtFault → Type 0
 IsWhole expand round count fault = (fault ≡ NoMemory) ⊎ (((fault ≡ Cycle) × (round ≡ true))
     ⊎ ((fault ≡ TooLarge) × (round ≡ false) × (expand ≡ true) × (member_limit < count)))

@@ -20,8 +20,6 @@ mod tally;
 mod used;
 mod values;
 
-pub use changing::{Changes, rewrite};
+pub use changing::{Changes, Rewritten, rewrite};
 pub use filter::Filter;
 pub use filter_text::{FilterFault, read_filter};
-pub use rewriting::Rewritten;
-pub use used::{check_members, find_round, used_rules};

@@ -25,23 +25,23 @@ use sudoers_tree::LineRow;
 
 /// Lines that are written anew. Contracts see the list of the lines with what they say; they have no text.
 #[derive(Drop)]
-pub struct Rewritten {
+pub struct NewLines {
     tables: Tables,
     rows: Vec<LineRow>,
 }
 
-impl Model for Rewritten {
+impl Model for NewLines {
     ghost use Rattle.std.specs.Prelude.{List, map};
     ghost use Rattle.sudoers_tree.specs.Line.{Line, line_in};
 
     ghost Value = { List Line };
 
-    ghost view = { λ rewritten. map (line_in rewritten.tables) rewritten.rows.items };
+    ghost view = { λ new. map (line_in new.tables) new.rows.items };
 }
 
-impl Rewritten {
-    /// Returns the lines.
-    pub fn lines(&self) -> Rows<'_, LineRow>
+impl NewLines {
+    /// Returns the lines, as rows.
+    pub fn as_rows(&self) -> Rows<'_, LineRow>
         ensures { lines_shown result ≡ self.now }
     {
         Rows {
@@ -53,7 +53,7 @@ impl Rewritten {
 
 /// Returns the lines of a policy, their aliases replaced if that is wanted, and how many members they have then.
 #[tactic(auto, using(crate::proofs::Extending::extended_self, crate::proofs::Extending::like_on))]
-pub fn write_lines(alloc: Global, source: &Source<'_>) -> Result<(Rewritten, usize), CvtFault>
+pub fn write_lines(alloc: Global, source: &Source<'_>) -> Result<(NewLines, usize), CvtFault>
     ensures lines { IfOk result (λ new. new.0 ≡ written_lines (node_if source.now.expand source.now.aliases.policy.now) source.now.aliases.policy.now) }
     ensures counted { IfOk result (λ new. source.now.expand ≡ true → (new.1 ≡ lines_count new.0) × (new.1 ≤ member_limit)) }
     ensures fault { IfErr result (IsRefusal source.now.expand
@@ -70,7 +70,7 @@ pub fn write_lines(alloc: Global, source: &Source<'_>) -> Result<(Rewritten, usi
         let text = Text { from: 0, to: 0 };
         out.push(LineRow { text, node })?;
     }
-    let new = Rewritten { tables, rows: out };
+    let new = NewLines { tables, rows: out };
     Ok((new, tally.count))
 }
 
@@ -81,7 +81,7 @@ fn filter_lines(
     source: &Source<'_>,
     matcher: &mut Matcher<'_>,
     prune: bool,
-) -> Result<(Rewritten, usize), CvtFault>
+) -> Result<(NewLines, usize), CvtFault>
     requires matcher { IsMatcher matcher.old }
     requires lines { lines_of matcher.old ≡ source.now.aliases.policy.now }
     requires straight { HasReachableCycle source.now.aliases.policy.now → ⊥ }
@@ -105,7 +105,7 @@ fn filter_lines(
         let text = Text { from: 0, to: 0 };
         out.push(LineRow { text, node })?;
     }
-    let new = Rewritten { tables, rows: out };
+    let new = NewLines { tables, rows: out };
     Ok((new, tally.count))
 }
 
@@ -115,7 +115,7 @@ pub fn filter_policy(
     source: &Source<'_>,
     filter: &Filter,
     prune: bool,
-) -> Result<(Rewritten, usize), CvtFault>
+) -> Result<(NewLines, usize), CvtFault>
     requires { HasReachableCycle source.now.aliases.policy.now → ⊥ }
     ensures lines { IfOk result (λ new. new.0 ≡ written_lines (λ n. node_if source.now.expand source.now.aliases.policy.now
         (filtered_node source.now.aliases.policy.now filter.now prune n)) source.now.aliases.policy.now) }

@@ -1,39 +1,16 @@
-//! Rules of which only the used definitions are kept, how many members they have, and policies that cannot be expanded.
+//! How many members rules have, and policies that cannot be expanded.
 
 ghost use Rattle.std.specs.Prelude.{◌≡◌, ◌+◌, ◌≤◌, ◌<◌, IfOk, IfErr, OnOk};
-ghost use Rattle.sudoers_tree.specs.Definition.{definitions};
-ghost use Rattle.sudoers_tree.specs.Line.{lines_shown};
-ghost use Rattle.sudoers_cvt.specs.declared.fault.CvtFault.TheVariants.{NoMemory, TooLarge};
+ghost use Rattle.sudoers_cvt.specs.declared.fault.CvtFault.TheVariants.{TooLarge};
 ghost use Rattle.sudoers_cvt.specs.Rule.{rule_shown};
 ghost use Rattle.sudoers_rewrite.specs.Count.{defined_count, definitions_count, member_limit};
-ghost use Rattle.sudoers_rewrite.specs.Rewrite.{used_rules as rules_used_of, has_round};
+ghost use Rattle.sudoers_rewrite.specs.Rewrite.{has_round};
 
 use crate::flatten::MEMBER_LIMIT;
 use std::alloc::{AllocError, Global};
-use sudoers_check::{chains_are, mark_used, reachable_cycle};
+use sudoers_check::{chains_are, reachable_cycle};
 use sudoers_cvt::{CvtFault, Rule, Rules};
-use sudoers_tree::{LineRow, Policy, Rows};
-
-/// Returns the rules of `lines`, of definitions only those to which a user specification or a Defaults line leads. The lines define what
-/// `policy` defines.
-///
-/// # Errors
-///
-/// `NoMemory`: memory ran out.
-pub fn used_rules<'a>(
-    alloc: Global,
-    policy: &Policy,
-    lines: &Rows<'a, LineRow>,
-) -> Result<Rules<'a>, CvtFault>
-    requires { definitions (lines_shown lines.now) ≡ definitions policy.now }
-    ensures rules { IfOk result (λ rules. rules ≡ rules_used_of (lines_shown lines.now)) }
-    ensures fault { IfErr result (λ fault. fault ≡ NoMemory) }
-{
-    let marks = mark_used(alloc, policy, lines)?;
-    let rules = Rules::of(alloc, lines)?;
-    let kept = rules.with_marked(alloc, marks.as_slice())?;
-    Ok(kept)
-}
+use sudoers_tree::Policy;
 
 /// Returns whether an alias is cyclic to which a user specification or a Defaults line leads (sudoers(5), Aliases).
 ///

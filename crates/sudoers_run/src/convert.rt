@@ -19,7 +19,7 @@ use crate::words::ConvertWords;
 use std::alloc::Global;
 use sudoers_cvt::{Rules, print};
 use sudoers_json::json;
-use sudoers_rewrite::{Changes, Filter, check_members, read_filter, rewrite, used_rules};
+use sudoers_rewrite::{Changes, Filter, read_filter, rewrite};
 use sudoers_text::{TEXT_LIMIT, TextFault};
 use sudoers_tree::{Policy, ReadFault};
 
@@ -128,12 +128,8 @@ fn rewrite_rules(
         (λ fault. (fault ≡ LayerFault.NoMemory) ⊎ ((rewritten_rules form (changes_shown changes.now) policy.now ≡ Err fault)
         × IsRewriteFault form changes.now.expand fault)) }
 {
-    let (rewritten, count) = rewrite(alloc, policy, changes)?;
-    let lines = rewritten.lines();
-    let rules = used_rules(alloc, policy, &lines)?;
-    if changes.expand {
-        check_members(count, &rules)?;
-    }
+    let rewritten = rewrite(alloc, policy, changes)?;
+    let rules = rewritten.rules(alloc)?;
     print_rules(alloc, form, &rules)
 }
 

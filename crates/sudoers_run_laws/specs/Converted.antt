@@ -1,10 +1,15 @@
 -- Policies that `convert -f sudoers` prints.
-use Rattle.std.specs.Prelude.{◌≡◌, ℕ, Bool, true, false, List, Option, None, Ok}
+use Rattle.std.specs.Prelude.{◌≡◌, ◌↔◌, ℕ, Bool, true, false, List, Option, None, Ok}
 use Rattle.sudoers_tree.specs.Line.{Line}
 use Rattle.sudoers_tree.specs.Reading.{read_of}
+use Rattle.sudoers_check.specs.Chains.{HasReachableCycle}
+use Rattle.sudoers_hits.specs.declared.asked.Who.{Who}
+use Rattle.sudoers_match.specs.declared.groups.GroupPlace.{GroupPlace}
 use Rattle.sudoers_match.specs.declared.request.Request.{Request}
 use Rattle.sudoers_match.specs.Alike.{SaysSame}
 use Rattle.sudoers_match.specs.Answer.{Answer, IsAnswer}
+use Rattle.sudoers_match.specs.Default.{IsRunasDefault}
+use Rattle.sudoers_match.specs.Groups.{AreHostGroups}
 use Rattle.sudoers_print_laws.specs.Same.{AllSame, IsSame}
 use Rattle.sudoers_cvt.specs.Rules.{rules_of, lines_of}
 use Rattle.sudoers_cvt_laws.specs.ReadAs.{said_by}
@@ -18,8 +23,9 @@ use Rattle.sudoers_run.specs.Convert.{convert_output}
 abbrev pub plain_words : Bool → ConvertWords
 plain_words prune = record { form = Sudoers; filter = None; prune = prune; expand = false }
 
--- What is printed is a policy. Its lines say what the rules say, it answers each request as the policy does that was read, and it stays
--- as it is when it is converted again.
+-- What is printed is a policy. Its lines say what the rules say. Each request has the answer there that it has in the policy that was
+-- read, and no other. A reachable alias is cyclic in both, or in neither. Each user has the same runas_default, and rules at the same
+-- places. What is printed stays as it is when it is converted again.
 pub record IsConverted (prune : Bool) (input out : List ℕ) : Type 0 where
   pub lines : List Line
   pub printed : List Line
@@ -27,6 +33,10 @@ pub record IsConverted (prune : Bool) (input out : List ℕ) : Type 0 where
   pub is_read : read_of out ≡ Ok printed
   pub same : AllSame IsSame (lines_of (rules_of lines)) (said_by printed)
   pub answers : (q : Request) (a : Option Answer) → IsAnswer lines q a → IsAnswer printed q a
+  pub back : (q : Request) (a : Option Answer) → IsAnswer printed q a → IsAnswer lines q a
+  pub cycle : HasReachableCycle lines ↔ HasReachableCycle printed
+  pub default : (who : Who) (name : List ℕ) → IsRunasDefault lines who name ↔ IsRunasDefault printed who name
+  pub groups : (who : Who) (places : List GroupPlace) → AreHostGroups lines who places ↔ AreHostGroups printed who places
   pub again : convert_output (plain_words prune) out ≡ Ok out
 
 -- `-f sudoers -e` without `-m`
@@ -34,7 +44,8 @@ abbrev pub expanding_words : Bool → ConvertWords
 expanding_words prune = record { form = Sudoers; filter = None; prune = prune; expand = true }
 
 -- What is printed is a policy. Its lines say what the rules say whose aliases are replaced. Each request has an answer there with the
--- same sign, tags and options as in the policy that was read, and the other way round.
+-- same sign, tags and options as in the policy that was read, and the other way round. No reachable alias is cyclic, neither there nor
+-- in what was read. Each user has the same runas_default, and rules at the same places.
 pub record IsExpanded (input out : List ℕ) : Type 0 where
   pub lines : List Line
   pub printed : List Line
@@ -43,3 +54,7 @@ pub record IsExpanded (input out : List ℕ) : Type 0 where
   pub same : AllSame IsSame (lines_of (used_rules (expanded lines))) (said_by printed)
   pub there : (q : Request) (a : Option Answer) → IsAnswer lines q a → (b : Option Answer) × IsAnswer printed q b × SaysSame a b
   pub back : (q : Request) (b : Option Answer) → IsAnswer printed q b → (a : Option Answer) × IsAnswer lines q a × SaysSame a b
+  pub was_straight : HasReachableCycle lines → ⊥
+  pub is_straight : HasReachableCycle printed → ⊥
+  pub default : (who : Who) (name : List ℕ) → IsRunasDefault lines who name ↔ IsRunasDefault printed who name
+  pub groups : (who : Who) (places : List GroupPlace) → AreHostGroups lines who places ↔ AreHostGroups printed who places

@@ -13,8 +13,9 @@ use sudoers_match::{one_answer, one_runas_default};
 use sudoers_rewrite_laws::{expanded_rules_are_read, printed_expansion_answers};
 use sudoers_tree::{one_outcome, read_is};
 
-/// What `convert -f sudoers` prints is a policy, which answers each request as the policy that was read. Converted again, it stays as it
-/// is.
+/// What `convert -f sudoers` prints is a policy, which answers each request as the policy that was read, and no request otherwise. Each
+/// user has the same runas_default, and rules at the same places. A reachable alias is cyclic in both, or in neither. Converted again,
+/// it stays as it is.
 pub fn converted_policy_answers()
     ensures { (prune : Bool) (input out : List ℕ) → convert_output (plain_words prune) input ≡ Ok out → IsConverted prune input out }
 {
@@ -25,7 +26,8 @@ pub fn converted_policy_answers()
     second_printing_is_same();
 }
 
-/// What `convert -f sudoers -e` prints is a policy, which answers each request as the policy that was read, numbers aside.
+/// What `convert -f sudoers -e` prints is a policy, which answers each request as the policy that was read, numbers aside. Each user has
+/// the same runas_default, and rules at the same places. No reachable alias is cyclic, neither there nor in what was read.
 pub fn expanded_policy_is_printed()
     ensures { (prune : Bool) (input out : List ℕ) → convert_output (expanding_words prune) input ≡ Ok out → IsExpanded input out }
 {

@@ -1,3 +1,4 @@
+use Rattle.sudoers_cvt_laws.proofs.AnswersBack.{answer_back}
 use Rattle.sudoers_cvt_laws.proofs.SameAnswers.{same_answer, same_host_groups, same_runas_default}
 use Rattle.sudoers_cvt_laws.proofs.SameCycles.{cycle_both}
 use Rattle.sudoers_cvt_laws.proofs.Second.{same_read}
@@ -7,6 +8,8 @@ pub returns : goal.returns
 returns c = record {
   answer = same_answer c.printed_rules_are_read.ensures c.rewritten_lists_are_alike.ensures c.alike_rows_answer.ensures.equal
       c.read_member_matches_same.ensures;
+  back = answer_back c.printed_rules_are_read.ensures c.rewritten_lists_are_alike.ensures c.alike_rows_answer.ensures.equal c.alike_rows_fit.ensures
+      c.one_answer.ensures c.read_member_matches_same.ensures;
   groups = same_host_groups c.printed_rules_are_read.ensures c.rewritten_lists_are_alike.ensures c.alike_specs_have_same_groups.ensures
       c.read_member_matches_same.ensures;
   cycle = λ lines read is size e. cycle_both lines read (same_read c.printed_rules_are_read.ensures lines read is size e);

@@ -1,66 +1,48 @@
-use Rattle.std.proofs.Common.{◌≡◌, IfErr, IfOk, sym, ap, subst, ◌∙◌}
-use Rattle.std.specs.Borrow.{Bor}
-use Rattle.std.specs.Option.{option_map}
-use Rattle.std.proofs.lemmas.Result.{IfErr-weaker, IfOk-weaker}
-use Rattle.sudoers_check.specs.Chains.{HasReachableCycle}
-use Rattle.sudoers_tree.specs.Definition.{definitions}
-use Rattle.sudoers_rewrite.specs.declared.filter.Filter.{Filter}
+use Rattle.std.proofs.Common.{◌≡◌, ◌∙◌, ◌≤◌, true, false, Err, IfErr, rules, sym, ap, subst}
+use Rattle.sudoers_cvt.specs.declared.fault.CvtFault.{CvtFault}
 use Rattle.sudoers_rewrite.specs.Changed.{changes_shown}
-use Rattle.sudoers_rewrite.specs.Count.{lines_count}
-use Rattle.sudoers_rewrite.specs.Rewrite.{has_round, rewritten}
+use Rattle.sudoers_rewrite.specs.Count.{lines_count, member_limit}
+use Rattle.sudoers_rewrite.specs.Rewrite.{has_round, member_count, rewritten}
 use Rattle.sudoers_rewrite.specs.Written.{IsRefusal}
-use Rattle.sudoers_rewrite.proofs.Kept.{same_definitions}
-use Rattle.sudoers_rewrite.proofs.Uses.{straight_of}
-use Rattle.sudoers_rewrite.proofs.Whole.{IsWhole, fault_is, filtered_is, unfiltered_is}
+use Rattle.sudoers_rewrite.proofs.Whole.{IsWhole, fault_is}
 use Rattle.sudoers_rewrite.proofs.changing.rewrite.Goals as goal
+use Rattle.sudoers_rewrite.proofs.changing.rewrite.Goals.{then-changes+in_ok-check_lines, else-changes}
 
-pub filter_policy-requires : goal.filter_policy-requires
-filter_policy-requires c =
-    let laws = c.chains_are.ensures in
+pub change_lines-requires : goal.change_lines-requires
+change_lines-requires c = sym c.in_ok-round.ensures ∙ c.if-round.false
+
+pub check_lines-requires-clause-counted : goal.check_lines-requires-clause-counted
+check_lines-requires-clause-counted c = (c.in_ok-lines.ensures.counted c.if-changes.true).0 ∙ ap lines_count (sym c.in_ok-new.ensures)
+
+pub check_lines-requires-clause-few : goal.check_lines-requires-clause-few
+check_lines-requires-clause-few c = (c.in_ok-lines.ensures.counted c.if-changes.true).1
+
+pub returns-in_err-lines-clause-fault : goal.returns-in_err-lines-clause-fault
+returns-in_err-lines-clause-fault c =
+    let expand = c.args.changes.now.expand in
     let lines = c.args.policy.now in
-    subst (λ ls. HasReachableCycle ls → ⊥) (sym c.in_ok-aliases.ensures)
-    (straight_of lines (laws.unused lines) (laws.used lines) (laws.cyclic lines) (laws.straight lines) (sym c.in_ok-round.ensures ∙ c.if-round.false))
+    let count = member_count (rewritten (changes_shown c.args.changes.now) lines) in
+    let fault : CvtFault = c.in_err-lines.field-0.0 in
+    let same : c.from_residual-in_err-lines.result ≡ Err fault = search rules in
+    subst (λ r. IfErr r (IsWhole expand (has_round lines) count)) (sym same)
+    (fault_is expand (has_round lines) count (sym c.in_ok-round.ensures ∙ c.if-round.false) fault c.in_err-lines.ensures.fault)
 
-pub returns-in-None-clause-lines : goal.returns-in-None-clause-lines
-returns-in-None-clause-lines c =
-    let is = unfiltered_is c.args.policy.now _ (changes_shown c.args.changes.now) c.in_ok-aliases.ensures (ap (option_map (λ (f : Bor Filter). f.now)) c.in-None.is) in
-    subst (λ ls. IfOk c.write_lines.result (λ new. new.0 ≡ ls)) is c.write_lines.ensures.lines
+pub returns-in_err-check_lines-clause-fault : goal.returns-in_err-check_lines-clause-fault
+returns-in_err-check_lines-clause-fault c =
+    let expand = c.args.changes.now.expand in
+    let lines = c.args.policy.now in
+    let new = rewritten (changes_shown c.args.changes.now) lines in
+    let fault : CvtFault = c.in_err-check_lines.field-0.0 in
+    let same : c.from_residual-in_err-check_lines.result ≡ Err fault = search rules in
+    let refused : IsRefusal true (member_count new) fault =
+    subst (λ ls. IsRefusal true (member_count ls) fault) (c.in_ok-new.ensures ∙ c.in_ok-lines.ensures.lines) c.in_err-check_lines.ensures.fault in
+    subst (λ r. IfErr r (IsWhole expand (has_round lines) (member_count new))) (sym same)
+    (fault_is expand (has_round lines) (member_count new) (sym c.in_ok-round.ensures ∙ c.if-round.false) fault
+    (subst (λ b. IsRefusal b (member_count new) fault) (sym c.if-changes.true) refused))
 
-pub returns-in-None-clause-same : goal.returns-in-None-clause-same
-returns-in-None-clause-same c =
-    let changes = changes_shown c.args.changes.now in
-    let is = unfiltered_is c.args.policy.now _ changes c.in_ok-aliases.ensures (ap (option_map (λ (f : Bor Filter). f.now)) c.in-None.is) in
-    IfOk-weaker c.write_lines.result (λ new. new.0 ≡ rewritten changes c.args.policy.now) (λ new. definitions new.0 ≡ definitions c.args.policy.now)
-    (λ new e. ap definitions e ∙ same_definitions c.args.policy.now changes)
-    (subst (λ ls. IfOk c.write_lines.result (λ new. new.0 ≡ ls)) is c.write_lines.ensures.lines)
-
-pub returns-in-None-clause-fault : goal.returns-in-None-clause-fault
-returns-in-None-clause-fault c =
-    let changes = changes_shown c.args.changes.now in
-    let is = unfiltered_is c.args.policy.now _ changes c.in_ok-aliases.ensures (ap (option_map (λ (f : Bor Filter). f.now)) c.in-None.is) in
-    IfErr-weaker c.write_lines.result (IsRefusal changes.expand (lines_count (rewritten changes c.args.policy.now)))
-    (IsWhole changes.expand (has_round c.args.policy.now) (lines_count (rewritten changes c.args.policy.now)))
-    (fault_is changes.expand (has_round c.args.policy.now) (lines_count (rewritten changes c.args.policy.now)) (sym c.in_ok-round.ensures ∙ c.if-round.false))
-    (subst (λ ls. IfErr c.write_lines.result (IsRefusal changes.expand (lines_count ls))) is c.write_lines.ensures.fault)
-
-pub returns-in-Some-clause-lines : goal.returns-in-Some-clause-lines
-returns-in-Some-clause-lines c =
-    let is = filtered_is c.args.policy.now _ c.in-Some.filter.now (changes_shown c.args.changes.now) c.in_ok-aliases.ensures (ap (option_map (λ (f : Bor Filter). f.now)) c.in-Some.is) in
-    subst (λ ls. IfOk c.filter_policy.result (λ new. new.0 ≡ ls)) is c.filter_policy.ensures.lines
-
-pub returns-in-Some-clause-same : goal.returns-in-Some-clause-same
-returns-in-Some-clause-same c =
-    let changes = changes_shown c.args.changes.now in
-    let is = filtered_is c.args.policy.now _ c.in-Some.filter.now changes c.in_ok-aliases.ensures (ap (option_map (λ (f : Bor Filter). f.now)) c.in-Some.is) in
-    IfOk-weaker c.filter_policy.result (λ new. new.0 ≡ rewritten changes c.args.policy.now) (λ new. definitions new.0 ≡ definitions c.args.policy.now)
-    (λ new e. ap definitions e ∙ same_definitions c.args.policy.now changes)
-    (subst (λ ls. IfOk c.filter_policy.result (λ new. new.0 ≡ ls)) is c.filter_policy.ensures.lines)
-
-pub returns-in-Some-clause-fault : goal.returns-in-Some-clause-fault
-returns-in-Some-clause-fault c =
-    let changes = changes_shown c.args.changes.now in
-    let is = filtered_is c.args.policy.now _ c.in-Some.filter.now changes c.in_ok-aliases.ensures (ap (option_map (λ (f : Bor Filter). f.now)) c.in-Some.is) in
-    IfErr-weaker c.filter_policy.result (IsRefusal changes.expand (lines_count (rewritten changes c.args.policy.now)))
-    (IsWhole changes.expand (has_round c.args.policy.now) (lines_count (rewritten changes c.args.policy.now)))
-    (fault_is changes.expand (has_round c.args.policy.now) (lines_count (rewritten changes c.args.policy.now)) (sym c.in_ok-round.ensures ∙ c.if-round.false))
-    (subst (λ ls. IfErr c.filter_policy.result (IsRefusal changes.expand (lines_count ls))) is c.filter_policy.ensures.fault)
+pub returns-clause-fits : goal.returns-clause-fits
+returns-clause-fits c e =
+    elim c.if-changes.branch [
+      | then-changes+in_ok-check_lines w ↦ w.in_ok-check_lines.ensures.fits
+      | else-changes w ↦ let clash : true ≡ false = sym e ∙ w.if-changes.false in absurd cc
+    ]

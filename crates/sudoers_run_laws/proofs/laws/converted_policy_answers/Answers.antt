@@ -42,5 +42,9 @@ returns c prune input out e = by (read_of input) refl
           is_read = is_read;
           same = read.same;
           answers = c.printed_rules_answer.ensures.answer lines read.read policy found.0 read.is;
+          back = c.printed_rules_answer.ensures.back lines read.read policy found.0 read.is;
+          cycle = c.printed_rules_answer.ensures.cycle lines read.read policy found.0 read.is;
+          default = c.printed_rules_answer.ensures.default lines read.read policy found.0 read.is;
+          groups = c.printed_rules_answer.ensures.groups lines read.read policy found.0 read.is;
           again = ap (convert_read words) is_read ∙ ap (λ b. if_fits b (printed (rules_of read.read))) size ∙ ap Ok text ∙ ap Ok (sym found.1);
         }

@@ -53,4 +53,8 @@ returns c prune input out e = by (read_of input) refl
           same = read.same;
           there = c.printed_expansion_answers.ensures.there lines read.read policy straight found.1 read.is;
           back = c.printed_expansion_answers.ensures.back lines read.read policy straight found.1 read.is;
+          was_straight = straight;
+          is_straight = c.printed_expansion_answers.ensures.straight lines read.read policy straight found.1 read.is;
+          default = c.printed_expansion_answers.ensures.default lines read.read policy straight found.1 read.is;
+          groups = c.printed_expansion_answers.ensures.groups lines read.read policy straight found.1 read.is;
         }
