@@ -1,9 +1,17 @@
-//! Laws of listings. Each is the contract of a function that does nothing.
+//! Laws of listings and of reasons. Each is the contract of a function that does nothing.
 
-ghost use Rattle.std.specs.Prelude.{◌≡◌, ℕ, List};
+ghost use Rattle.std.specs.Prelude.{◌≡◌, ℕ, List, Some};
+ghost use Rattle.sudoers_line.specs.declared.node.CmdSpec.{CmdSpec as CmdSpecOf};
+ghost use Rattle.sudoers_line.specs.declared.node.HostGroup.{HostGroup as HostGroupOf};
 ghost use Rattle.sudoers_tree.specs.Line.{Line as LineOf};
+ghost use Rattle.sudoers_check.specs.Chain.{Has};
 ghost use Rattle.sudoers_hits.specs.declared.asked.Who.{Who as WhoOf};
-ghost use Rattle.sudoers_list.specs.Listing.{IsListing};
+ghost use Rattle.sudoers_match.specs.declared.groups.GroupPlace.{GroupPlace as GroupPlaceOf};
+ghost use Rattle.sudoers_match.specs.declared.request.Request.{Request as RequestOf};
+ghost use Rattle.sudoers_match.specs.Answer.{Answer as AnswerOf, IsAnswer};
+ghost use Rattle.sudoers_match.specs.Groups.{AreHostGroups};
+ghost use Rattle.sudoers_list.specs.Listing.{IsListing, group_at, groups_in};
+ghost use Rattle.sudoers_list.specs.Reason.{deciding_rule};
 
 use sudoers_match::{one_list_of_host_groups, one_runas_default};
 
@@ -14,3 +22,15 @@ pub fn one_listing()
     one_list_of_host_groups();
     one_runas_default();
 }
+
+/// At the place of an answer there is a rule.
+pub fn answer_has_rule()
+    ensures { (lines : List LineOf) (request : RequestOf) (answer : AnswerOf) → IsAnswer lines request (Some answer)
+        → (rule : ℕ × CmdSpecOf) × (deciding_rule lines answer ≡ Some rule) }
+{}
+
+/// At each place that is listed for a user there is a host group.
+pub fn places_have_groups()
+    ensures { (lines : List LineOf) (who : WhoOf) (places : List GroupPlaceOf) (place : GroupPlaceOf) → AreHostGroups lines who places
+        → Has places place → (group : HostGroupOf) × (group_at (groups_in lines) place ≡ Some group) }
+{}

@@ -1,4 +1,4 @@
-use Rattle.std.proofs.Common.{◌≡◌, ◌+◌, ◌-◌, ℕ, suc, drop, map, slice_get, Some, arith, rules, ap, ◌∙◌}
+use Rattle.std.proofs.Common.{◌≡◌, ◌+◌, ◌-◌, drop, map, Some, arith, rules, ap, ◌∙◌}
 use Rattle.std.specs.Option.{option_map}
 use Rattle.sudoers_line.specs.declared.node.CmdSpec.{CmdSpec}
 use Rattle.sudoers_reader.specs.Tables.{command_in}

@@ -1,4 +1,4 @@
-use Rattle.std.proofs.Common.{◌≡◌, ◌+◌, ℕ, suc, List, ◌∷◌, slice_get, drop, map, arith, ap, sym, ◌∙◌}
+use Rattle.std.proofs.Common.{◌≡◌, ◌+◌, suc, List, ◌∷◌, slice_get, drop, map, arith, ap, sym, ◌∙◌}
 use Rattle.sudoers_reader.specs.View.{node_shown}
 use Rattle.sudoers_tree.specs.Line.{Line, line_in, line_shown}
 use Rattle.sudoers_match.specs.Specs.{spec_in}

@@ -1,0 +1,149 @@
+-- What stands at the place of an answer, and at that of a host group.
+use Rattle.std.proofs.Common.{◌≡◌, ◌⊎◌, inl, inr, ⊎_elim, ◌+◌, ℕ, zero, suc, List, [], ◌∷◌, ◌++◌, map, slice_get, Option, Some, None, option_and_then, refl, sym, ap, subst, ◌∙◌, arith}
+use Rattle.std.proofs.lemmas.Option.{slice_get-map}
+use Rattle.std.specs.List.{cons_option}
+use Rattle.std.specs.Option.{option_map}
+use Rattle.sudoers_text.specs.Fault.{lf_count}
+use Rattle.sudoers_line.specs.declared.node.CmdSpec.{CmdSpec}
+use Rattle.sudoers_line.specs.declared.node.HostGroup.{HostGroup}
+use Rattle.sudoers_line.specs.declared.node.Member.{Member}
+use Rattle.sudoers_tree.specs.Line.{Line}
+use Rattle.sudoers_check.specs.Chain.{Has}
+use Rattle.sudoers_hits.specs.declared.asked.Who.{Who}
+use Rattle.sudoers_match.specs.declared.groups.GroupPlace.{GroupPlace}
+use Rattle.sudoers_match.specs.declared.request.Request.{Request}
+use Rattle.sudoers_match.specs.Answer.{Answer, IsAnswer, told}
+use Rattle.sudoers_match.specs.Groups.{AreHostGroups, GroupPlaces, SpecPlaces, place_of}
+use Rattle.sudoers_match.specs.Heads.{Head, filled, no_head}
+use Rattle.sudoers_match.specs.Last.{IsLast}
+use Rattle.sudoers_match.specs.Rows.{CommandRows, GroupRows, Row, SpecRows, row_of}
+use Rattle.sudoers_match.specs.Specs.{AreJoined, Spec, spec_in, specs_of}
+use Rattle.sudoers_cvt.specs.Effective.{effective_command}
+use Rattle.sudoers_list.specs.Listing.{group_at, groups_in}
+use Rattle.sudoers_list.specs.Reason.{command_at, deciding_rule, rule_in, specs_on, with_row}
+
+has_either : {Y : Type 0} (xs ys : List Y) (y : Y) → Has (xs ++ ys) y → Has xs y ⊎ Has ys y
+has_either [] ys y h = inr h
+has_either (x ∷ xs) ys y (inl e) = inl (inl e)
+has_either (x ∷ xs) ys y (inr h) = ⊎_elim (λ a. inl (inr a)) (λ b. inr b) (has_either xs ys y h)
+
+has_middle : {Y : Type 0} (before after : List Y) (y : Y) → Has (before ++ y ∷ after) y
+has_middle [] after y = inl refl
+has_middle (x ∷ before) after y = inr (has_middle before after y)
+
+has_mapped : {X Y : Type 0} (f : X → Y) (xs : List X) (y : Y) → Has (map f xs) y → (x : X) × (f x ≡ y)
+has_mapped f [] y h = absurd h
+has_mapped f (x ∷ xs) y (inl e) = (x, e)
+has_mapped f (x ∷ xs) y (inr h) = has_mapped f xs y h
+
+-- The thing with this number gives what is looked for.
+record IsIn {X Y : Type 0} (Part : ℕ → X → List Y → Type 0) (i : ℕ) (xs : List X) (y : Y) : Type 0 where
+  pub number : ℕ
+  pub thing : X
+  pub there : slice_get xs number ≡ Some thing
+  pub part : List Y
+  pub is_part : Part (i + number) thing part
+  pub has : Has part y
+
+joined_has : {X Y : Type 0} (Part : ℕ → X → List Y → Type 0) (i : ℕ) (xs : List X) (ys : List Y) (y : Y) → AreJoined Part i xs ys → Has ys y → IsIn Part i xs y
+joined_has Part i [] ys y joined h = absurd (subst (λ l. Has l y) joined h)
+joined_has {X} {Y} Part i (x ∷ xs) ys y joined h = by (has_either joined.0 joined.1 y (subst (λ l. Has l y) joined.2 h)) (λ b. joined_has Part (suc i) xs joined.1 y joined.4 b)
+  where
+    by : Has joined.0 y ⊎ Has joined.1 y → (Has joined.1 y → IsIn Part (suc i) xs y) → IsIn Part i (x ∷ xs) y
+    by (inl a) later =
+        let e : i ≡ i + 0 = omega arith in
+        record { number = 0; thing = x; there = refl; part = joined.0; is_part = subst (λ k. Part k x joined.0) e joined.3; has = a }
+    by (inr b) later =
+        let r = later b in
+        let e : suc i + r.number ≡ i + suc r.number = omega arith in
+        record { number = suc r.number; thing = r.thing; there = r.there; part = r.part; is_part = subst (λ k. Part k r.thing r.part) e r.is_part; has = r.has }
+
+-- With numbers from 0.
+record IsHere {X Y : Type 0} (Part : ℕ → X → List Y → Type 0) (xs : List X) (y : Y) : Type 0 where
+  pub number : ℕ
+  pub thing : X
+  pub there : slice_get xs number ≡ Some thing
+  pub part : List Y
+  pub is_part : Part number thing part
+  pub has : Has part y
+
+joined_here : {X Y : Type 0} (Part : ℕ → X → List Y → Type 0) (xs : List X) (ys : List Y) (y : Y) → AreJoined Part 0 xs ys → Has ys y → IsHere Part xs y
+joined_here Part xs ys y joined h =
+    let r = joined_has Part 0 xs ys y joined h in
+    let e : 0 + r.number ≡ r.number = omega arith in
+    record { number = r.number; thing = r.thing; there = r.there; part = r.part; is_part = subst (λ k. Part k r.thing r.part) e r.is_part; has = r.has }
+
+-- ---- host groups
+
+group_there : (lines : List Line) (n m : ℕ) (s : Spec) (g : HostGroup) → slice_get (specs_of lines) n ≡ Some s → slice_get s.groups m ≡ Some g
+    → group_at (groups_in lines) (place_of n m) ≡ Some g
+group_there lines n m s g there here =
+    ap (option_and_then (λ (groups : List HostGroup). slice_get groups m))
+    (slice_get-map (λ (t : Spec). t.groups) (specs_of lines) n ∙ ap (option_map (λ (t : Spec). t.groups)) there)
+    ∙ here
+
+group_in : (lines : List Line) (who : Who) (i : ℕ) (s : Spec) (part : List GroupPlace) (place : GroupPlace) → SpecPlaces lines who i s part
+    → Has part place → IsHere (GroupPlaces lines who i) s.groups place
+group_in lines who i s part place (inl a) h = joined_here (GroupPlaces lines who i) s.groups part place a.1 h
+group_in lines who i s part place (inr b) h = absurd (subst (λ l. Has l place) b.1 h)
+
+the_place : (lines : List Line) (who : Who) (i j : ℕ) (g : HostGroup) (part : List GroupPlace) (place : GroupPlace) → GroupPlaces lines who i j g part
+    → Has part place → place_of i j ≡ place
+the_place lines who i j g part place (inl a) h = ⊎_elim (λ e. e) (λ n. absurd n) (subst (λ l. Has l place) a.1 h)
+the_place lines who i j g part place (inr b) h = absurd (subst (λ l. Has l place) b.1 h)
+
+pub place_has_group : (lines : List Line) (who : Who) (places : List GroupPlace) (place : GroupPlace) → AreHostGroups lines who places
+    → Has places place → (g : HostGroup) × (group_at (groups_in lines) place ≡ Some g)
+place_has_group lines who places place are h =
+    let s = joined_here (SpecPlaces lines who) (specs_of lines) places place are h in
+    let g = group_in lines who s.number s.thing s.part place s.is_part s.has in
+    let e = the_place lines who s.number g.number g.thing g.part place g.is_part g.has in
+    (g.thing, subst (λ p. group_at (groups_in lines) p ≡ Some g.thing) e (group_there lines s.number g.number s.thing g.thing s.there g.there))
+
+-- ---- answers
+
+-- A user specification stands on a line.
+spec_on : (row n : ℕ) (lines : List Line) (s : Spec) → slice_get (specs_of lines) n ≡ Some s
+    → (on : ℕ) × (slice_get (specs_on row lines) n ≡ Some (on, s.groups))
+spec_on row n [] s h = absurd cc
+spec_on row n (l ∷ ls) s h = by (spec_in l.node) n h (λ m. spec_on (row + lf_count l.text) m ls s)
+  where
+    by : (o : Option Spec) (k : ℕ) → slice_get (cons_option o (specs_of ls)) k ≡ Some s
+        → ((m : ℕ) → slice_get (specs_of ls) m ≡ Some s → (on : ℕ) × (slice_get (specs_on (row + lf_count l.text) ls) m ≡ Some (on, s.groups)))
+        → (on : ℕ) × (slice_get (cons_option (option_map (λ (t : Spec). (row, t.groups)) o) (specs_on (row + lf_count l.text) ls)) k ≡ Some (on, s.groups))
+    by None k e more = more k e
+    by (Some t) zero e more = let same : t ≡ s = cc in (row, ap (λ (x : Spec). Some (row, x.groups)) same)
+    by (Some t) (suc k) e more = more k e
+
+rule_at : (lines : List Line) (a : Answer) (s : Spec) (g : HostGroup) (c : Head × Member) → slice_get (specs_of lines) a.spec ≡ Some s
+    → slice_get s.groups a.host_group ≡ Some g → slice_get (filled no_head g.commands) a.command ≡ Some c
+    → (rule : ℕ × CmdSpec) × (deciding_rule lines a ≡ Some rule)
+rule_at lines a s g c there here this =
+    let on = spec_on 1 a.spec lines s there in (
+      (on.0, effective_command c),
+      ap (option_and_then (rule_in a)) on.1
+          ∙ ap (λ group. option_map (with_row on.0) (command_at a.command group)) here
+          ∙ ap (option_map (with_row on.0)) (slice_get-map effective_command (filled no_head g.commands) a.command ∙ ap (option_map effective_command) this),
+    )
+
+last_row : (P : Row → Type 0) (rows : List Row) (last : Option Row) (a : Answer) → Some a ≡ option_map told last → IsLast P rows last
+    → (row : Row) × Has rows row × (a ≡ told row)
+last_row P rows None a says is = absurd cc
+last_row P rows (Some row) a says is =
+    let same : a ≡ told row = cc in
+    (row, subst (λ l. Has l row) (sym is.2) (has_middle is.0 is.1 row), same)
+
+pub rule_of_answer : (lines : List Line) (request : Request) (a : Answer) → IsAnswer lines request (Some a) → (rule : ℕ × CmdSpec) × (deciding_rule lines a ≡ Some rule)
+rule_of_answer lines request a is =
+    let last = last_row _ is.rows is.answers.last a is.answers.says is.answers.is_last in
+    let row = last.0 in
+    let s = joined_here (SpecRows lines) (specs_of lines) is.rows row is.are_rows last.1 in
+    let g = joined_here (GroupRows lines s.number s.thing.users) s.thing.groups s.part row s.is_part s.has in
+    let c = joined_here (CommandRows lines s.number g.number s.thing.users g.thing.hosts) (filled no_head g.thing.commands) g.part row g.is_part g.has in
+    let flat = c.is_part in
+    let atom = has_mapped (row_of s.number g.number s.thing.users g.thing.hosts c.number c.thing.0) flat.0 row (subst (λ l. Has l row) flat.2 c.has) in
+    let spec : a.spec ≡ s.number = ap (λ (x : Answer). x.spec) last.2 ∙ ap (λ (x : Row). x.spec) (sym atom.1) in
+    let group : a.host_group ≡ g.number = ap (λ (x : Answer). x.host_group) last.2 ∙ ap (λ (x : Row). x.host_group) (sym atom.1) in
+    let command : a.command ≡ c.number = ap (λ (x : Answer). x.command) last.2 ∙ ap (λ (x : Row). x.command) (sym atom.1) in
+    rule_at lines a s.thing g.thing c.thing (ap (slice_get (specs_of lines)) spec ∙ s.there) (ap (slice_get s.thing.groups) group ∙ g.there)
+    (ap (slice_get (filled no_head g.thing.commands)) command ∙ c.there)
