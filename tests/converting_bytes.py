@@ -241,6 +241,150 @@ PLACES = (
         lambda byte: b"Defaults:a%sb x" % number(byte),
         lambda byte: b"Defaults:%s x" % word(b"a%cb" % byte),
     ),
+    Place(
+        "groups and netgroup, raw",
+        RAW_IN_A_WORD,
+        lambda byte: b"%%a%cb, %%:a%cb, +a%cb h=ALL" % (3 * (byte,)),
+        lambda byte: b"%%%s, %%:%s, +%s h = ALL" % (3 * (word(b"a%cb" % byte),)),
+    ),
+    Place(
+        "groups and netgroup, in quotes",
+        IN_QUOTES,
+        lambda byte: b'"%%a%cb", "%%:a%cb", "+a%cb" h=ALL' % (3 * (byte,)),
+        lambda byte: b"%%%s, %%:%s, +%s h = ALL" % (3 * (word(b"a%cb" % byte),)),
+    ),
+    Place(
+        "runas user, group and netgroup, raw",
+        RAW_IN_A_WORD,
+        lambda byte: b"bob h=(a%cb, +a%cb : a%cb) /x" % (3 * (byte,)),
+        lambda byte: b"bob h = (%s, +%s : %s) /x" % (3 * (word(b"a%cb" % byte),)),
+    ),
+    Place(
+        "host, by number",
+        ALL,
+        lambda byte: b"bob a%sb=ALL" % number(byte),
+        lambda byte: b"bob a%sb = ALL" % number(byte),
+    ),
+    Place(
+        "first byte of a host, after a backslash",
+        AFTER_A_BACKSLASH,
+        lambda byte: b"bob \\%cb=ALL" % byte,
+        lambda byte: b"bob \\%cb = ALL" % byte,
+    ),
+    Place(
+        "netgroup among hosts, after a backslash",
+        AFTER_A_BACKSLASH,
+        lambda byte: b"bob +a\\%cb=ALL" % byte,
+        lambda byte: b"bob +a\\%cb = ALL" % byte,
+    ),
+    Place(
+        "value of an option, raw",
+        RAW_IN_A_WORD,
+        lambda byte: b"bob h=CWD=a%cb /x" % byte,
+        lambda byte: b"bob h = CWD=%s /x" % word(b"a%cb" % byte),
+    ),
+    Place(
+        "value of an option, after a backslash",
+        AFTER_A_BACKSLASH,
+        lambda byte: b"bob h=CWD=a\\%cg /x" % byte,
+        lambda byte: b"bob h = CWD=%s /x" % word(b"a%cg" % byte),
+    ),
+    Place(
+        "values of several options, by number",
+        ALL,
+        lambda byte: b"bob h=ROLE=a%sb TYPE=a%sb PRIVS=a%sb LIMITPRIVS=a%sb CWD=a%sb /x" % (5 * (number(byte),)),
+        lambda byte: b"bob h = ROLE=%s TYPE=%s PRIVS=%s LIMITPRIVS=%s CWD=%s /x" % (5 * (word(b"a%cb" % byte),)),
+    ),
+    Place(
+        "value of a parameter, raw",
+        RAW_IN_A_WORD,
+        lambda byte: b"Defaults x=a%cb" % byte,
+        lambda byte: b"Defaults x=%s" % parameter(b"a%cb" % byte),
+    ),
+    Place(
+        "value of a parameter, after a backslash",
+        AFTER_A_BACKSLASH,
+        lambda byte: b"Defaults x=a\\%cg" % byte,
+        lambda byte: b"Defaults x=%s" % parameter(b"a%cg" % byte),
+    ),
+    Place(
+        "values added to a parameter and taken from it, by number",
+        ALL,
+        lambda byte: b"Defaults x+=a%sb, x-=a%sb" % (2 * (number(byte),)),
+        lambda byte: b"Defaults x+=%s, x-=%s" % (2 * (parameter(b"a%cb" % byte),)),
+    ),
+    Place(
+        "group and netgroup of a scope, by number",
+        ALL,
+        lambda byte: b"Defaults:%%a%sb, +a%sb x" % (2 * (number(byte),)),
+        lambda byte: b"Defaults:%%%s, +%s x" % (2 * (word(b"a%cb" % byte),)),
+    ),
+    Place(
+        "user of a scope, raw",
+        RAW_IN_A_WORD,
+        lambda byte: b"Defaults:a%cb x" % byte,
+        lambda byte: b"Defaults:%s x" % word(b"a%cb" % byte),
+    ),
+    Place(
+        "runas user, group and netgroup of a scope, by number",
+        ALL,
+        lambda byte: b"Defaults>a%sb, %%a%sb, +a%sb x" % (3 * (number(byte),)),
+        lambda byte: b"Defaults>%s, %%%s, +%s x" % (3 * (word(b"a%cb" % byte),)),
+    ),
+    Place(
+        "host and netgroup of a scope, raw",
+        RAW_IN_A_WORD,
+        lambda byte: b"Defaults@a%cb, +a%cb x" % (byte, byte),
+        lambda byte: b"Defaults@a%cb, +a%cb x" % (byte, byte),
+    ),
+    Place(
+        "host and netgroup of a scope, after a backslash",
+        AFTER_A_BACKSLASH,
+        lambda byte: b"Defaults@a\\%cb, +a\\%cb x" % (byte, byte),
+        lambda byte: b"Defaults@a\\%cb, +a\\%cb x" % (byte, byte),
+    ),
+    Place(
+        "host of a scope, in quotes",
+        IN_QUOTES,
+        lambda byte: b'Defaults@"a%cb" x' % byte,
+        lambda byte: b"Defaults@%s x" % quoted_host(b"a%cb" % byte),
+    ),
+    Place(
+        "path of a scope, raw",
+        RAW_IN_A_COMMAND,
+        lambda byte: b"Defaults!/a%cb x" % byte,
+        lambda byte: b"Defaults!/a%cb x" % byte,
+    ),
+    Place(
+        "user, group and netgroup of an alias, by number",
+        ALL,
+        lambda byte: b"User_Alias A%d=a%sb, %%a%sb, +a%sb" % (byte, *(3 * (number(byte),))),
+        lambda byte: b"User_Alias A%d = %s, %%%s, +%s" % (byte, *(3 * (word(b"a%cb" % byte),))),
+    ),
+    Place(
+        "runas user, group and netgroup of an alias, by number",
+        ALL,
+        lambda byte: b"Runas_Alias A%d=a%sb, %%a%sb, +a%sb" % (byte, *(3 * (number(byte),))),
+        lambda byte: b"Runas_Alias A%d = %s, %%%s, +%s" % (byte, *(3 * (word(b"a%cb" % byte),))),
+    ),
+    Place(
+        "host and netgroup of an alias, raw",
+        RAW_IN_A_WORD,
+        lambda byte: b"Host_Alias A%d=a%cb, +a%cb" % (byte, byte, byte),
+        lambda byte: b"Host_Alias A%d = a%cb, +a%cb" % (byte, byte, byte),
+    ),
+    Place(
+        "host and netgroup of an alias, after a backslash",
+        AFTER_A_BACKSLASH,
+        lambda byte: b"Host_Alias A%d=a\\%cb, +a\\%cb" % (byte, byte, byte),
+        lambda byte: b"Host_Alias A%d = a\\%cb, +a\\%cb" % (byte, byte, byte),
+    ),
+    Place(
+        "argument of an alias, after a backslash",
+        AFTER_A_BACKSLASH - frozenset(b" "),
+        lambda byte: b"Cmnd_Alias A%d=/x a\\%cb, sudoedit a\\%cb" % (byte, byte, byte),
+        lambda byte: b"Cmnd_Alias A%d = /x a\\%cb, sudoedit a\\%cb" % (byte, byte, byte),
+    ),
 )
 
 
@@ -284,14 +428,14 @@ def json_problems(text, lines):
 
 
 def run_json(program, tally):
-    """Prints each byte of ASCII in each place as JSON. No other byte is UTF-8 alone."""
+    """Prints each byte in each place as JSON if its printed line is ASCII. No other byte is UTF-8 alone."""
     words = ("convert", "-f", "json", "-")
-    ascii_bytes = frozenset(range(128))
     for place in PLACES:
-        policy, lines = policy_of(place, ascii_bytes)
+        in_ascii = frozenset(byte for byte in place.bytes if place.printed(byte).isascii())
+        policy, lines = policy_of(place, in_ascii)
         answer = run(program, words, policy)
         problems = Wanted(None).problems(answer) or json_problems(answer.stdout, lines)
         tally.note(f"json, {place.name}", problems)
-        for byte in sorted(place.bytes - ascii_bytes):
+        for byte in sorted(place.bytes - in_ascii):
             answer = run(program, words, place.line(byte) + b"\n")
             tally.note(f"json, {place.name}, byte {byte}", fault("NotUtf8").problems(answer))

@@ -2,9 +2,10 @@
 
 A printed policy answers each request as the policy that was read, and so it has the same listing. With `-e` its listing
 names members in place of aliases, but the answers are the same. If one of the two listings is an error, both are.
+A policy that is not printed has the same error in both. With `-e` alone a cycle is an error of `convert` for all
+requests, so the expanded policy is not compared.
 """
 
-import itertools
 import os
 import re
 
@@ -32,10 +33,10 @@ EXPANDED = ("convert", "-f", "sudoers", "-e", "-")
 
 
 def policies():
-    """The policies that the cases of `convert` print, each once."""
+    """The policies of the cases of `convert`, each once, also those of cases that end in an error."""
     found = {}
     for case in rows.load_every().values():
-        if [os.fsdecode(word) for word in case.words[:1]] == ["convert"] and case.wanted.status == 0:
+        if [os.fsdecode(word) for word in case.words[:1]] == ["convert"]:
             in_folder = case.folder and cases.read_file(case.folder, "policy")
             found.setdefault(case.stdin if not in_folder else in_folder, case.name)
     return found
@@ -78,6 +79,11 @@ class Stand:
         lines = [problem for whose in WHOSE for problem in self.problems((*whose, "-"), self.printed.stdout)]
         return lines + [problem for words in questions_of(self.policy) for problem in self.problems(words, self.printed.stdout)]
 
+    def refusals(self):
+        """Where `list` has another error than `convert` for a policy that is not printed."""
+        wanted = Wanted(b"", self.printed.stderr, 1)
+        return [problem for whose in WHOSE for problem in wanted.problems(self.run((*WORDS, *whose, "-"), self.policy))]
+
     def answers(self):
         """Where the policy without its aliases has other answers."""
         return [problem for words in questions_of(self.policy) for problem in self.problems(words, self.expanded.stdout)]
@@ -88,6 +94,8 @@ def run_policy(program, tally, name, policy):
     stand = Stand(program, policy)
     if stand.printed.status == 0:
         tally.note(f"list of {name}, printed", stand.listings())
+    else:
+        tally.note(f"list of {name}, not printed", stand.refusals())
     if stand.expanded.status == 0:
         tally.note(f"list of {name}, expanded", stand.answers())
 
