@@ -5,10 +5,12 @@ use Rattle.sudoers_tree.specs.Line.{Line}
 use Rattle.sudoers_tree.specs.declared.fault.ReadFault.{ReadFault}
 use Rattle.sudoers_tree.specs.Reading.{read_of}
 use Rattle.sudoers_check.specs.Report.{report_of, report_text, is_fine}
+use Rattle.sudoers_run.specs.declared.fault.LayerFault.{LayerFault}
 use Rattle.sudoers_run.specs.declared.fault.LayerFault.TheVariants as layer
 use Rattle.sudoers_run.specs.declared.fault.ToolFault.{ToolFault}
 use Rattle.sudoers_run.specs.declared.fault.ToolFault.TheVariants as tool
 use Rattle.sudoers_run.specs.Device.{TakesAtMost}
+use Rattle.sudoers_run.specs.Faults.{DeviceOr}
 use Rattle.sudoers_run.specs.FaultText.{text_of_read}
 
 -- the report on a policy, or the fault of a text that is none
@@ -31,12 +33,7 @@ check_output file quiet strict input = if quiet then [] else check_text file str
 
 -- the faults of checking a file; those of the file are told in what is written
 abbrev pub IsCheckFault : ToolFault → Type 0
-IsCheckFault tool.Read = Unit {0}
-IsCheckFault tool.Write = Unit {0}
-IsCheckFault tool.NoEnd = Unit {0}
-IsCheckFault (tool.Layer fault) = fault ≡ layer.NoMemory
-IsCheckFault tool.NoMark = ⊥
-IsCheckFault tool.InputTooLarge = ⊥
+IsCheckFault fault = DeviceOr (λ (said : LayerFault). said ≡ layer.NoMemory) fault
 
 -- a reader that failed or was given up had given no byte past the limit
 abbrev pub StopsCheck : Option (List ℕ) → Option (List ℕ) → ToolFault → Type 0

@@ -21,7 +21,8 @@ use Rattle.sudoers_run.specs.declared.words.ConvertWords.{ConvertWords}
 use Rattle.sudoers_run.specs.declared.fault.LayerFault.{LayerFault}
 use Rattle.sudoers_run.specs.declared.fault.LayerFault.TheVariants as layer
 use Rattle.sudoers_run.specs.declared.fault.ToolFault.{ToolFault}
-use Rattle.sudoers_run.specs.declared.fault.ToolFault.TheVariants as tool
+use Rattle.sudoers_run.specs.Faults.{DeviceOr}
+use Rattle.sudoers_run.specs.Program.{TellsLayer}
 
 -- rules as the text of a policy, if it is within the limits; or as JSON, if all their texts are UTF-8
 abbrev pub converted : Form → Rules → Result (List ℕ) LayerFault
@@ -71,12 +72,7 @@ convert_output words input = convert_read words (read_of input)
 
 -- a fault that the file has, or the words; those of the devices and of memory say nothing of them
 abbrev pub TellsConvert : ConvertWords → ToolFault → List ℕ → Type 0
-TellsConvert words tool.Read input = Unit {0}
-TellsConvert words tool.Write input = Unit {0}
-TellsConvert words tool.NoEnd input = Unit {0}
-TellsConvert words (tool.Layer fault) input = (fault ≡ layer.NoMemory) ⊎ (convert_output words input ≡ Err fault)
-TellsConvert words tool.NoMark input = ⊥
-TellsConvert words tool.InputTooLarge input = ⊥
+TellsConvert words fault input = DeviceOr (λ (said : LayerFault). TellsLayer said (convert_output words input)) fault
 
 -- the one fault that rules can have in this form
 abbrev pub form_fault : Form → CvtFault
@@ -117,9 +113,4 @@ IsRulesFault words (layer.Who fault) = ⊥
 IsRulesFault words (layer.Ask fault) = ⊥
 
 abbrev pub IsConvertFault : ConvertWords → ToolFault → Type 0
-IsConvertFault words tool.Read = Unit {0}
-IsConvertFault words tool.Write = Unit {0}
-IsConvertFault words tool.NoEnd = Unit {0}
-IsConvertFault words (tool.Layer fault) = IsRulesFault words fault
-IsConvertFault words tool.NoMark = ⊥
-IsConvertFault words tool.InputTooLarge = ⊥
+IsConvertFault words fault = DeviceOr (IsRulesFault words) fault

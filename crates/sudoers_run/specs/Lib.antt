@@ -3,6 +3,7 @@ pub mod FaultText
 pub mod Shown
 pub mod LayerOf
 pub mod Program
+pub mod Faults
 pub mod Show
 pub mod Check
 pub mod Convert

@@ -20,6 +20,7 @@ use Rattle.sudoers_people.specs.declared.fault.WhoFault.{WhoFault}
 use Rattle.sudoers_list.specs.Listing.{IsListing}
 use Rattle.sudoers_list.specs.Reason.{IsReason}
 use Rattle.sudoers_run.specs.Device.{Rose, counted_by}
+use Rattle.sudoers_run.specs.Faults.{DeviceOr}
 use Rattle.sudoers_run.specs.declared.words.ListWords.{ListWords}
 use Rattle.sudoers_run.specs.declared.fault.LayerFault.{LayerFault}
 use Rattle.sudoers_run.specs.declared.fault.LayerFault.TheVariants as layer
@@ -140,12 +141,8 @@ IfKnown policy passwd group P = IfSome policy (λ p. IfSome passwd (λ u. IfSome
 
 -- a fault that the files or the words have; those of the devices and of memory say nothing of them
 abbrev pub TellsList : ListWords → ToolFault → List ℕ → List ℕ → List ℕ → Type 0
-TellsList w (tool.Layer fault) policy passwd group = (fault ≡ layer.NoMemory) ⊎ IsListOutcome w policy passwd group (Err fault)
-TellsList w tool.Read policy passwd group = Unit {0}
-TellsList w tool.Write policy passwd group = Unit {0}
-TellsList w tool.NoEnd policy passwd group = Unit {0}
-TellsList w tool.NoMark policy passwd group = ⊥
-TellsList w tool.InputTooLarge policy passwd group = ⊥
+TellsList w fault policy passwd group =
+    DeviceOr (λ (said : LayerFault). (said ≡ layer.NoMemory) ⊎ IsListOutcome w policy passwd group (Err said)) fault
 
 -- the faults of files and words
 abbrev pub IsAskFault : LayerFault → Type 0
@@ -161,12 +158,7 @@ IsAskFault (layer.Filter fault) = ⊥
 
 -- the faults of `list`
 abbrev pub IsListFault : ToolFault → Type 0
-IsListFault tool.Read = Unit {0}
-IsListFault tool.Write = Unit {0}
-IsListFault tool.NoEnd = Unit {0}
-IsListFault (tool.Layer fault) = IsAskFault fault
-IsListFault tool.NoMark = ⊥
-IsListFault tool.InputTooLarge = ⊥
+IsListFault fault = DeviceOr IsAskFault fault
 
 -- The files were read: reading did not fail, nor was it given up, and memory did not run out.
 abbrev pub AreRead : Result ℕ ToolFault → Type 0

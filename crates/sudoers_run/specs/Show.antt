@@ -1,5 +1,5 @@
 -- What `show` writes for a policy file.
-use Rattle.std.specs.Prelude.{◌≡◌, ◌⊎◌, ◌+◌, ℕ, List, Option, Result, Ok, Err}
+use Rattle.std.specs.Prelude.{◌+◌, ℕ, List, Option, Result, Ok, Err}
 use Rattle.sudoers_text.specs.Fault.{text_limit}
 use Rattle.sudoers_text.specs.declared.fault.TextFault.TheVariants as text
 use Rattle.sudoers_tree.specs.Line.{Line}
@@ -11,6 +11,8 @@ use Rattle.sudoers_run.specs.declared.fault.LayerFault.TheVariants as layer
 use Rattle.sudoers_run.specs.declared.fault.ToolFault.{ToolFault}
 use Rattle.sudoers_run.specs.declared.fault.ToolFault.TheVariants as tool
 use Rattle.sudoers_run.specs.Device.{TakesAtMost, TakesExactly}
+use Rattle.sudoers_run.specs.Faults.{DeviceOr}
+use Rattle.sudoers_run.specs.Program.{TellsLayer}
 use Rattle.sudoers_run.specs.Shown.{shown}
 
 -- what is shown of a policy, or the fault of a text that is none
@@ -23,12 +25,7 @@ show_output input = show_read (read_of input)
 
 -- a fault that the file has; those of the devices and of memory say nothing of it
 abbrev pub TellsShow : ToolFault → List ℕ → Type 0
-TellsShow tool.Read input = Unit {0}
-TellsShow tool.Write input = Unit {0}
-TellsShow tool.NoEnd input = Unit {0}
-TellsShow (tool.Layer fault) input = (fault ≡ layer.NoMemory) ⊎ (show_output input ≡ Err fault)
-TellsShow tool.NoMark input = ⊥
-TellsShow tool.InputTooLarge input = ⊥
+TellsShow fault input = DeviceOr (λ (said : LayerFault). TellsLayer said (show_output input)) fault
 
 -- the faults of a file
 abbrev pub IsFileFault : LayerFault → Type 0
@@ -44,12 +41,7 @@ IsFileFault (layer.Ask fault) = ⊥
 
 -- the faults of showing a file
 abbrev pub IsShowFault : ToolFault → Type 0
-IsShowFault tool.Read = Unit {0}
-IsShowFault tool.Write = Unit {0}
-IsShowFault tool.NoEnd = Unit {0}
-IsShowFault (tool.Layer fault) = IsFileFault fault
-IsShowFault tool.NoMark = ⊥
-IsShowFault tool.InputTooLarge = ⊥
+IsShowFault fault = DeviceOr IsFileFault fault
 
 -- Where reading stopped: with the first byte past the limit the file is too large; a reader that failed or was given up had
 -- given no such byte.
