@@ -31,6 +31,7 @@ import tempfile
 from dataclasses import dataclass, field
 
 import converting
+import named_cases
 from program import Wanted, run
 from tally import difference
 
@@ -307,7 +308,8 @@ def names():
 
 
 def run_all(program, tally):
-    """Runs what all documents show."""
+    """Runs what all documents show, and looks for the tests that they name."""
+    named_cases.run_all(tally)
     if not visudo():
         tally.skip("documents, what sudo answers", f"visudo of sudo {SUDO.decode()} is not installed")
     for name in names():
