@@ -3,3 +3,4 @@ mod ShowLemmas
 mod ConvertLemmas
 mod RewriteLemmas
 mod ListLemmas
+mod ListLarge

@@ -58,9 +58,12 @@ unless_later (Some f) later fault x y e = refl
 unless_first : {X : Type 0} (first later : Option PeopleFault) (fault : PeopleFault) (x : X) → first ≡ Some fault → unless (option_or first later) x ≡ Err fault
 unless_first first later fault x e = ap (λ o. unless (option_or o later) x) e
 
-large_passwd : (passwd group : List ℕ) → text_limit < length passwd → people_told passwd group ≡ Err people.TooLarge
+pub large_passwd : (passwd group : List ℕ) → text_limit < length passwd → people_told passwd group ≡ Err people.TooLarge
 large_passwd passwd group h =
     unless_first (file_fault Passwd account_in passwd) (file_fault Group group_in group) people.TooLarge (people_of passwd group) (large_file Passwd account_in passwd h)
+
+pub large_group_file : (group : List ℕ) → text_limit < length group → file_fault Group group_in group ≡ Some people.TooLarge
+large_group_file group h = large_file Group group_in group h
 
 large_group : (passwd group other : List ℕ) → text_limit < length group → text_limit < length other → people_told passwd group ≡ people_told passwd other
 large_group passwd group other h g =

@@ -4,7 +4,9 @@ use Rattle.std.specs.Borrow.{Bor}
 use Rattle.std.specs.Option.{option_map}
 use Rattle.sudoers_text.specs.Fault.{text_limit}
 use Rattle.sudoers_tree.specs.Line.{Line}
+use Rattle.sudoers_text.specs.declared.fault.TextFault.TheVariants as text
 use Rattle.sudoers_tree.specs.declared.fault.ReadFault.{ReadFault}
+use Rattle.sudoers_tree.specs.declared.fault.ReadFault.TheVariants as read
 use Rattle.sudoers_tree.specs.Reading.{read_of}
 use Rattle.sudoers_check.specs.Chains.{HasReachableCycle}
 use Rattle.sudoers_hits.specs.declared.asked.Who.{Who}
@@ -15,7 +17,9 @@ use Rattle.sudoers_match.specs.Default.{IsRunasDefault}
 use Rattle.sudoers_people.specs.People.{People, people_told}
 use Rattle.sudoers_people.specs.Person.{who_told}
 use Rattle.sudoers_people.specs.Asked.{request_told}
+use Rattle.sudoers_people.specs.declared.fault.PeopleFile.TheVariants.{Passwd}
 use Rattle.sudoers_people.specs.declared.fault.PeopleFault.{PeopleFault}
+use Rattle.sudoers_people.specs.declared.fault.PeopleFault.TheVariants as people
 use Rattle.sudoers_people.specs.declared.fault.WhoFault.{WhoFault}
 use Rattle.sudoers_list.specs.Listing.{IsListing}
 use Rattle.sudoers_list.specs.Reason.{IsReason}
@@ -170,3 +174,15 @@ AreRead outcome = Unit {0}
 -- The reader told its end, or gave a byte past the limit of a file: the counts of ends and of bytes show it.
 abbrev pub Stopped : ℕ → ℕ → ℕ → ℕ → Type 0
 Stopped ends ends-new given given-new = Rose ends ends-new ⊎ (counted_by (text_limit + 1) given ≤ given-new)
+
+-- The readers that told their ends, by the outcome. A fault of the policy comes before passwd and group are looked at, and a row of
+-- passwd before group is. With a file that is too large, the reader of the policy told its end, unless this is the file.
+abbrev pub AreWhole : Type 0 → Type 0 → Type 0 → Result ℕ ToolFault → Type 0
+AreWhole policy passwd group (Err tool.Read) = Unit {0}
+AreWhole policy passwd group (Err tool.NoEnd) = Unit {0}
+AreWhole policy passwd group (Err (tool.Layer layer.NoMemory)) = Unit {0}
+AreWhole policy passwd group (Err (tool.Layer (layer.Policy (read.Text text.TooLarge)))) = Unit {0}
+AreWhole policy passwd group (Err (tool.Layer (layer.Policy fault))) = policy
+AreWhole policy passwd group (Err (tool.Layer (layer.People people.TooLarge))) = policy
+AreWhole policy passwd group (Err (tool.Layer (layer.People (people.BadRow Passwd line)))) = policy × passwd
+AreWhole policy passwd group outcome = policy × passwd × group

@@ -11,7 +11,7 @@ ghost use Rattle.sudoers_people.specs.Person.{who_told};
 ghost use Rattle.sudoers_people.specs.Asked.{request_told};
 ghost use Rattle.sudoers_run.specs.Device.{Rose, Writes, AppendsFront, TakesAtMost, counted_by};
 ghost use Rattle.sudoers_run.specs.Program.{pull_limit};
-ghost use Rattle.sudoers_run.specs.List.{AreRead, IfKnown, IsAnswered, IsAnswerText, IsAsked, IsListOutcome, IsListFault, IsAskFault, Outcome, Stopped, TellsList, TellsWho, allowed_status, allowed_text, text_shown};
+ghost use Rattle.sudoers_run.specs.List.{AreRead, AreWhole, IfKnown, IsAnswered, IsAnswerText, IsAsked, IsListOutcome, IsListFault, IsAskFault, Outcome, Stopped, TellsList, TellsWho, allowed_status, allowed_text, text_shown};
 
 use crate::device::{Sink, Source};
 use crate::fault::{LayerFault, ToolFault};
@@ -22,9 +22,9 @@ use sudoers_hits::Who;
 use sudoers_line::Items;
 use sudoers_list::{explain, list};
 use sudoers_match::{Answer, Request, answer, join_words, runas_default};
-use sudoers_people::{People, request_for, who_for};
-use sudoers_text::TEXT_LIMIT;
-use sudoers_tree::Policy;
+use sudoers_people::{People, PeopleFault, request_for, who_for};
+use sudoers_text::{TEXT_LIMIT, TextFault};
+use sudoers_tree::{Policy, ReadFault, read_is};
 
 /// Reads a policy and the files passwd and group, and writes what the user of `words` may run on his host (sudo(8), the option `-l`).
 /// If `words` hold a command, it writes the command if he may run it, or the rule that decides. The status is 0 for a listing and for a
@@ -73,10 +73,19 @@ pub fn run_list<P: Source, U: Source, G: Source, W: Sink>(
     ensures stopped { AreRead result → Stopped (P.ends policy.old) (P.ends policy.new) (P.given policy.old) (P.given policy.new)
         × Stopped (U.ends passwd.old) (U.ends passwd.new) (U.given passwd.old) (U.given passwd.new)
         × Stopped (G.ends group.old) (G.ends group.new) (G.given group.old) (G.given group.new) }
+    // A file is too large only where its reader gave a byte past the limit.
+    ensures given { (result ≡ Err (ToolFault.Layer (LayerFault.Policy (ReadFault.Text TextFault.TooLarge)))
+        → counted_by (text_limit + 1) (P.given policy.old) ≤ P.given policy.new)
+        × (result ≡ Err (ToolFault.Layer (LayerFault.People PeopleFault.TooLarge))
+        → (counted_by (text_limit + 1) (U.given passwd.old) ≤ U.given passwd.new) ⊎ (counted_by (text_limit + 1) (G.given group.old) ≤ G.given group.new)) }
+    // Any outcome of files that were read comes only where the readers of those on which it rests told their ends.
+    ensures ended { AreWhole (Rose (P.ends policy.old) (P.ends policy.new)) (Rose (U.ends passwd.old) (U.ends passwd.new))
+        (Rose (G.ends group.old) (G.ends group.new)) result }
     // A file is asked for only once the one before it was read.
     ensures order { ((U.Source.pulls passwd.new ≡ U.Source.pulls passwd.old) ⊎ Stopped (P.ends policy.old) (P.ends policy.new) (P.given policy.old) (P.given policy.new))
         × ((G.Source.pulls group.new ≡ G.Source.pulls group.old) ⊎ Stopped (U.ends passwd.old) (U.ends passwd.new) (U.given passwd.old) (U.given passwd.new)) }
 {
+    read_is();
     let policy = read_front(alloc, policy, TEXT_LIMIT)?;
     let passwd = read_front(alloc, passwd, TEXT_LIMIT)?;
     let group = read_front(alloc, group, TEXT_LIMIT)?;

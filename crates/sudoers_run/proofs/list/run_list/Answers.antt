@@ -1,4 +1,4 @@
-use Rattle.std.proofs.Common.{◌≡◌, inl, inr, length, Ok, Err, IfErr, refl, sym, subst, rules}
+use Rattle.std.proofs.Common.{◌≡◌, ◌<◌, ◌≤◌, ⊎_elim, inl, inr, length, Ok, Err, IfErr, refl, sym, subst, rules}
 use Rattle.sudoers_run.specs.declared.fault.LayerFault.{LayerFault}
 use Rattle.sudoers_run.specs.declared.fault.ToolFault.{ToolFault}
 use Rattle.sudoers_run.specs.declared.fault.ToolFault.TheVariants as tool
@@ -6,6 +6,7 @@ use Rattle.std.specs.Io.KnownBytes.{Appends}
 use Rattle.sudoers_run.specs.Device.{AppendsFront}
 use Rattle.sudoers_run.specs.Program.{IsFront}
 use Rattle.sudoers_run.specs.List.{IfKnown, TellsList}
+use Rattle.sudoers_run.proofs.ListLarge.{ended_listed, ended_written, people_are_large, policy_is_large, layer_is, whole_ok}
 use Rattle.sudoers_run.proofs.ListLemmas.{if_known, moved, stands, stopped, tells}
 use Rattle.sudoers_run.proofs.list.run_list.Goals as goal
 
@@ -67,3 +68,39 @@ returns-clause-ok g c =
     let all = subst (Appends (g.W.Write.contents c.args.writer.now) (g.W.Write.contents c.write_all.new.writer)) c.as_slice-4.ensures.value c.in_ok-write_all.ensures.all in
     if_known _ _ _ _ _ _ _ sp su sg (λ p u h a b d.
     (text, moved w c.as_slice.result.now c.as_slice-2.result.now c.as_slice-3.result.now p u h (Ok (text, status)) a b d c.in_ok-listed.ensures.outcome, all))
+
+pub returns-in_err-listed-clause-ended : goal.returns-in_err-listed-clause-ended
+returns-in_err-listed-clause-ended g c =
+    let fault : LayerFault = c.in_err-listed.field-0.0 in
+    let same : c.from_residual-in_err-listed.result ≡ Err (tool.Layer fault) = search rules in
+    ended_listed c.args.words.now c.as_slice.result.now c.as_slice-2.result.now c.as_slice-3.result.now _ _ _ c.from_residual-in_err-listed.result fault same
+    (λ h. c.in_ok-policy.ensures.ended (subst (λ x. length x ≤ 1048576) c.as_slice.ensures.value h)) (λ h. c.in_ok-passwd.ensures.ended (subst (λ x. length x ≤ 1048576) c.as_slice-2.ensures.value h)) (λ h. c.in_ok-group.ensures.ended (subst (λ x. length x ≤ 1048576) c.as_slice-3.ensures.value h))
+    c.in_err-listed.ensures.outcome
+
+pub returns-in_err-write_all-clause-ended : goal.returns-in_err-write_all-clause-ended
+returns-in_err-write_all-clause-ended g c =
+    ended_written _ _ _ _ (search rules)
+    (whole_ok c.args.words.now c.as_slice.result.now c.as_slice-2.result.now c.as_slice-3.result.now _ _ _
+    (λ h. c.in_ok-policy.ensures.ended (subst (λ x. length x ≤ 1048576) c.as_slice.ensures.value h)) (λ h. c.in_ok-passwd.ensures.ended (subst (λ x. length x ≤ 1048576) c.as_slice-2.ensures.value h)) (λ h. c.in_ok-group.ensures.ended (subst (λ x. length x ≤ 1048576) c.as_slice-3.ensures.value h))
+    (c.in_ok-listed.listed.text.items, c.in_ok-listed.listed.status) c.in_ok-listed.ensures.outcome)
+
+pub returns-clause-ended : goal.returns-clause-ended
+returns-clause-ended g c =
+    whole_ok c.args.words.now c.as_slice.result.now c.as_slice-2.result.now c.as_slice-3.result.now _ _ _
+    (λ h. c.in_ok-policy.ensures.ended (subst (λ x. length x ≤ 1048576) c.as_slice.ensures.value h)) (λ h. c.in_ok-passwd.ensures.ended (subst (λ x. length x ≤ 1048576) c.as_slice-2.ensures.value h)) (λ h. c.in_ok-group.ensures.ended (subst (λ x. length x ≤ 1048576) c.as_slice-3.ensures.value h))
+    (c.in_ok-listed.listed.text.items, c.in_ok-listed.listed.status) c.in_ok-listed.ensures.outcome
+
+pub returns-in_err-listed-clause-given : goal.returns-in_err-listed-clause-given
+returns-in_err-listed-clause-given g c =
+    let w = c.args.words.now in
+    let p = c.as_slice.result.now in
+    let u = c.as_slice-2.result.now in
+    let h = c.as_slice-3.result.now in
+    let fault : LayerFault = c.in_err-listed.field-0.0 in
+    let same : c.from_residual-in_err-listed.result ≡ Err (tool.Layer fault) = search rules in (
+      λ e. c.in_ok-policy.ensures.given (subst (λ x. 1048576 < length x) c.as_slice.ensures.value
+          (policy_is_large c.read_is.ensures w p u h fault c.in_err-listed.ensures.outcome (layer_is _ fault _ same e))),
+      λ e. ⊎_elim (λ l. inl (c.in_ok-passwd.ensures.given (subst (λ x. 1048576 < length x) c.as_slice-2.ensures.value l)))
+          (λ l. inr (c.in_ok-group.ensures.given (subst (λ x. 1048576 < length x) c.as_slice-3.ensures.value l)))
+          (people_are_large w p u h fault c.in_err-listed.ensures.outcome (layer_is _ fault _ same e)),
+    )
