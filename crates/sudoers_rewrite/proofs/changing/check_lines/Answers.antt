@@ -1,4 +1,4 @@
-use Rattle.std.proofs.Common.{◌≡◌, ◌+◌, ◌≤◌, ◌<◌, true, IfErr, OnOk, inr, refl, ap, subst, arith}
+use Rattle.std.proofs.Common.{◌≡◌, ◌+◌, ◌≤◌, ◌<◌, true, OnOk, inr, refl, ap, subst, arith}
 use Rattle.std.proofs.lemmas.Result.{IfErr-weaker}
 use Rattle.sudoers_cvt.specs.Rules.{Rules}
 use Rattle.sudoers_cvt.specs.declared.fault.CvtFault.TheVariants.{TooLarge}

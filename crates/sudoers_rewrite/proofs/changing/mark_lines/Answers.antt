@@ -1,4 +1,4 @@
-use Rattle.std.proofs.Common.{◌≡◌, ◌∙◌, map, subst, ap}
+use Rattle.std.proofs.Common.{◌∙◌, map, ap}
 use Rattle.sudoers_tree.specs.Definition.{definitions}
 use Rattle.sudoers_check.specs.Led.{is_used}
 use Rattle.sudoers_rewrite.proofs.changing.mark_lines.Goals as goal

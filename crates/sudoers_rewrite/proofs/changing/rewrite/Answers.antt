@@ -1,7 +1,7 @@
-use Rattle.std.proofs.Common.{◌≡◌, ◌∙◌, ◌≤◌, true, false, Err, IfErr, rules, sym, ap, subst}
+use Rattle.std.proofs.Common.{◌≡◌, ◌∙◌, true, false, Err, IfErr, rules, sym, ap, subst}
 use Rattle.sudoers_cvt.specs.declared.fault.CvtFault.{CvtFault}
 use Rattle.sudoers_rewrite.specs.Changed.{changes_shown}
-use Rattle.sudoers_rewrite.specs.Count.{lines_count, member_limit}
+use Rattle.sudoers_rewrite.specs.Count.{lines_count}
 use Rattle.sudoers_rewrite.specs.Rewrite.{has_round, member_count, rewritten}
 use Rattle.sudoers_rewrite.specs.Written.{IsRefusal}
 use Rattle.sudoers_rewrite.proofs.Whole.{IsWhole, fault_is}
