@@ -4,7 +4,6 @@ use Rattle.std.proofs.lemmas.Bool.{cases_lt, ltb-true}
 use Rattle.std.specs.List.{position_from}
 use Rattle.std.specs.Option.{option_map, option_or}
 use Rattle.sudoers_text.specs.Fault.{text_limit}
-use Rattle.sudoers_text.specs.declared.fault.TextFault.{TextFault}
 use Rattle.sudoers_text.specs.declared.fault.TextFault.TheVariants as text
 use Rattle.sudoers_tree.specs.Line.{Line}
 use Rattle.sudoers_tree.specs.declared.fault.ReadFault.{ReadFault}
@@ -26,7 +25,7 @@ use Rattle.sudoers_run.specs.declared.fault.LayerFault.TheVariants as layer
 use Rattle.sudoers_run.specs.declared.fault.ToolFault.{ToolFault}
 use Rattle.sudoers_run.specs.declared.fault.ToolFault.TheVariants as tool
 use Rattle.sudoers_run.specs.declared.words.ListWords.{ListWords}
-use Rattle.sudoers_run.specs.List.{AreWhole, AsDefault, IsAnswered, IsAsked, IsListOutcome, OfFirst, OfPeople, OfPolicy, OfRequest, OfWho, OfWords, Outcome, text_shown}
+use Rattle.sudoers_run.specs.List.{AreWhole, AsDefault, IsAnswered, IsAsked, IsListOutcome, OfFirst, OfPolicy, OfRequest, OfWho, OfWords, Outcome, text_shown}
 use Rattle.sudoers_run.proofs.ShowLemmas.{read_large}
 use Rattle.sudoers_run.proofs.ListLemmas.{large_group_file, large_passwd}
 
