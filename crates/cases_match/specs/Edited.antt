@@ -7,7 +7,7 @@ use Rattle.sudoers_verdict.specs.declared.verdict.AskFault.TheVariants.{Cycle, T
 use Rattle.sudoers_edit.specs.declared.edit.Edit.{Edit}
 use Rattle.sudoers_edit.specs.Editing.{run, StopsAt}
 use Rattle.sudoers_edit.specs.Landing.{policy_of}
-use Rattle.sudoers_match.specs.declared.request.Request.{Request}
+use Rattle.sudoers_hits.specs.declared.request.Request.{Request}
 use Rattle.sudoers_match.specs.Answer.{Answer, IsAnswer, argument_limit, joined}
 use Rattle.cases_match.specs.declared.edited.EditedFault.{EditedFault}
 use Rattle.cases_match.specs.declared.edited.EditedFault.TheVariants.{Refused, Asked}

@@ -7,7 +7,7 @@ use Rattle.sudoers_line.specs.declared.node.Kind.{Kind}
 use Rattle.sudoers_tree.specs.Line.{Line}
 use Rattle.sudoers_tree.specs.Physical.{row_behind, column_behind}
 use Rattle.sudoers_tree.specs.Definition.{Definition, definitions, defined}
-use Rattle.sudoers_tree.specs.Kind.{kind_name}
+use Rattle.sudoers_line.specs.Kind.{kind_name}
 use Rattle.sudoers_tree.specs.Policy.{texts}
 use Rattle.sudoers_tree.specs.Fault.{is_some}
 use Rattle.sudoers_check.specs.declared.report.Note.{Note}

@@ -6,7 +6,8 @@ ghost use Rattle.std.specs.Fmt.{decimal};
 ghost use Rattle.sudoers_check.specs.Report.{place_text, name_text, note_text, is_fine as is_fine_report, verdict, report_text as text_of_report};
 
 use std::alloc::{AllocError, Global};
-use sudoers_tree::{Items, Kind, kind_word};
+use sudoers_line::kind_name;
+use sudoers_tree::{Items, Kind};
 
 /// A name in a policy: its physical line and its column in bytes, both from 1.
 #[derive(Debug, Drop)]
@@ -116,7 +117,7 @@ fn append_name(text: &mut Vec<u8>, word: &[u8], note: &Note) -> Result<(), Alloc
 {
     text.extend_from_slice(word)?;
     text.extend_from_slice(b" ")?;
-    text.extend_from_slice(kind_word(note.kind))?;
+    text.extend_from_slice(kind_name(note.kind))?;
     text.extend_from_slice(b" ")?;
     text.extend_from_slice(note.name.as_slice())?;
     text.extend_from_slice(b"\n")

@@ -18,12 +18,11 @@ use crate::fault::CvtFault;
 use crate::heads::append_command;
 use crate::rule::Rule;
 use std::alloc::{AllocError, Global};
-use sudoers_line::Kind;
+use sudoers_line::{Kind, kind_name};
 use sudoers_match::Head;
 use sudoers_print::{append_defaults, append_list};
 use sudoers_reader::{CommandRow, Def, GroupRow, HostGroup, MemberRow, ParamRow, Rows, Scope};
 use sudoers_text::LINE_LIMIT;
-use sudoers_tree::kind_word;
 
 /// Appends the commands of a host group, each with all that holds of it.
 fn append_commands(
@@ -115,7 +114,7 @@ fn append_def(alloc: Global, out: &mut Vec<u8>, kind: Kind, def: &Def<'_>) -> Re
 fn def_line(alloc: Global, kind: Kind, def: &Def<'_>) -> Result<Vec<u8>, AllocError>
     ensures { IfOk result (λ line. line.items ≡ printed_line (one_def kind (def_shown def.now))) }
 {
-    let mut out = Vec::from_slice(alloc, kind_word(kind))?;
+    let mut out = Vec::from_slice(alloc, kind_name(kind))?;
     out.extend_from_slice(b" ")?;
     append_def(alloc, &mut out, kind, def)?;
     out.extend_from_slice(b"\n")?;

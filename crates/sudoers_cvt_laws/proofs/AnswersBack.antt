@@ -11,7 +11,7 @@ use Rattle.sudoers_tree.specs.Policy.{IsPolicy}
 use Rattle.sudoers_tree.specs.Reading.{read_of}
 use Rattle.sudoers_print_laws.specs.Same.{read_back, IsSameMember, AllSame, IsSame, IsSameGroup}
 use Rattle.sudoers_verdict.specs.Alike.{AllAlike, AreAlike, rewritten}
-use Rattle.sudoers_match.specs.declared.request.Request.{Request}
+use Rattle.sudoers_hits.specs.declared.request.Request.{Request}
 use Rattle.sudoers_match.specs.Alike.{MatchesSame, AreDefaultsAlike, AreRowsAlike, AreRowsEqual}
 use Rattle.sudoers_match.specs.Answer.{Answer, Fits, told, IsAnswer}
 use Rattle.sudoers_match.specs.Heads.{Head, no_head, filled}

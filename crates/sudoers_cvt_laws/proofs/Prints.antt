@@ -19,7 +19,7 @@ use Rattle.sudoers_line.specs.declared.node.Node.{Node}
 use Rattle.sudoers_line.specs.declared.node.Node.TheVariants as node
 use Rattle.sudoers_line.specs.declared.pattern.Spelling.TheVariants.{Host as HostName}
 use Rattle.sudoers_line.specs.Atom.{host_atom}
-use Rattle.sudoers_tree.specs.Kind.{kind_name}
+use Rattle.sudoers_line.specs.Kind.{kind_name}
 use Rattle.sudoers_match.specs.Heads.{Head, no_head, inherit, filled, listed, option_of, tag_of}
 use Rattle.sudoers_print.specs.Spelling.{escaped, guarded}
 use Rattle.sudoers_print.specs.Hosts.{reads_as_host, printed_host}

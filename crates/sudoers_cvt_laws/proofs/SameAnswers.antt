@@ -9,7 +9,7 @@ use Rattle.sudoers_tree.specs.Reading.{read_of}
 use Rattle.sudoers_hits.specs.declared.asked.Who.{Who}
 use Rattle.sudoers_print_laws.specs.Same.{read_back, IsSameMember, AllSame, IsSame}
 use Rattle.sudoers_verdict.specs.Alike.{AllAlike, AreAlike, AreAliasesAlike, IsRewritten}
-use Rattle.sudoers_match.specs.declared.request.Request.{Request}
+use Rattle.sudoers_hits.specs.declared.request.Request.{Request}
 use Rattle.sudoers_match.specs.Alike.{MatchesSame, AreDefaultsAlike, AreRowsEqual, AreSpecsAlike}
 use Rattle.sudoers_match.specs.Answer.{Answer, Answers, IsAnswer}
 use Rattle.sudoers_match.specs.Default.{IsRunasDefault}

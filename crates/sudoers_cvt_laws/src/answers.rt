@@ -7,7 +7,7 @@ ghost use Rattle.sudoers_tree.specs.Reading.{read_of};
 ghost use Rattle.sudoers_check.specs.Chains.{HasReachableCycle};
 ghost use Rattle.sudoers_hits.specs.declared.asked.Who.{Who as WhoOf};
 ghost use Rattle.sudoers_print_laws.specs.Same.{read_back};
-ghost use Rattle.sudoers_match.specs.declared.request.Request.{Request as RequestOf};
+ghost use Rattle.sudoers_hits.specs.declared.request.Request.{Request as RequestOf};
 ghost use Rattle.sudoers_match.specs.Alike.{MatchesSame};
 ghost use Rattle.sudoers_match.specs.Answer.{Answer as AnswerOf, IsAnswer};
 ghost use Rattle.sudoers_match.specs.Default.{IsRunasDefault};

@@ -8,3 +8,4 @@ pub mod Stars
 pub mod Passing
 pub mod Left
 pub mod Plain
+pub mod Stamps

@@ -6,3 +6,4 @@ pub mod Wildcard
 pub mod Run
 pub mod Network
 pub mod Hits
+pub mod Moment

@@ -5,12 +5,16 @@ mod asked;
 mod class;
 mod hits;
 mod laws;
+mod moment;
 mod network;
+mod request;
 mod set;
 mod wildcards;
 
 pub use asked::{CommandLine, Group, Person, Who};
 pub use hits::{belongs_to_number, command_hits, group_hits, host_hits, is_same_name, user_hits};
 pub use laws::{escaped_is, plain_first_is, star_is};
+pub use moment::stamp_number;
 pub use network::{Interface, network_hits};
+pub use request::Request;
 pub use wildcards::{GlobMode, glob, glob_as_read};

@@ -26,7 +26,7 @@ use Rattle.sudoers_line.specs.declared.node.Param.{Param}
 use Rattle.sudoers_line.specs.declared.node.Scope.{Scope}
 use Rattle.sudoers_line.specs.declared.node.Node.{Node}
 use Rattle.sudoers_line.specs.declared.node.Node.TheVariants as node
-use Rattle.sudoers_tree.specs.Kind.{kind_name}
+use Rattle.sudoers_line.specs.Kind.{kind_name}
 use Rattle.sudoers_print.specs.Members.{printed_member}
 use Rattle.sudoers_print.specs.Commands.{printed_option, printed_tag}
 use Rattle.sudoers_print.specs.Parameters.{printed_param, scope_mark}

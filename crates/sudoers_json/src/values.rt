@@ -15,11 +15,10 @@ use crate::texts::{member_text, member_texts, option_texts, param_texts, tag_tex
 use serde_json::{Value, json};
 use std::alloc::{AllocError, Global};
 use sudoers_cvt::CvtFault;
-use sudoers_line::Kind;
+use sudoers_line::{Kind, kind_name};
 use sudoers_match::Head;
 use sudoers_print::scope_mark;
 use sudoers_reader::{Def, Member, MemberRow, ParamRow, Rows, RunasSpec, Scope};
-use sudoers_tree::kind_word;
 
 /// Returns a list of `kind` as a value. With `first`, a line begins with it.
 pub fn members_value(
@@ -98,7 +97,7 @@ pub fn def_value(alloc: Global, kind: Kind, def: &Def<'_>) -> Result<Value, CvtF
     ensures unicode { OnOk result (is_unicode (def_value kind (def_shown def.now)) ≡ true) }
     ensures fault { IfErr result (IsFault (is_unicode (def_value kind (def_shown def.now)))) }
 {
-    let word = text_value(alloc, kind_word(kind))?;
+    let word = text_value(alloc, kind_name(kind))?;
     let members = members_value(alloc, false, kind, &def.members)?;
     let name = text_value(alloc, def.name)?;
     Ok(def_object(alloc, word, members, name)?)

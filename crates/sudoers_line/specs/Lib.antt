@@ -1,3 +1,4 @@
+pub mod Kind
 pub mod Piece
 pub mod Seen
 pub mod Number

@@ -8,6 +8,7 @@ mod awaited;
 mod cause;
 mod fault;
 mod items;
+mod kind;
 mod laws;
 mod node;
 mod number;
@@ -21,6 +22,7 @@ pub use awaited::Awaited;
 pub use cause::cause as cause_of;
 pub use fault::{LineFault, Why};
 pub use items::Items;
+pub use kind::kind_name;
 pub use laws::{definitions_ascend, no_fault, one_fault, words_agree};
 pub use node::{
     Address, Args, Atom, CmdSpec, Def, Digest, DigestKind, HostGroup, Kind, Mask, Member, Node,

@@ -11,7 +11,7 @@ use Rattle.sudoers_tree.specs.Line.{Line}
 use Rattle.sudoers_check.specs.Chain.{Has}
 use Rattle.sudoers_hits.specs.declared.asked.Who.{Who}
 use Rattle.sudoers_match.specs.declared.groups.GroupPlace.{GroupPlace}
-use Rattle.sudoers_match.specs.declared.request.Request.{Request}
+use Rattle.sudoers_hits.specs.declared.request.Request.{Request}
 use Rattle.sudoers_match.specs.Answer.{Answer, IsAnswer, told}
 use Rattle.sudoers_match.specs.Groups.{AreHostGroups, GroupPlaces, SpecPlaces, place_of}
 use Rattle.sudoers_match.specs.Heads.{Head, filled, no_head}

@@ -7,7 +7,7 @@ ghost use Rattle.sudoers_tree.specs.Line.{Line as LineOf};
 ghost use Rattle.sudoers_check.specs.Chain.{Has};
 ghost use Rattle.sudoers_hits.specs.declared.asked.Who.{Who as WhoOf};
 ghost use Rattle.sudoers_match.specs.declared.groups.GroupPlace.{GroupPlace as GroupPlaceOf};
-ghost use Rattle.sudoers_match.specs.declared.request.Request.{Request as RequestOf};
+ghost use Rattle.sudoers_hits.specs.declared.request.Request.{Request as RequestOf};
 ghost use Rattle.sudoers_match.specs.Answer.{Answer as AnswerOf, IsAnswer};
 ghost use Rattle.sudoers_match.specs.Groups.{AreHostGroups};
 ghost use Rattle.sudoers_list.specs.Listing.{IsListing, group_at, groups_in};

@@ -18,7 +18,7 @@ use Rattle.sudoers_verdict.specs.declared.verdict.Verdict.{Verdict}
 use Rattle.sudoers_verdict.specs.declared.verdict.Verdict.TheVariants.{Allow}
 use Rattle.sudoers_verdict.specs.Flat.{Signed, is_all, has_none, IsVerdict}
 use Rattle.sudoers_verdict.specs.Alike.{AllAlike, AreAlike}
-use Rattle.sudoers_match.specs.declared.request.Request.{Request}
+use Rattle.sudoers_hits.specs.declared.request.Request.{Request}
 use Rattle.sudoers_match.specs.Alike.{MatchesSame, AreCountedAlike, AreScopesAlike, AreSettingsAlike, AreDefaultsAlike, AreRunasListsAlike, AreRunasAlike, AreRowsAlike, AreRowsEqual, SaysSame}
 use Rattle.sudoers_match.specs.Allows.{Allows}
 use Rattle.sudoers_match.specs.Answer.{Answer, Answers, Fits, is_hit, command_line, freed, told}

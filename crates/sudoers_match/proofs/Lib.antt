@@ -9,7 +9,6 @@ pub mod Valued
 pub mod Rowed
 pub mod Existing
 pub mod Runases
-pub mod Stamps
 pub mod Alike
 pub mod OneAnswer
 pub mod GroupsAlike

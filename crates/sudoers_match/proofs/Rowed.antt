@@ -12,7 +12,7 @@ use Rattle.sudoers_hits.specs.Hits.{user_hits, host_hits, command_hits}
 use Rattle.sudoers_verdict.specs.declared.verdict.Hit.{Hit}
 use Rattle.sudoers_verdict.specs.Flat.{Signed, IsFlat, IsLatest, hit_of, later, last_hit, is_all}
 use Rattle.sudoers_match.specs.declared.rules.Place.{Place}
-use Rattle.sudoers_match.specs.declared.request.Request.{Request}
+use Rattle.sudoers_hits.specs.declared.request.Request.{Request}
 use Rattle.sudoers_match.specs.Allows.{Allows}
 use Rattle.sudoers_match.specs.Answer.{Answer, Answers, Fits, command_line, freed, is_hit, told}
 use Rattle.sudoers_line.specs.declared.node.CmdSpec.{CmdSpec}

@@ -7,7 +7,7 @@ use Rattle.sudoers_hits.specs.declared.asked.CommandLine.{CommandLine}
 use Rattle.sudoers_hits.specs.Hits.{user_hits, host_hits, command_hits}
 use Rattle.sudoers_verdict.specs.Flat.{Signed, is_all, has_none}
 use Rattle.sudoers_match.specs.declared.tags.Tags.{Tags}
-use Rattle.sudoers_match.specs.declared.request.Request.{Request}
+use Rattle.sudoers_hits.specs.declared.request.Request.{Request}
 use Rattle.sudoers_match.specs.declared.rules.Answer.{Answer as AnswerHeld}
 use Rattle.sudoers_match.specs.Allows.{Allows}
 use Rattle.sudoers_match.specs.Heads.{tags_of}

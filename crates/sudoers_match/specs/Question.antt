@@ -14,7 +14,7 @@ use Rattle.sudoers_verdict.specs.declared.walk.Verdicts.{Verdicts}
 use Rattle.sudoers_verdict.specs.Search.{Remembers}
 use Rattle.sudoers_match.specs.declared.question.Question.{Question}
 use Rattle.sudoers_match.specs.declared.rules.Place.{Place}
-use Rattle.sudoers_match.specs.declared.request.Request.{Request}
+use Rattle.sudoers_hits.specs.declared.request.Request.{Request}
 use Rattle.sudoers_match.specs.Answer.{Answer, Answers, command_line, freed}
 use Rattle.sudoers_match.specs.Default.{IsRunasDefault}
 use Rattle.sudoers_match.specs.declared.head.Head.{Head as HeadHeld}

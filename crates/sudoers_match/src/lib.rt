@@ -19,14 +19,13 @@ pub use answering::answer;
 pub use defaults::runas_default;
 pub use groups::{GroupPlace, host_groups};
 pub use head::Head;
-pub use moment::stamp_number;
 pub use options::Options;
 pub use policies::{
     alike_defaults_are_same, alike_rows_answer, alike_rows_fit, alike_specs_have_same_groups,
     one_answer, one_head, one_list_of_host_groups, one_runas_default,
 };
-pub use request::{Request, join_words};
+pub use request::join_words;
 pub use rules::Answer;
-pub use sudoers_hits::{Group, Interface, Person, Who};
+pub use sudoers_hits::{Group, Interface, Person, Request, Who};
 pub use sudoers_verdict::AskFault;
 pub use tags::Tags;

@@ -5,7 +5,7 @@ ghost use Rattle.sudoers_line.specs.declared.node.Atom.{Atom as AtomOf};
 ghost use Rattle.sudoers_tree.specs.Line.{Line as LineOf};
 ghost use Rattle.sudoers_hits.specs.declared.asked.Who.{Who as WhoOf};
 ghost use Rattle.sudoers_verdict.specs.Alike.{AllAlike};
-ghost use Rattle.sudoers_match.specs.declared.request.Request.{Request as RequestOf};
+ghost use Rattle.sudoers_hits.specs.declared.request.Request.{Request as RequestOf};
 ghost use Rattle.sudoers_match.specs.Alike.{AreDefaultsAlike, AreRowsAlike, AreRowsEqual, AreSpecsAlike, MatchesSame, SaysSame};
 ghost use Rattle.sudoers_match.specs.Answer.{Answer as AnswerOf, Answers, Fits, IsAnswer};
 ghost use Rattle.sudoers_match.specs.Default.{IsRunasDefault};

@@ -5,8 +5,8 @@ use Rattle.std.specs.Str.{bytes_eq}
 use Rattle.sudoers_line.specs.Number.{is_stamp}
 use Rattle.sudoers_hits.specs.declared.asked.Group.{Group}
 use Rattle.sudoers_hits.specs.declared.asked.Who.{Who}
-use Rattle.sudoers_match.specs.declared.request.Request.{Request}
-use Rattle.sudoers_match.specs.Moment.{stamp_number}
+use Rattle.sudoers_hits.specs.declared.request.Request.{Request}
+use Rattle.sudoers_hits.specs.Moment.{stamp_number}
 use Rattle.sudoers_people.specs.declared.account.Account.{Account}
 use Rattle.sudoers_people.specs.declared.account.GroupRow.{GroupRow}
 use Rattle.sudoers_people.specs.declared.fault.WhoFault.{WhoFault}

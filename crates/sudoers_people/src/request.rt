@@ -13,9 +13,8 @@ use crate::fault::WhoFault;
 use crate::people::People;
 use crate::person::{find_account, person_of};
 use std::alloc::{AllocError, Global};
-use sudoers_hits::{Group, Who};
+use sudoers_hits::{Group, Request, Who, stamp_number};
 use sudoers_line::{Items, is_stamp};
-use sudoers_match::{Request, stamp_number};
 
 /// Returns the group with the name `name`.
 fn find_group<'a>(people: &'a People, name: &[u8]) -> Option<&'a GroupRow>

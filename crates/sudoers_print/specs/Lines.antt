@@ -8,7 +8,7 @@ use Rattle.sudoers_line.specs.declared.node.Def.{Def}
 use Rattle.sudoers_line.specs.declared.node.HostGroup.{HostGroup}
 use Rattle.sudoers_line.specs.declared.node.Node.{Node}
 use Rattle.sudoers_line.specs.declared.node.Node.TheVariants as node
-use Rattle.sudoers_tree.specs.Kind.{kind_name}
+use Rattle.sudoers_line.specs.Kind.{kind_name}
 use Rattle.sudoers_print.specs.Members.{printed_list}
 use Rattle.sudoers_print.specs.Commands.{printed_command}
 use Rattle.sudoers_print.specs.Parameters.{printed_defaults}

@@ -20,7 +20,7 @@ use Rattle.sudoers_line.specs.declared.node.Member.{Member}
 use Rattle.sudoers_line.specs.declared.node.Node.TheVariants as node
 use Rattle.sudoers_line.specs.Piece.{Piece, pieces, kind_word, is_alias_name}
 use Rattle.sudoers_line.specs.Grammar.{IsEnd, IsList, Reads, list_stop}
-use Rattle.sudoers_tree.specs.Kind.{kind_name}
+use Rattle.sudoers_line.specs.Kind.{kind_name}
 use Rattle.sudoers_print.specs.Members.{printed_list}
 use Rattle.sudoers_print.specs.Lines.{printed_line}
 use Rattle.sudoers_print_laws.specs.Same.{IsSameMember, IsSameDef, AllSame, ReadsBack}

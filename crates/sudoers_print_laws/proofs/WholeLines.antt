@@ -25,7 +25,7 @@ use Rattle.sudoers_line.specs.declared.node.Param.{Param}
 use Rattle.sudoers_line.specs.declared.node.Scope.{Scope}
 use Rattle.sudoers_line.specs.declared.node.Node.{Node}
 use Rattle.sudoers_line.specs.declared.node.Node.TheVariants as node
-use Rattle.sudoers_tree.specs.Kind.{kind_name}
+use Rattle.sudoers_line.specs.Kind.{kind_name}
 use Rattle.sudoers_print.specs.Spelling.{spelled}
 use Rattle.sudoers_print.specs.Members.{sign, printed_member, printed_list}
 use Rattle.sudoers_print.specs.Commands.{printed_inside, printed_runas, printed_front, option_word, printed_option_value, printed_option, tag_word, printed_tag, printed_options, printed_tags, printed_command}

@@ -11,7 +11,7 @@ use Rattle.sudoers_hits.specs.declared.asked.Who.{Who}
 use Rattle.sudoers_print_laws.specs.Same.{read_back, IsSameMember, AllSame, IsSame}
 use Rattle.sudoers_verdict.specs.Alike.{AllAlike, AreAlike}
 use Rattle.sudoers_match.specs.declared.groups.GroupPlace.{GroupPlace}
-use Rattle.sudoers_match.specs.declared.request.Request.{Request}
+use Rattle.sudoers_hits.specs.declared.request.Request.{Request}
 use Rattle.sudoers_match.specs.Alike.{MatchesSame, AreDefaultsAlike, AreRowsEqual, SaysSame}
 use Rattle.sudoers_match.specs.Answer.{Answer, Fits, told, IsAnswer}
 use Rattle.sudoers_match.specs.Default.{IsRunasDefault}

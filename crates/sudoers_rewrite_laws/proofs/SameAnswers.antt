@@ -8,7 +8,7 @@ use Rattle.sudoers_check.specs.Chains.{HasReachableCycle}
 use Rattle.sudoers_hits.specs.declared.asked.Who.{Who}
 use Rattle.sudoers_verdict.specs.Alike.{AllAlike}
 use Rattle.sudoers_match.specs.declared.groups.GroupPlace.{GroupPlace}
-use Rattle.sudoers_match.specs.declared.request.Request.{Request}
+use Rattle.sudoers_hits.specs.declared.request.Request.{Request}
 use Rattle.sudoers_match.specs.Alike.{MatchesSame, AreDefaultsAlike, AreRowsAlike, AreSpecsAlike, SaysSame}
 use Rattle.sudoers_match.specs.Answer.{Answer, Answers, Fits, told, IsAnswer}
 use Rattle.sudoers_match.specs.Default.{defaults_of, IsRunasDefault}

@@ -11,7 +11,7 @@ use Rattle.sudoers_tree.specs.declared.fault.ReadFault.TheVariants as read
 use Rattle.sudoers_tree.specs.Reading.{IsOutcome, read_of}
 use Rattle.sudoers_hits.specs.declared.asked.Who.{Who}
 use Rattle.sudoers_verdict.specs.declared.verdict.AskFault.TheVariants.{Cycle}
-use Rattle.sudoers_match.specs.declared.request.Request.{Request}
+use Rattle.sudoers_hits.specs.declared.request.Request.{Request}
 use Rattle.sudoers_people.specs.declared.fault.PeopleFile.TheVariants.{Passwd, Group}
 use Rattle.sudoers_people.specs.declared.fault.PeopleFault.{PeopleFault}
 use Rattle.sudoers_people.specs.declared.fault.PeopleFault.TheVariants as people

@@ -8,7 +8,7 @@ use Rattle.sudoers_line.specs.declared.fault.Why.TheVariants as why
 use Rattle.sudoers_line.specs.declared.node.Kind.{Kind}
 use Rattle.sudoers_tree.specs.declared.fault.ReadFault.{ReadFault}
 use Rattle.sudoers_tree.specs.declared.fault.ReadFault.TheVariants as read
-use Rattle.sudoers_tree.specs.Kind.{kind_name}
+use Rattle.sudoers_line.specs.Kind.{kind_name}
 use Rattle.sudoers_edit.specs.declared.edit.EditFault.{EditFault}
 use Rattle.sudoers_edit.specs.declared.edit.EditFault.TheVariants as edit
 use Rattle.sudoers_edit.specs.declared.script.ScriptFault.{ScriptFault}

@@ -11,7 +11,7 @@ use Rattle.sudoers_tree.specs.Reading.{read_of}
 use Rattle.sudoers_check.specs.Chains.{HasReachableCycle}
 use Rattle.sudoers_hits.specs.declared.asked.Who.{Who}
 use Rattle.sudoers_verdict.specs.declared.verdict.AskFault.TheVariants.{Cycle, TooLong}
-use Rattle.sudoers_match.specs.declared.request.Request.{Request}
+use Rattle.sudoers_hits.specs.declared.request.Request.{Request}
 use Rattle.sudoers_match.specs.Answer.{Answer, IsAnswer, argument_limit, joined}
 use Rattle.sudoers_match.specs.Default.{IsRunasDefault}
 use Rattle.sudoers_people.specs.People.{People, people_told}

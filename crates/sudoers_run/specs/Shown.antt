@@ -9,7 +9,8 @@ use Rattle.sudoers_line.specs.declared.node.Node.TheVariants as node
 use Rattle.sudoers_tree.specs.declared.kind.LineKind.{LineKind}
 use Rattle.sudoers_tree.specs.declared.kind.LineKind.TheVariants as kind
 use Rattle.sudoers_tree.specs.Line.{Line}
-use Rattle.sudoers_tree.specs.Kind.{line_kind, kind_name}
+use Rattle.sudoers_line.specs.Kind.{kind_name}
+use Rattle.sudoers_tree.specs.Kind.{line_kind}
 
 abbrev pub kind_word : LineKind → List ℕ
 kind_word kind.Blank = codes "blank"

@@ -7,12 +7,12 @@ use crate::fault::{LayerFault, ToolFault};
 use std::alloc::{AllocError, Global};
 use sudoers_cvt::CvtFault;
 use sudoers_edit::{EditFault, ScriptFault};
-use sudoers_line::{Kind, Why};
+use sudoers_line::{Kind, Why, kind_name};
 use sudoers_people::{PeopleFault, PeopleFile, WhoFault};
 use sudoers_print::append_number;
 use sudoers_rewrite::FilterFault;
 use sudoers_text::TextFault;
-use sudoers_tree::{ReadFault, kind_word};
+use sudoers_tree::ReadFault;
 use sudoers_verdict::AskFault;
 
 /// The text that is shown for a fault, without LF. `file` is the policy's name in it.
@@ -137,7 +137,7 @@ pub fn read_fault_text(alloc: Global, fault: &ReadFault, file: &[u8]) -> Result<
         }
         ReadFault::TooMany { kind } => {
             let mut text = concat(alloc, file, b": too many ")?;
-            text.extend_from_slice(kind_word(*kind))?;
+            text.extend_from_slice(kind_name(*kind))?;
             Ok(text)
         }
         ReadFault::NoMemory => Vec::from_slice(alloc, b"NoMemory"),
@@ -173,7 +173,7 @@ fn at_name(
     ensures { IfOk result (λ text. text.items ≡ name_text file.now kind name.now ++ wrong.now) }
 {
     let mut text = concat(alloc, file, b": ")?;
-    text.extend_from_slice(kind_word(kind))?;
+    text.extend_from_slice(kind_name(kind))?;
     text.extend_from_slice(b" ")?;
     text.extend_from_slice(name)?;
     text.extend_from_slice(wrong)?;

@@ -12,10 +12,11 @@ use crate::device::{Sink, Source};
 use crate::fault::{LayerFault, ToolFault};
 use crate::program::{read_all, write_all};
 use std::alloc::{AllocError, Global};
+use sudoers_line::kind_name;
 use sudoers_print::append_number;
 use sudoers_text::{TEXT_LIMIT, TextFault};
 use sudoers_tree::{
-    Def, DefRow, Kind, Line, LineKind, Node, Policy, ReadFault, Rows, kind_word, lf_count,
+    Def, DefRow, Kind, Line, LineKind, Node, Policy, ReadFault, Rows, lf_count,
 };
 
 /// Reads a policy file, and writes for each of its lines its number, its kind and the number of its first physical line, and
@@ -144,7 +145,7 @@ fn append_def(
     append_number(alloc, out, numbers.0)?;
     out.extend_from_slice(b".")?;
     append_number(alloc, out, numbers.1)?;
-    append_between_blanks(out, kind_word(kind))?;
+    append_between_blanks(out, kind_name(kind))?;
     out.extend_from_slice(def.name)?;
     out.extend_from_slice(b" ")?;
     append_number(alloc, out, def.members.rows.len())?;

@@ -5,7 +5,7 @@ use Rattle.sudoers_tree.specs.Reading.{read_of}
 use Rattle.sudoers_check.specs.Chains.{HasReachableCycle}
 use Rattle.sudoers_hits.specs.declared.asked.Who.{Who}
 use Rattle.sudoers_match.specs.declared.groups.GroupPlace.{GroupPlace}
-use Rattle.sudoers_match.specs.declared.request.Request.{Request}
+use Rattle.sudoers_hits.specs.declared.request.Request.{Request}
 use Rattle.sudoers_match.specs.Alike.{SaysSame}
 use Rattle.sudoers_match.specs.Answer.{Answer, IsAnswer}
 use Rattle.sudoers_match.specs.Default.{IsRunasDefault}

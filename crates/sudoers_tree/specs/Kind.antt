@@ -1,7 +1,4 @@
--- The kinds of lines, and the words for the kinds of aliases.
-use Rattle.std.specs.Prelude.{ℕ, List, codes}
-use Rattle.sudoers_line.specs.declared.node.Kind.{Kind}
-use Rattle.sudoers_line.specs.declared.node.Kind.TheVariants as kind
+-- The kinds of lines.
 use Rattle.sudoers_line.specs.declared.node.Node.{Node}
 use Rattle.sudoers_line.specs.declared.node.Node.TheVariants as node
 use Rattle.sudoers_tree.specs.declared.kind.LineKind.{LineKind}
@@ -15,10 +12,3 @@ line_kind (node.Include dir path) = Include
 line_kind (node.Defaults scope params) = Defaults
 line_kind (node.Alias k defs) = Alias
 line_kind (node.Spec users groups) = Spec
-
--- the word with which definitions of this kind begin (sudoers(5), Aliases)
-abbrev pub kind_name : Kind → List ℕ
-kind_name kind.User = codes "User_Alias"
-kind_name kind.Runas = codes "Runas_Alias"
-kind_name kind.Host = codes "Host_Alias"
-kind_name kind.Cmnd = codes "Cmnd_Alias"

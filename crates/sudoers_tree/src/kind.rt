@@ -1,10 +1,9 @@
-//! The kinds of lines, and the words for the kinds of aliases.
+//! The kinds of lines.
 
 ghost use Rattle.std.specs.Prelude.{◌≡◌};
 ghost use Rattle.sudoers_reader.specs.View.{node_shown};
-ghost use Rattle.sudoers_tree.specs.Kind.{line_kind, kind_name};
+ghost use Rattle.sudoers_tree.specs.Kind.{line_kind};
 
-use sudoers_line::Kind;
 use sudoers_reader::Node;
 
 /// What sort of line it is (sudoers(5), SUDOERS FILE FORMAT).
@@ -37,17 +36,5 @@ impl LineKind {
             Node::Alias { .. } => LineKind::Alias,
             Node::Spec { .. } => LineKind::Spec,
         }
-    }
-}
-
-/// The word with which definitions of this kind begin (sudoers(5), Aliases).
-pub fn kind_word(kind: Kind) -> &'static [u8]
-    ensures { result.now ≡ kind_name kind }
-{
-    match kind {
-        Kind::User => b"User_Alias",
-        Kind::Runas => b"Runas_Alias",
-        Kind::Host => b"Host_Alias",
-        Kind::Cmnd => b"Cmnd_Alias",
     }
 }

@@ -22,7 +22,7 @@ pub use changed::{
 };
 pub use fault::ReadFault;
 pub use index::ALIAS_LIMIT;
-pub use kind::{LineKind, kind_word};
+pub use kind::LineKind;
 pub use laws::{lines_are_said, members_are_listed, one_outcome, policy_is_cut, read_is};
 pub use line::{Line, LineRow};
 pub use mention::is_kind;

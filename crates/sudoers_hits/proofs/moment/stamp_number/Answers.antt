@@ -1,7 +1,7 @@
 use Rattle.std.proofs.Common.{◌+◌, ◌-◌, ◌*◌, drop, ap, ◌∙◌, arith}
-use Rattle.sudoers_match.specs.Moment.{number_from}
-use Rattle.sudoers_match.proofs.Stamps.{digit_more, small_more, small_enough}
-use Rattle.sudoers_match.proofs.moment.stamp_number.Goals as goal
+use Rattle.sudoers_hits.specs.Moment.{number_from}
+use Rattle.sudoers_hits.proofs.Stamps.{digit_more, small_more, small_enough}
+use Rattle.sudoers_hits.proofs.moment.stamp_number.Goals as goal
 
 pub overflow_mul-number : goal.overflow_mul-number
 overflow_mul-number c =

@@ -3,7 +3,7 @@ use Rattle.std.proofs.Common.{◌≡◌, ℕ, zero, suc, ◌+◌, ◌-◌, ◌*�
 use Rattle.std.proofs.Math.Nat.{pow-le-pow_right}
 use Rattle.std.proofs.Math.Numerals.{add-one}
 use native.Mathlib.Nat.{pow-suc}
-use Rattle.sudoers_match.specs.Moment.{digit_in, number_from, stamp_number}
+use Rattle.sudoers_hits.specs.Moment.{digit_in, number_from, stamp_number}
 
 step : (n number : ℕ) (text : List ℕ) (place : ℕ) → number_from (suc n) number (drop place text) ≡ number_from n (number * 10 + digit_in (slice_get text place)) (drop (suc place) text)
 step n number [] zero = let e : number * 10 ≡ number * 10 + 0 = omega arith in ap (λ x. number_from n x []) e

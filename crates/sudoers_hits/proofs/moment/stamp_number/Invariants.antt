@@ -1,6 +1,6 @@
 use Rattle.std.proofs.Common.{◌≡◌, ◌≤◌, ◌<◌, ◌-◌, ◌^◌, drop}
-use Rattle.sudoers_match.specs.Moment.{number_from, stamp_number}
-use Rattle.sudoers_match.proofs.moment.stamp_number.Given as goal
+use Rattle.sudoers_hits.specs.Moment.{number_from, stamp_number}
+use Rattle.sudoers_hits.proofs.moment.stamp_number.Given as goal
 
 abbrev pub invariant-loop-place : goal.invariant-loop-place
 invariant-loop-place l = record {
