@@ -1,0 +1,89 @@
+//! What a list says, and what a policy answers.
+
+ghost use Rattle.std.specs.Prelude.{◌≡◌, ◌<◌, ◌≤◌, ◌⊎◌, length, IfOk, IfErr};
+ghost use Rattle.std.specs.Option.{option_map};
+ghost use Rattle.sudoers_check.specs.Chains.{HasReachableCycle};
+ghost use Rattle.sudoers_match.specs.Answer.{IsAnswer, answer_shown, argument_limit, joined};
+ghost use Rattle.sudoers_match.specs.Default.{IsRunasDefault};
+ghost use Rattle.sudoers_match.specs.Groups.{AreHostGroups};
+ghost use Rattle.sudoers_reader.specs.View.{members_shown};
+ghost use Rattle.sudoers_verdict.specs.declared.verdict.AskFault.TheVariants.{Cycle, TooLong, NoMemory};
+ghost use Rattle.sudoers_verdict.specs.Cycle.{LeadsToCycle};
+ghost use Rattle.sudoers_verdict.specs.Flat.{IsVerdict};
+
+use std::alloc::Global;
+use sudoers_match::{
+    Answer, AskFault, GroupPlace, Request, Who, answer, host_groups, runas_default,
+};
+use sudoers_reader::{MemberRow, Rows};
+use sudoers_tree::{Kind, Policy};
+use sudoers_verdict::{MemberKind, Verdict, decide};
+
+/// Returns what a list of members says of what is asked.
+///
+/// # Errors
+///
+/// `Cycle`: the list or a reachable alias leads to a cycle. Or memory ran out.
+pub fn decide_list<K: MemberKind>(
+    alloc: Global,
+    policy: &Policy,
+    kind: Kind,
+    members: &Rows<'_, MemberRow>,
+    asked: &K::Asked,
+) -> Result<Verdict, AskFault>
+    ensures verdict { IfOk result (λ verdict. IsVerdict kind policy.now (K.test asked.now) (members_shown members.now) verdict) }
+    ensures straight { IfOk result (λ verdict. (HasReachableCycle policy.now ⊎ LeadsToCycle kind policy.now (members_shown members.now)) → ⊥) }
+    ensures fault { IfErr result (λ fault. (fault ≡ NoMemory)
+        ⊎ ((fault ≡ Cycle) × (HasReachableCycle policy.now ⊎ LeadsToCycle kind policy.now (members_shown members.now)))) }
+{
+    decide::<K>(alloc, policy, kind, members, asked)
+}
+
+/// Returns the answer of `policy` to `request`: that of the last row that fits.
+///
+/// # Errors
+///
+/// `Cycle`: a reachable alias is cyclic. `TooLong`: the arguments are. Or memory ran out.
+pub fn answer_request<'a>(
+    alloc: Global,
+    policy: &'a Policy,
+    request: &Request,
+) -> Result<Option<Answer<'a>>, AskFault>
+    ensures answer { IfOk result (λ answer. IsAnswer policy.now request.now (option_map answer_shown answer)) }
+    ensures straight { IfOk result (λ _. HasReachableCycle policy.now → ⊥) }
+    ensures short { IfOk result (λ _. length (joined request.now.args) ≤ argument_limit) }
+    ensures fault { IfErr result (λ fault. (fault ≡ NoMemory) ⊎ (((fault ≡ Cycle) × HasReachableCycle policy.now)
+        ⊎ ((fault ≡ TooLong) × (HasReachableCycle policy.now → ⊥) × (argument_limit < length (joined request.now.args))))) }
+{
+    answer(alloc, policy, request)
+}
+
+/// Returns the name of the user as whom commands run by default.
+///
+/// # Errors
+///
+/// `Cycle`: a reachable alias is cyclic. Or memory ran out.
+pub fn default_user<'a>(alloc: Global, policy: &'a Policy, who: &Who) -> Result<&'a [u8], AskFault>
+    ensures name { IfOk result (λ name. IsRunasDefault policy.now who.now name.now) }
+    ensures straight { IfOk result (λ _. HasReachableCycle policy.now → ⊥) }
+    ensures fault { IfErr result (λ fault. (fault ≡ NoMemory) ⊎ ((fault ≡ Cycle) × HasReachableCycle policy.now)) }
+{
+    runas_default(alloc, policy, who)
+}
+
+/// Returns the places of the host groups for `who`.
+///
+/// # Errors
+///
+/// `Cycle`: a reachable alias is cyclic. Or memory ran out.
+pub fn groups_of_hosts(
+    alloc: Global,
+    policy: &Policy,
+    who: &Who,
+) -> Result<Vec<GroupPlace>, AskFault>
+    ensures groups { IfOk result (λ places. AreHostGroups policy.now who.now places.items) }
+    ensures straight { IfOk result (λ _. HasReachableCycle policy.now → ⊥) }
+    ensures fault { IfErr result (λ fault. (fault ≡ NoMemory) ⊎ ((fault ≡ Cycle) × HasReachableCycle policy.now)) }
+{
+    host_groups(alloc, policy, who)
+}

@@ -1,0 +1,46 @@
+//! What a user may run on a host, and the rule that decides.
+
+ghost use Rattle.std.specs.Prelude.{◌≡◌, ◌⊎◌, IfOk, IfErr};
+ghost use Rattle.std.specs.Option.{option_map};
+ghost use Rattle.sudoers_check.specs.Chains.{HasReachableCycle};
+ghost use Rattle.sudoers_list.specs.Listing.{IsListing};
+ghost use Rattle.sudoers_list.specs.Reason.{IsReason};
+ghost use Rattle.sudoers_match.specs.Answer.{answer_shown};
+ghost use Rattle.sudoers_verdict.specs.declared.verdict.AskFault.TheVariants.{Cycle, NoMemory};
+
+use std::alloc::Global;
+use sudoers_list::{explain, list};
+use sudoers_match::{Answer, AskFault, Who};
+use sudoers_tree::Policy;
+
+/// Returns what `who` may run on his host, as a text.
+///
+/// # Errors
+///
+/// `Cycle`: a reachable alias is cyclic. Or memory ran out.
+pub fn list_rules(alloc: Global, policy: &Policy, who: &Who) -> Result<Vec<u8>, AskFault>
+    ensures text { IfOk result (λ text. IsListing policy.now who.now text.items) }
+    ensures straight { IfOk result (λ _. HasReachableCycle policy.now → ⊥) }
+    ensures fault { IfErr result (λ fault. (fault ≡ NoMemory) ⊎ ((fault ≡ Cycle) × HasReachableCycle policy.now)) }
+{
+    list(alloc, policy, who)
+}
+
+/// Returns the rule that decides, as a text.
+///
+/// # Errors
+///
+/// `Cycle`: a reachable alias is cyclic. Or memory ran out.
+pub fn explain_answer(
+    alloc: Global,
+    policy: &Policy,
+    who: &Who,
+    answer: Option<Answer<'_>>,
+    file: &[u8],
+) -> Result<Vec<u8>, AskFault>
+    ensures text { IfOk result (λ text. IsReason policy.now who.now file.now (option_map answer_shown answer.entry) text.items) }
+    ensures straight { IfOk result (λ _. HasReachableCycle policy.now → ⊥) }
+    ensures fault { IfErr result (λ fault. (fault ≡ NoMemory) ⊎ ((fault ≡ Cycle) × HasReachableCycle policy.now)) }
+{
+    explain(alloc, policy, who, answer, file)
+}

@@ -1,0 +1,46 @@
+//! What a filter keeps of a policy, and the policy without aliases.
+
+ghost use Rattle.std.specs.Prelude.{◌≡◌, ◌⊎◌, ◌≤◌, ◌<◌, true, false, Ok, Err, IfOk, IfErr};
+ghost use Rattle.sudoers_cvt.specs.declared.fault.CvtFault.TheVariants.{Cycle, NoMemory, TooLarge};
+ghost use Rattle.sudoers_rewrite.specs.declared.filter_text.FilterFault.TheVariants as FilterFault;
+ghost use Rattle.sudoers_rewrite.specs.Changed.{changes_shown};
+ghost use Rattle.sudoers_rewrite.specs.Count.{member_limit};
+ghost use Rattle.sudoers_rewrite.specs.FilterText.{filter_of};
+ghost use Rattle.sudoers_rewrite.specs.Rewrite.{has_round, member_count, rewritten};
+
+use std::alloc::Global;
+use sudoers_cvt::CvtFault;
+use sudoers_rewrite::{Changes, Filter, FilterFault, Rewritten, read_filter, rewrite};
+use sudoers_tree::Policy;
+
+/// Returns the filter that `text` is.
+///
+/// # Errors
+///
+/// The first fault of the text, or memory ran out.
+pub fn filter_of_text(alloc: Global, text: &[u8]) -> Result<Filter, FilterFault>
+    ensures filter { IfOk result (λ filter. filter_of text.now ≡ Ok filter) }
+    ensures fault { IfErr result (λ fault. (fault ≡ FilterFault.NoMemory) ⊎ (filter_of text.now ≡ Err fault)) }
+{
+    read_filter(alloc, text)
+}
+
+/// Returns the lines of `policy` after `changes`.
+///
+/// # Errors
+///
+/// `Cycle`: a reachable alias is cyclic. `TooLarge`: the aliases give too many members. Or memory ran out.
+pub fn rewrite_policy(
+    alloc: Global,
+    policy: &Policy,
+    changes: &Changes<'_>,
+) -> Result<Rewritten, CvtFault>
+    ensures lines { IfOk result (λ new. new ≡ rewritten (changes_shown changes.now) policy.now) }
+    ensures straight { IfOk result (λ new. has_round policy.now ≡ false) }
+    ensures fits { IfOk result (λ new. changes.now.expand ≡ true → member_count new ≤ member_limit) }
+    ensures fault { IfErr result (λ fault. (fault ≡ NoMemory) ⊎ (((fault ≡ Cycle) × (has_round policy.now ≡ true))
+        ⊎ ((fault ≡ TooLarge) × (has_round policy.now ≡ false) × (changes.now.expand ≡ true)
+        × (member_limit < member_count (rewritten (changes_shown changes.now) policy.now))))) }
+{
+    rewrite(alloc, policy, changes)
+}

@@ -1,0 +1,60 @@
+//! The rules of a policy as a policy and as JSON.
+
+ghost use Rattle.std.specs.Prelude.{◌≡◌, ◌⊎◌, false, true, IfOk, OnOk, IfErr};
+ghost use Rattle.sudoers_cvt.specs.declared.fault.CvtFault.TheVariants.{TooLarge, NotUtf8, NoMemory};
+ghost use Rattle.sudoers_cvt.specs.Effective.{effective_command};
+ghost use Rattle.sudoers_cvt.specs.Rules.{fits, printed};
+ghost use Rattle.sudoers_json.specs.Unicode.{is_unicode};
+ghost use Rattle.sudoers_json.specs.Value.{rules_value, json_text};
+ghost use Rattle.sudoers_match.specs.Heads.{Head as HeadOf};
+ghost use Rattle.sudoers_match.specs.IsHead.{IsHead};
+ghost use Rattle.sudoers_print.specs.Commands.{printed_command};
+ghost use Rattle.sudoers_reader.specs.View.{member_shown};
+
+use std::alloc::{AllocError, Global};
+use sudoers_cvt::{CvtFault, Rules, print, print_command};
+use sudoers_json::json;
+use sudoers_match::Head;
+use sudoers_reader::Member;
+
+/// Returns the text of `rules` as a policy.
+///
+/// # Errors
+///
+/// `TooLarge`: the text or one of its lines passes its limit. Or memory ran out.
+pub fn text_of_rules(alloc: Global, rules: &Rules<'_>) -> Result<Vec<u8>, CvtFault>
+    ensures text { IfOk result (λ text. text.items ≡ printed rules.now) }
+    ensures fits { OnOk result (fits rules.now ≡ true) }
+    ensures fault { IfErr result (λ fault. (fault ≡ NoMemory) ⊎ ((fault ≡ TooLarge) × (fits rules.now ≡ false))) }
+{
+    print(alloc, rules)
+}
+
+/// Returns the text of a command with what it inherits.
+///
+/// # Errors
+///
+/// Memory ran out.
+pub fn command_text(
+    alloc: Global,
+    head: &Head<'_>,
+    command: &Member<'_>,
+) -> Result<Vec<u8>, AllocError>
+    ensures { IfOk result (λ text. (h : HeadOf) → IsHead head.now h
+        → text.items ≡ printed_command (effective_command (h, member_shown command.now))) }
+{
+    print_command(alloc, head, command)
+}
+
+/// Returns `rules` as JSON.
+///
+/// # Errors
+///
+/// `NotUtf8`: one of their texts is not UTF-8. Or memory ran out.
+pub fn json_of_rules(alloc: Global, rules: &Rules<'_>) -> Result<Vec<u8>, CvtFault>
+    ensures text { IfOk result (λ text. text.items ≡ json_text rules.now) }
+    ensures unicode { OnOk result (is_unicode (rules_value rules.now) ≡ true) }
+    ensures fault { IfErr result (λ fault. (fault ≡ NoMemory) ⊎ ((fault ≡ NotUtf8) × (is_unicode (rules_value rules.now) ≡ false))) }
+{
+    json(alloc, rules)
+}

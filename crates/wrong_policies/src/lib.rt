@@ -1,0 +1,14 @@
+//! Calls of the libraries that read and check a policy, each with a clause that its library promises.
+#![tactic(auto)]
+
+mod checks;
+mod lines;
+mod policies;
+mod texts;
+
+pub use checks::{check_policy, find_cycle, is_fine_report, report_of_policy};
+pub use lines::{aliases_of_line, reading_of_line};
+pub use policies::{
+    definition_of, insert_line, mentions_of, policy_text, read_policy, reread_policy,
+};
+pub use texts::{cut_text, line_tokens, word_value};

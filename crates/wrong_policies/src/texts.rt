@@ -1,0 +1,42 @@
+//! Lines, tokens and words of a text.
+
+ghost use Rattle.std.specs.Prelude.{◌≡◌, IfOk};
+ghost use Rattle.sudoers_text.specs.Cut.{cut_of, CutGives};
+ghost use Rattle.sudoers_text.specs.Found.{tokens_of};
+ghost use Rattle.sudoers_text.specs.Value.{value_of};
+
+use std::alloc::{AllocError, Global};
+use sudoers_text::{Lines, Mode, TextFault, Token, cut, tokens, value};
+
+/// Returns the logical lines of `text`.
+///
+/// # Errors
+///
+/// Those of `cut`.
+pub fn cut_text(alloc: Global, text: &[u8]) -> Result<Lines<'_>, TextFault>
+    ensures { CutGives result (cut_of text.now) }
+{
+    cut(alloc, text)
+}
+
+/// Returns the tokens of `line` in `mode`.
+///
+/// # Errors
+///
+/// Memory ran out.
+pub fn line_tokens(alloc: Global, line: &[u8], mode: Mode) -> Result<Vec<Token>, TextFault>
+    ensures { IfOk result (λ tokens. tokens.items ≡ tokens_of mode line.now) }
+{
+    tokens(alloc, line, mode)
+}
+
+/// Returns the value of `word`.
+///
+/// # Errors
+///
+/// Memory ran out.
+pub fn word_value(alloc: Global, word: &[u8]) -> Result<Vec<u8>, AllocError>
+    ensures { IfOk result (λ value. value.items ≡ value_of word.now) }
+{
+    value(alloc, word)
+}
