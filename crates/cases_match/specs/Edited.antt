@@ -4,7 +4,7 @@ use Rattle.sudoers_tree.specs.Line.{Line}
 use Rattle.sudoers_check.specs.Chains.{HasReachableCycle}
 use Rattle.sudoers_verdict.specs.declared.verdict.AskFault.{AskFault}
 use Rattle.sudoers_verdict.specs.declared.verdict.AskFault.TheVariants.{Cycle, TooLong, NoMemory}
-use Rattle.sudoers_edit.specs.declared.edit.Edit.{Edit}
+use Rattle.sudoers_script.specs.declared.edit.Edit.{Edit}
 use Rattle.sudoers_edit.specs.Editing.{run, StopsAt}
 use Rattle.sudoers_edit.specs.Landing.{policy_of}
 use Rattle.sudoers_hits.specs.declared.request.Request.{Request}

@@ -4,7 +4,7 @@ use Rattle.std.specs.Prelude.{slice_get}
 use Rattle.sudoers_line.specs.declared.node.Def.{Def}
 use Rattle.sudoers_tree.specs.Line.{Line}
 use Rattle.sudoers_tree.specs.Policy.{texts}
-use Rattle.sudoers_edit.specs.declared.edit.Edit.TheVariants.{AddDef, DropDef}
+use Rattle.sudoers_script.specs.declared.edit.Edit.TheVariants.{AddDef, DropDef}
 use Rattle.sudoers_edit.specs.declared.one_more.Among.TheVariants as among
 use Rattle.sudoers_edit.specs.Splice.{def_extents, seam, owned_stop, slice}
 use Rattle.sudoers_edit.specs.SpliceEdits.{defs_of, add_def, drop_def, owned_def}

@@ -2,6 +2,7 @@
 use Rattle.std.proofs.Common.{◌≡◌, ◌≢◌, ℕ, suc, ◌-◌, ◌<◌, ◌≤◌, Bool, true, false, List, [], ◌∷◌, ◌++◌, length, take, Option, Some, None, Ok, Err, refl, sym, ap, subst, ◌∙◌, arith, append_assoc, append-nil}
 use Rattle.std.specs.Prelude.{slice_get}
 use Rattle.std.specs.Option.{option_map}
+use Rattle.std.proofs.Math.Seq.{take-append_seam}
 use Rattle.std.proofs.lemmas.Bool.{lt-ltb, le-ltb}
 use Rattle.std.proofs.lemmas.List.{length-append}
 use Rattle.sudoers_text.specs.Line.{join}
@@ -9,8 +10,8 @@ use Rattle.sudoers_text.specs.Ended.{ends_in_lf, has_unended_inside}
 use Rattle.sudoers_text.specs.Fault.{line_limit}
 use Rattle.sudoers_text.specs.Cut.{cut_of, StandAlone}
 use Rattle.sudoers_tree.specs.Policy.{texts}
-use Rattle.sudoers_edit.specs.declared.edit.Edit.TheVariants.{EndLine, OpenEnd}
-use Rattle.sudoers_edit.specs.declared.edit.EditFault.TheVariants.{EndAsIs, TooLarge}
+use Rattle.sudoers_script.specs.declared.edit.Edit.TheVariants.{EndLine, OpenEnd}
+use Rattle.sudoers_edit.specs.declared.fault.EditFault.TheVariants.{EndAsIs, TooLarge}
 use Rattle.sudoers_edit.specs.Landing.{lines_or_refusal}
 use Rattle.sudoers_edit.specs.LineEdits.{with_last, with_end, without_lf, is_last_too_long, ended_or_refusal}
 use Rattle.sudoers_edit.specs.Editing.{step}
@@ -18,7 +19,7 @@ use Rattle.sudoers_edit.specs.OneLine.{IsAlone, IsSound}
 use Rattle.sudoers_edit.specs.LastLine.{StaysCut}
 use Rattle.sudoers_edit.specs.Leading.{Leads}
 use Rattle.sudoers_edit.proofs.EditLemmas.{run_one, settled}
-use Rattle.sudoers_edit.proofs.PhysicalLemmas.{ended_parts, take_front}
+use Rattle.sudoers_script.proofs.EndLemmas.{ended_parts}
 use Rattle.sudoers_edit.proofs.PolicyLemmas.{StandAloneLaw, CutLaw, read_cut}
 
 -- THE LAST LINE
@@ -234,7 +235,7 @@ but_last front body =
     let whole : List ℕ = join (front ++ body ∷ []) in
     let size : length (whole ++ 10 ∷ []) - 1 ≡ length whole = omega (arith, length-append whole (10 ∷ [])) in
     ap (λ (z : List ℕ). take (length z - 1) z) (sym (join_more front body (10 ∷ [])))
-    ∙ ap (λ n. take n (whole ++ 10 ∷ [])) size ∙ take_front whole (10 ∷ [])
+    ∙ ap (λ n. take n (whole ++ 10 ∷ [])) size ∙ take-append_seam whole (10 ∷ [])
 
 pub open_leads : StaysCut → (ls : List (List ℕ)) (line text : List ℕ) → IsSound ls → slice_get ls (length ls - 1) ≡ Some line → ends_in_lf line ≡ true
     → 2 ≤ length line → text ≡ take (length (join ls) - 1) (join ls) → Leads OpenEnd (EndLine ∷ []) ls text

@@ -3,31 +3,22 @@ mod ChangedLemmas
 mod BackLemmas
 mod DefLemmas
 mod EditLemmas
-mod FrontLemmas
 mod HistoryLemmas
 mod LastLemmas
 mod MemberLemmas
 mod MoreLemmas
 mod NamedLemmas
-mod NumberLemmas
-mod OneSpelling
-mod PhysicalLemmas
 mod PlaceLemmas
 mod PolicyLemmas
 pub mod PruneExamples
 mod PruneLaw
 mod PruneLemmas
-mod ReadingLemmas
 pub mod RenameExamples
 mod RenameLemmas
 mod ReplaceLemmas
 mod ReplacedLemmas
-mod ScriptLemmas
 mod SeamLemmas
 mod StartLemmas
-mod SpellingLemmas
 mod SpliceLemmas
 mod WayBackLemmas
 mod WithinLemmas
-mod WordLemmas
-mod WritingLemmas

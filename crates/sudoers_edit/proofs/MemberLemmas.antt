@@ -9,8 +9,8 @@ use Rattle.sudoers_tree.specs.Line.{Line}
 use Rattle.sudoers_tree.specs.declared.place.Place.{Place}
 use Rattle.sudoers_tree.specs.Definition.{place_of}
 use Rattle.sudoers_tree.specs.Policy.{texts}
-use Rattle.sudoers_edit.specs.declared.edit.Edit.TheVariants.{AddMember, DropMember}
-use Rattle.sudoers_edit.specs.declared.edit.EditFault.{EditFault}
+use Rattle.sudoers_script.specs.declared.edit.Edit.TheVariants.{AddMember, DropMember}
+use Rattle.sudoers_edit.specs.declared.fault.EditFault.{EditFault}
 use Rattle.sudoers_edit.specs.declared.one_more.Among.TheVariants as among
 use Rattle.sudoers_edit.specs.Splice.{member_extents, extents_in, seam, owned_stop, slice, is_member_more}
 use Rattle.sudoers_edit.specs.SpliceEdits.{Lines, defs_of, with_def, place_to_add, place_to_drop, add_member, drop_member, put_in, cut_out, owned_member}

@@ -1,5 +1,5 @@
 -- What takes named edits back is named, and named edits are written.
-use Rattle.std.proofs.Common.{◌≡◌, ℕ, false, true, List, [], ◌∷◌, ◌++◌, length, refl, arith, inl, inr}
+use Rattle.std.proofs.Common.{◌≡◌, ℕ, false, true, List, [], ◌∷◌, ◌++◌, ◌≤◌, length, refl, arith, inl, inr}
 use Rattle.std.specs.Prelude.{◌&&◌, nat_lt, Ok}
 use Rattle.std.specs.Result.{result_unwrap_or}
 use Rattle.std.specs.List.{prefix_len}
@@ -8,13 +8,12 @@ use Rattle.sudoers_edit.specs.Editing.{removed, put_back, put_all_back, inv, aft
 use Rattle.sudoers_edit.specs.Landing.{policy_of}
 use Rattle.sudoers_edit.specs.Pruning.{removals}
 use Rattle.sudoers_edit.specs.Named.{AreNamed, spelling_or_fault}
-use Rattle.sudoers_edit.specs.Script.{is_named, is_word, writing, AreSpellable}
-use Rattle.sudoers_edit.specs.ScriptReading.{reading}
-use Rattle.sudoers_edit.specs.declared.edit.Edit.{Edit}
-use Rattle.sudoers_edit.specs.declared.edit.Edit.TheVariants.{Insert, Delete, Move, AddMember, DropMember, AddDef, DropDef, Rename, EndLine, OpenEnd, Prune}
+use Rattle.sudoers_script.specs.Script.{is_named, is_word, spelling, writing, edit_limit, AreSpellable}
+use Rattle.sudoers_script.specs.ScriptReading.{reading}
+use Rattle.sudoers_script.specs.declared.edit.Edit.{Edit}
+use Rattle.sudoers_script.specs.declared.edit.Edit.TheVariants.{Insert, Delete, Move, AddMember, DropMember, AddDef, DropDef, Rename, EndLine, OpenEnd, Prune}
 use Rattle.sudoers_edit.specs.declared.pruning.Removal.{Removal}
 use Rattle.sudoers_edit.specs.declared.pruning.Removal.TheVariants as removal
-use Rattle.sudoers_edit.proofs.ScriptLemmas.{read_spelling}
 
 -- of two lists that are named the whole is
 named_append : (edits others : List Edit) → AreNamed edits → AreNamed others → AreNamed (edits ++ others)
@@ -64,8 +63,10 @@ spellable_named : (edits : List Edit) → AreSpellable edits → AreNamed edits
 spellable_named [] s = tt
 spellable_named (edit ∷ edits) s = (s.0.1, spellable_named edits s.1)
 
-pub read_named : (text : List ℕ) (edits : List Edit) → reading text ≡ Ok edits → AreNamed edits
-read_named text edits e = let r = read_spelling text edits e in spellable_named edits r.2
+-- where what is read is spellable, it is named
+pub read_named : ((text : List ℕ) (edits : List Edit) → reading text ≡ Ok edits → (text ≡ spelling edits) × (length edits ≤ edit_limit) × AreSpellable edits)
+    → (text : List ℕ) (edits : List Edit) → reading text ≡ Ok edits → AreNamed edits
+read_named law text edits e = spellable_named edits (law text edits e).2
 
 -- of named edits none has a name that is no word
 all_named : (edits : List Edit) → AreNamed edits → prefix_len is_named edits ≡ length edits

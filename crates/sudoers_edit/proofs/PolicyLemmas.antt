@@ -14,8 +14,8 @@ use Rattle.sudoers_edit.specs.OneLine.{IsAlone, IsSound}
 use Rattle.sudoers_edit.specs.LineEdits.{moved}
 use Rattle.sudoers_edit.specs.Landing.{by_read, policy_or_refusal}
 use Rattle.sudoers_edit.specs.Editing.{Refuses}
-use Rattle.sudoers_edit.specs.declared.edit.EditFault.{EditFault}
-use Rattle.sudoers_edit.specs.declared.edit.EditFault.TheVariants.{TooLarge, NoMemory}
+use Rattle.sudoers_edit.specs.declared.fault.EditFault.{EditFault}
+use Rattle.sudoers_edit.specs.declared.fault.EditFault.TheVariants.{TooLarge, NoMemory}
 use Rattle.sudoers_tree.specs.declared.fault.ReadFault.{ReadFault}
 
 -- what the laws say

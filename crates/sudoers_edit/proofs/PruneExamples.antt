@@ -22,7 +22,7 @@ use Rattle.sudoers_tree.specs.Reading.{line_behind, read_of}
 use Rattle.sudoers_tree.specs.Single.{said}
 use Rattle.sudoers_edit.specs.Pruning.{removals}
 use Rattle.sudoers_edit.specs.SpliceEdits.{drop_def, owned_def}
-use Rattle.sudoers_edit.specs.declared.edit.Edit.TheVariants.{Insert, AddDef, Prune}
+use Rattle.sudoers_script.specs.declared.edit.Edit.TheVariants.{Insert, AddDef, Prune}
 use Rattle.sudoers_edit.specs.Editing.{step, inv}
 
 abbrev ended : List ℕ → List ℕ

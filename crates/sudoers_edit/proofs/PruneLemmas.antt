@@ -18,9 +18,9 @@ use Rattle.sudoers_tree.specs.Definition.{Definition, is_kind, definitions_from,
 use Rattle.sudoers_tree.specs.Policy.{texts, count_of}
 use Rattle.sudoers_tree.specs.Reading.{read_of}
 use Rattle.sudoers_check.specs.Led.{is_unused}
-use Rattle.sudoers_edit.specs.declared.edit.Edit.{Edit}
-use Rattle.sudoers_edit.specs.declared.edit.Edit.TheVariants.{Prune}
-use Rattle.sudoers_edit.specs.declared.edit.EditFault.{EditFault}
+use Rattle.sudoers_script.specs.declared.edit.Edit.{Edit}
+use Rattle.sudoers_script.specs.declared.edit.Edit.TheVariants.{Prune}
+use Rattle.sudoers_edit.specs.declared.fault.EditFault.{EditFault}
 use Rattle.sudoers_edit.specs.declared.pruning.Removal.{Removal}
 use Rattle.sudoers_edit.specs.declared.pruning.Removal.TheVariants as removal
 use Rattle.sudoers_edit.specs.Pruning.{edit_of, removals_of, removals_since, removals}

@@ -19,7 +19,7 @@ use Rattle.sudoers_line.specs.Piece.{is_mark, is_the_word, is_alias_name, kind_w
 use Rattle.sudoers_tree.specs.Fault.{name_fault}
 use Rattle.sudoers_tree.specs.Reading.{line_behind, read_of}
 use Rattle.sudoers_line.specs.declared.node.Kind.TheVariants.{Cmnd}
-use Rattle.sudoers_edit.specs.declared.edit.EditFault.TheVariants.{NoAlias, BadName, NameTaken}
+use Rattle.sudoers_edit.specs.declared.fault.EditFault.TheVariants.{NoAlias, BadName, NameTaken}
 use Rattle.sudoers_edit.specs.Landing.{policy_of}
 use Rattle.sudoers_edit.specs.Renaming.{rename_once, rename}
 

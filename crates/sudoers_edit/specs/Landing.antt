@@ -8,8 +8,8 @@ use Rattle.sudoers_tree.specs.Line.{Line}
 use Rattle.sudoers_tree.specs.declared.fault.ReadFault.{ReadFault}
 use Rattle.sudoers_tree.specs.Changed.{replaced}
 use Rattle.sudoers_tree.specs.Reading.{read_of}
-use Rattle.sudoers_edit.specs.declared.edit.EditFault.{EditFault}
-use Rattle.sudoers_edit.specs.declared.edit.EditFault.TheVariants.{OpenLine, TooLarge, NotPolicy}
+use Rattle.sudoers_edit.specs.declared.fault.EditFault.{EditFault}
+use Rattle.sudoers_edit.specs.declared.fault.EditFault.TheVariants.{OpenLine, TooLarge, NotPolicy}
 
 -- the refusal in its case; else what follows
 abbrev pub refuse_if : {X : Type 0} → Bool → EditFault → Result X EditFault → Result X EditFault

@@ -7,8 +7,8 @@ use Rattle.sudoers_text.specs.Whole.{is_logical_line}
 use Rattle.sudoers_tree.specs.Reading.{read_of}
 use Rattle.sudoers_tree.specs.Line.{Line}
 use Rattle.sudoers_tree.specs.Policy.{texts}
-use Rattle.sudoers_edit.specs.declared.edit.Edit.{Edit}
-use Rattle.sudoers_edit.specs.declared.edit.EditFault.{EditFault}
+use Rattle.sudoers_script.specs.declared.edit.Edit.{Edit}
+use Rattle.sudoers_edit.specs.declared.fault.EditFault.{EditFault}
 use Rattle.sudoers_edit.specs.declared.landing.Landed.{Landed}
 use Rattle.sudoers_edit.specs.Landing.{policy_or_refusal, lines_or_refusal, changed_or_refusal}
 use Rattle.sudoers_tree.specs.Changed.{replaced}

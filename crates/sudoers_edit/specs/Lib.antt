@@ -1,4 +1,3 @@
-pub mod Physical
 pub mod OneLine
 pub mod Alike
 pub mod Splice
@@ -13,7 +12,4 @@ pub mod Undoing
 pub mod LastLine
 pub mod Leading
 pub mod Reread
-pub mod Script
-pub mod ScriptReading
-pub mod ScriptStanding
 pub mod Named

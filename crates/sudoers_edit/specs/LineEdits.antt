@@ -4,8 +4,8 @@ use Rattle.std.specs.Option.{option_map}
 use Rattle.sudoers_text.specs.Ended.{ends_in_lf}
 use Rattle.sudoers_edit.specs.OneLine.{is_one_line}
 use Rattle.sudoers_edit.specs.Landing.{lines_or_refusal, is_too_long}
-use Rattle.sudoers_edit.specs.declared.edit.EditFault.{EditFault}
-use Rattle.sudoers_edit.specs.declared.edit.EditFault.TheVariants.{NoLine, NotOneLine, EndAsIs, TooLarge}
+use Rattle.sudoers_edit.specs.declared.fault.EditFault.{EditFault}
+use Rattle.sudoers_edit.specs.declared.fault.EditFault.TheVariants.{NoLine, NotOneLine, EndAsIs, TooLarge}
 
 -- the lines with a text of one line before the line at a place
 abbrev pub with_line : ℕ → List ℕ → List (List ℕ) → Result (List (List ℕ)) EditFault

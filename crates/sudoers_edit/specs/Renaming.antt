@@ -20,8 +20,8 @@ use Rattle.sudoers_tree.specs.Mention.{members_in, mentions, span_of}
 use Rattle.sudoers_tree.specs.Policy.{texts}
 use Rattle.sudoers_edit.specs.Alike.{are_alike}
 use Rattle.sudoers_edit.specs.Landing.{refuse_if, is_too_long, policy_or_refusal, policy_of}
-use Rattle.sudoers_edit.specs.declared.edit.EditFault.{EditFault}
-use Rattle.sudoers_edit.specs.declared.edit.EditFault.TheVariants.{NoAlias, BadName, NameTaken, TooLarge, NotPolicy}
+use Rattle.sudoers_edit.specs.declared.fault.EditFault.{EditFault}
+use Rattle.sudoers_edit.specs.declared.fault.EditFault.TheVariants.{NoAlias, BadName, NameTaken, TooLarge, NotPolicy}
 
 -- WHERE THE NAME STANDS
 

@@ -1,8 +1,8 @@
 -- A fault of reading as the refusal of an edit: want of memory is one fault, wherever it was met.
 use Rattle.sudoers_tree.specs.declared.fault.ReadFault.{ReadFault}
 use Rattle.sudoers_tree.specs.declared.fault.ReadFault.TheVariants as read
-use Rattle.sudoers_edit.specs.declared.edit.EditFault.{EditFault}
-use Rattle.sudoers_edit.specs.declared.edit.EditFault.TheVariants as edit
+use Rattle.sudoers_edit.specs.declared.fault.EditFault.{EditFault}
+use Rattle.sudoers_edit.specs.declared.fault.EditFault.TheVariants as edit
 
 -- a fault of a text that an edit leads to
 abbrev pub edit_of_read : ReadFault → EditFault

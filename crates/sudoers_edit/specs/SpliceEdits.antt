@@ -14,8 +14,8 @@ use Rattle.sudoers_edit.specs.Landing.{refuse_if, or_refuse, changed_or_refusal}
 use Rattle.sudoers_edit.specs.Splice.{Extent, member_extents, def_extents, seam, owned_stop, slice, line_without, line_with, is_member_more, is_def_more}
 use Rattle.sudoers_edit.specs.declared.one_more.Among.{Among}
 use Rattle.sudoers_edit.specs.declared.one_more.Among.TheVariants as among
-use Rattle.sudoers_edit.specs.declared.edit.EditFault.{EditFault}
-use Rattle.sudoers_edit.specs.declared.edit.EditFault.TheVariants.{NoLine, NoAlias, NoPlace, OnlyOne, BadSplice}
+use Rattle.sudoers_edit.specs.declared.fault.EditFault.{EditFault}
+use Rattle.sudoers_edit.specs.declared.fault.EditFault.TheVariants.{NoLine, NoAlias, NoPlace, OnlyOne, BadSplice}
 
 abbrev pub Lines : Type 0
 Lines = List (List ℕ)

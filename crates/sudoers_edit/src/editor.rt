@@ -5,15 +5,15 @@ ghost use Rattle.sudoers_tree.specs.Policy.{texts};
 ghost use Rattle.sudoers_edit.specs.Editing.{run};
 ghost use Rattle.sudoers_edit.specs.Leading.{Lands};
 
-use crate::edit::{Edit, EditFault, Edits};
+use crate::fault::EditFault;
 use crate::landing::{Landed, copied};
 use crate::line_edits::{end_closed, end_opened, line_deleted, line_inserted, line_moved};
 use crate::pruning::pruned;
 use crate::renaming::alias_renamed;
 use crate::splice_edits::{def_added, def_dropped, member_added, member_dropped};
-use crate::text::Text;
 use std::alloc::{AllocError, Global};
 use std::marker::Model;
+use sudoers_script::{Edit, Edits, Text};
 use sudoers_tree::Policy;
 
 /// An accepted edit, with the edits that take it back.

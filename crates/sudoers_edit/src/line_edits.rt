@@ -8,11 +8,11 @@ ghost use Rattle.sudoers_edit.specs.LineEdits.{moved};
 ghost use Rattle.sudoers_edit.specs.LastLine.{StaysCut};
 ghost use Rattle.sudoers_edit.specs.Leading.{Lands};
 
-use crate::edit::{Edit, EditFault, Edits};
+use crate::fault::EditFault;
 use crate::landing::{Landed, is_sound, land};
 use crate::reread::text_moved;
-use crate::text::Text;
 use std::alloc::{AllocError, Global};
+use sudoers_script::{Edit, Edits, Text};
 use sudoers_text::{
     LINE_LIMIT, TextFault, cut, ends_in_lf, lf_behind_last_line, lf_from_last_line,
     line_alone_size, lines_stand_alone,

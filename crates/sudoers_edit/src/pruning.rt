@@ -12,12 +12,13 @@ ghost use Rattle.sudoers_edit.specs.Leading.{Lands};
 ghost use Rattle.sudoers_edit.specs.Pruning.{edit_of, removals as the_removals};
 ghost use Rattle.sudoers_edit.specs.PruneOrder.{front_count, removals_at};
 
-use crate::edit::{Edit, EditFault, Edits};
+use crate::fault::EditFault;
 use crate::landing::{Landed, copied, is_sound};
 use crate::line_edits::line_deleted;
 use crate::splice_edits::def_dropped;
 use std::alloc::{AllocError, Global};
 use sudoers_check::unused;
+use sudoers_script::{Edit, Edits};
 use sudoers_text::line_alone_size;
 use sudoers_tree::{Kind, Node, Place, Policy};
 

@@ -11,12 +11,12 @@ ghost use Rattle.sudoers_edit.specs.Landing.{is_too_long, policy_or_refusal};
 ghost use Rattle.sudoers_edit.specs.Leading.{Lands};
 ghost use Rattle.sudoers_edit.specs.Renaming.{put_at, renamed_line, renamed, no_way_back as the_fault, if_lines, is_lines, is_taken as taken, rename_once};
 
-use crate::edit::{Edit, EditFault, Edits};
+use crate::fault::EditFault;
 use crate::landing::Landed;
 use crate::name_places::name_starts;
 use crate::reread::reread;
-use crate::text::Text;
 use std::alloc::{AllocError, Global};
+use sudoers_script::{Edit, Edits, Text};
 use sudoers_text::{LINE_LIMIT, is_name, is_reserved};
 use sudoers_tree::{Kind, Line, LineRow, Policy, ReadFault, Rows, Why};
 

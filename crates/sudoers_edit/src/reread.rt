@@ -7,7 +7,7 @@ ghost use Rattle.sudoers_edit.specs.Landing.{policy_or_refusal};
 ghost use Rattle.sudoers_edit.specs.LineEdits.{moved};
 ghost use Rattle.sudoers_edit.specs.Editing.{Refuses};
 
-use crate::edit::EditFault;
+use crate::fault::EditFault;
 use std::alloc::{AllocError, Global};
 use sudoers_text::TEXT_LIMIT;
 use sudoers_tree::{LineRow, Policy, Rows, append_texts};

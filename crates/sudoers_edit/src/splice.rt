@@ -4,11 +4,11 @@ ghost use Rattle.sudoers_line.specs.declared.node.Def.{Def as DefOf};
 ghost use Rattle.sudoers_line.specs.declared.node.Member.{Member as MemberOf};
 ghost use Rattle.sudoers_reader.specs.declared.rows.Tables.{Tables as TablesOf};
 ghost use Rattle.sudoers_reader.specs.Tables.{def_in, member_in};
-ghost use Rattle.sudoers_edit.specs.declared.edit.EditFault.{EditFault as Refusal};
+ghost use Rattle.sudoers_edit.specs.declared.fault.EditFault.{EditFault as Refusal};
 ghost use Rattle.sudoers_edit.specs.SpliceEdits.{place_to_add as to_add, place_to_drop as to_drop, Lines};
 ghost use Rattle.sudoers_edit.specs.Splice.{Extent, seam as the_seam, owned_stop as the_stop, line_with as with_splice, line_without as without_slice, slice};
 
-use crate::edit::EditFault;
+use crate::fault::EditFault;
 use std::alloc::{AllocError, Global};
 use sudoers_tree::{DefRow, MemberRow, Rows, Tables};
 

@@ -2,7 +2,7 @@
 ghost use Rattle.std.specs.Prelude.{◌≡◌, ◌≤◌, ◌<◌, ◌∷◌, [], length, option_map, slice_get, Some, Result, Err, List, ℕ, IfOk, MatchResult};
 ghost use Rattle.sudoers_text.specs.Ended.{has_unended_inside};
 ghost use Rattle.sudoers_tree.specs.Policy.{texts};
-ghost use Rattle.sudoers_edit.specs.declared.edit.Edit.{Edit as AnEdit};
+ghost use Rattle.sudoers_script.specs.declared.edit.Edit.{Edit as AnEdit};
 ghost use Rattle.sudoers_edit.specs.Editing.{Refuses};
 ghost use Rattle.sudoers_edit.specs.Landing.{changed_or_refusal};
 ghost use Rattle.sudoers_tree.specs.Changed.{replaced};
@@ -13,14 +13,14 @@ ghost use Rattle.sudoers_tree.specs.Line.{Line as LineOf, line_shown};
 ghost use Rattle.sudoers_line.specs.declared.node.Def.{Def as DefOf};
 ghost use Rattle.sudoers_tree.specs.declared.place.Place.{Place as PlaceOf};
 ghost use Rattle.sudoers_tree.specs.Definition.{place_of};
-ghost use Rattle.sudoers_edit.specs.declared.edit.EditFault.{EditFault as Refusal};
+ghost use Rattle.sudoers_edit.specs.declared.fault.EditFault.{EditFault as Refusal};
 
-use crate::edit::{Edit, EditFault, Edits};
+use crate::fault::EditFault;
 use crate::landing::{Landed, is_sound, land, reads_lines};
 use crate::one_more::{Among, OneMore};
 use crate::splice::{line_with, line_without, place_to_add, place_to_drop};
-use crate::text::Text;
 use std::alloc::{AllocError, Global};
+use sudoers_script::{Edit, Edits, Text};
 use sudoers_text::{LINE_LIMIT, ends_in_lf, line_alone_is_whole, line_alone_size};
 use sudoers_tree::{
     Def, DefRow, Kind, Line, Node, Place, Policy, Rows, definitions_ascend, lines_are_said,

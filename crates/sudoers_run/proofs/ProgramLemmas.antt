@@ -3,7 +3,7 @@ use Rattle.std.proofs.Common.{◌≡◌, ℕ, true, false, List, [], ◌∷◌, 
 use Rattle.std.specs.Option.{option_map}
 use Rattle.std.specs.Io.KnownBytes.{Appends, Consumes}
 use Rattle.sudoers_text.specs.Line.{join}
-use Rattle.sudoers_edit.specs.Physical.{physical_lines}
+use Rattle.sudoers_script.specs.Physical.{physical_lines}
 use Rattle.sudoers_run.specs.declared.device.Pulled.{Pulled}
 use Rattle.sudoers_run.specs.declared.device.Pulled.TheVariants.{Bytes}
 use Rattle.sudoers_run.specs.Device.{Takes}

@@ -9,10 +9,10 @@ use Rattle.sudoers_line.specs.declared.node.Kind.{Kind}
 use Rattle.sudoers_tree.specs.declared.fault.ReadFault.{ReadFault}
 use Rattle.sudoers_tree.specs.declared.fault.ReadFault.TheVariants as read
 use Rattle.sudoers_line.specs.Kind.{kind_name}
-use Rattle.sudoers_edit.specs.declared.edit.EditFault.{EditFault}
-use Rattle.sudoers_edit.specs.declared.edit.EditFault.TheVariants as edit
-use Rattle.sudoers_edit.specs.declared.script.ScriptFault.{ScriptFault}
-use Rattle.sudoers_edit.specs.declared.script.ScriptFault.TheVariants as script
+use Rattle.sudoers_edit.specs.declared.fault.EditFault.{EditFault}
+use Rattle.sudoers_edit.specs.declared.fault.EditFault.TheVariants as edit
+use Rattle.sudoers_script.specs.declared.script.ScriptFault.{ScriptFault}
+use Rattle.sudoers_script.specs.declared.script.ScriptFault.TheVariants as script
 use Rattle.sudoers_cvt.specs.declared.fault.CvtFault.{CvtFault}
 use Rattle.sudoers_cvt.specs.declared.fault.CvtFault.TheVariants as cvt
 use Rattle.sudoers_rewrite.specs.declared.filter_text.FilterFault.{FilterFault}

@@ -6,19 +6,19 @@ use Rattle.sudoers_text.specs.Line.{join}
 use Rattle.sudoers_tree.specs.declared.fault.ReadFault.{ReadFault}
 use Rattle.sudoers_tree.specs.Policy.{texts}
 use Rattle.sudoers_tree.specs.Reading.{read_of}
-use Rattle.sudoers_edit.specs.declared.edit.Edit.{Edit}
-use Rattle.sudoers_edit.specs.declared.edit.EditFault.{EditFault}
-use Rattle.sudoers_edit.specs.declared.script.ScriptFault.{ScriptFault}
-use Rattle.sudoers_edit.specs.declared.script.ScriptFault.TheVariants as script
+use Rattle.sudoers_script.specs.declared.edit.Edit.{Edit}
+use Rattle.sudoers_edit.specs.declared.fault.EditFault.{EditFault}
+use Rattle.sudoers_script.specs.declared.script.ScriptFault.{ScriptFault}
+use Rattle.sudoers_script.specs.declared.script.ScriptFault.TheVariants as script
 use Rattle.sudoers_run.specs.declared.fault.LayerFault.{LayerFault}
 use Rattle.sudoers_run.specs.declared.fault.LayerFault.TheVariants as layer
 use Rattle.sudoers_run.specs.declared.fault.ToolFault.{ToolFault}
 use Rattle.sudoers_run.specs.declared.fault.ToolFault.TheVariants as tool
 use Rattle.sudoers_run.specs.Device.{TakesAtMost, TakesExactly}
-use Rattle.sudoers_edit.specs.Physical.{physical_lines}
+use Rattle.sudoers_script.specs.Physical.{physical_lines}
 use Rattle.sudoers_edit.specs.Editing.{run_all, inv_run}
-use Rattle.sudoers_edit.specs.Script.{edit_limit, spelling}
-use Rattle.sudoers_edit.specs.ScriptReading.{reading}
+use Rattle.sudoers_script.specs.Script.{edit_limit, spelling}
+use Rattle.sudoers_script.specs.ScriptReading.{reading}
 
 -- how many bytes `edit` reads
 abbrev pub input_limit : ℕ

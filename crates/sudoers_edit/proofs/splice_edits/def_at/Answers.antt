@@ -9,8 +9,8 @@ use Rattle.sudoers_reader.specs.Tables.{def_in}
 use Rattle.sudoers_reader.specs.View.{defs_shown, node_shown}
 use Rattle.sudoers_tree.specs.Line.{Line, line_shown}
 use Rattle.sudoers_tree.specs.declared.place.Place.{Place}
-use Rattle.sudoers_edit.specs.declared.edit.EditFault.{EditFault}
-use Rattle.sudoers_edit.specs.declared.edit.EditFault.TheVariants.{NoAlias}
+use Rattle.sudoers_edit.specs.declared.fault.EditFault.{EditFault}
+use Rattle.sudoers_edit.specs.declared.fault.EditFault.TheVariants.{NoAlias}
 use Rattle.sudoers_edit.specs.SpliceEdits.{Lines, defs_of, with_def}
 use Rattle.sudoers_edit.proofs.splice_edits.def_at.Goals as goal
 

@@ -4,7 +4,7 @@ use Rattle.sudoers_line.specs.declared.node.Def.{Def}
 use Rattle.sudoers_reader.specs.View.{defs_shown}
 use Rattle.sudoers_tree.specs.Line.{Line, line_shown}
 use Rattle.sudoers_tree.specs.Policy.{texts}
-use Rattle.sudoers_edit.specs.declared.edit.Edit.TheVariants.{AddDef, DropDef}
+use Rattle.sudoers_script.specs.declared.edit.Edit.TheVariants.{AddDef, DropDef}
 use Rattle.sudoers_edit.specs.Editing.{Refuses}
 use Rattle.sudoers_edit.specs.Leading.{Replaces}
 use Rattle.sudoers_edit.specs.Splice.{slice}

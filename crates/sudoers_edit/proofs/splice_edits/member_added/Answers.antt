@@ -5,10 +5,10 @@ use Rattle.sudoers_reader.specs.View.{def_shown}
 use Rattle.sudoers_tree.specs.Line.{Line, line_shown}
 use Rattle.sudoers_tree.specs.declared.place.Place.{Place}
 use Rattle.sudoers_tree.specs.Policy.{texts}
-use Rattle.sudoers_edit.specs.declared.edit.Edit.TheVariants.{AddMember, DropMember}
+use Rattle.sudoers_script.specs.declared.edit.Edit.TheVariants.{AddMember, DropMember}
 use Rattle.sudoers_edit.specs.Editing.{Refuses}
 use Rattle.sudoers_edit.specs.Leading.{Replaces}
-use Rattle.sudoers_edit.specs.declared.edit.EditFault.{EditFault}
+use Rattle.sudoers_edit.specs.declared.fault.EditFault.{EditFault}
 use Rattle.sudoers_edit.specs.SpliceEdits.{Lines, put_in, add_member}
 use Rattle.sudoers_edit.specs.declared.one_more.Among.TheVariants as among
 use Rattle.sudoers_edit.proofs.BackLemmas.{def_of_policy}

@@ -6,10 +6,10 @@ use Rattle.sudoers_reader.specs.View.{def_shown}
 use Rattle.sudoers_tree.specs.Line.{Line, line_shown}
 use Rattle.sudoers_tree.specs.declared.place.Place.{Place}
 use Rattle.sudoers_tree.specs.Policy.{texts}
-use Rattle.sudoers_edit.specs.declared.edit.Edit.TheVariants.{AddMember, DropMember}
+use Rattle.sudoers_script.specs.declared.edit.Edit.TheVariants.{AddMember, DropMember}
 use Rattle.sudoers_edit.specs.Editing.{Refuses}
 use Rattle.sudoers_edit.specs.Leading.{Replaces}
-use Rattle.sudoers_edit.specs.declared.edit.EditFault.{EditFault}
+use Rattle.sudoers_edit.specs.declared.fault.EditFault.{EditFault}
 use Rattle.sudoers_edit.specs.Splice.{member_extents, seam, owned_stop, slice}
 use Rattle.sudoers_edit.specs.SpliceEdits.{Lines, cut_out, drop_member}
 use Rattle.sudoers_edit.specs.declared.one_more.Among.TheVariants as among

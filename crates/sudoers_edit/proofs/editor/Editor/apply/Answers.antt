@@ -1,5 +1,5 @@
 use Rattle.std.proofs.Common.{Result, Ok, Err, OnErr, refl}
-use Rattle.sudoers_edit.specs.declared.edit.EditFault.{EditFault}
+use Rattle.sudoers_edit.specs.declared.fault.EditFault.{EditFault}
 use Rattle.sudoers_edit.proofs.editor.Editor.apply.Goals as goal
 
 when_refused : (r : Result (Unit {0}) EditFault) (P : Type 0) → P → OnErr r P

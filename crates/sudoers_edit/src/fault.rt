@@ -1,0 +1,85 @@
+//! Why an edit is refused.
+
+use std::alloc::{AllocError, AllocFailed};
+use sudoers_tree::ReadFault;
+use thiserror::Error;
+
+/// Why an edit is refused, the first cause in this order.
+#[derive(Debug, Drop, Error)]
+pub enum EditFault {
+    /// The line is not there.
+    #[error("NoLine")]
+    NoLine,
+    /// The text to insert is not exactly one logical line.
+    #[error("NotOneLine")]
+    NotOneLine,
+    /// A line without LF would stand before another.
+    #[error("OpenLine")]
+    OpenLine,
+    /// The alias is not defined in the kind, or the line defines none.
+    #[error("NoAlias")]
+    NoAlias,
+    /// There is no such place in the list of members or definitions.
+    #[error("NoPlace")]
+    NoPlace,
+    /// The only member or definition cannot be dropped.
+    #[error("OnlyOne")]
+    OnlyOne,
+    /// The fresh name is no name of an alias, or is reserved.
+    #[error("BadName")]
+    BadName,
+    /// The fresh name is defined or mentioned in the kind.
+    #[error("NameTaken")]
+    NameTaken,
+    /// The line would not read as before but for the one member or definition, or this would not own exactly the splice.
+    #[error("BadSplice")]
+    BadSplice,
+    /// `EndLine`: the last line already ends in LF. `OpenEnd`: it does not, or it is LF alone. Either: there is no line.
+    #[error("EndAsIs")]
+    EndAsIs,
+    /// The result would pass the limit of a policy, or a changed line that of a line.
+    #[error("TooLarge")]
+    TooLarge,
+    /// The result would be no policy.
+    #[error("NotPolicy: {0}")]
+    NotPolicy(ReadFault),
+    /// A growth of memory was refused.
+    #[error("NoMemory")]
+    NoMemory,
+}
+
+impl From<AllocError> for EditFault {
+    ghost use Rattle.std.specs.Prelude.{◌≡◌};
+    ghost use Rattle.sudoers_edit.specs.declared.fault.EditFault.TheVariants.{NoMemory};
+
+    ghost from_gives = { λ _ e. e ≡ NoMemory };
+
+    fn from(_error: AllocError) -> EditFault {
+        EditFault::NoMemory
+    }
+}
+
+impl<T: Drop> From<AllocFailed<T>> for EditFault {
+    ghost use Rattle.std.specs.Prelude.{◌≡◌};
+    ghost use Rattle.sudoers_edit.specs.declared.fault.EditFault.TheVariants.{NoMemory};
+
+    ghost from_gives = { λ _ e. e ≡ NoMemory };
+
+    fn from(_error: AllocFailed<T>) -> EditFault {
+        EditFault::NoMemory
+    }
+}
+
+impl From<ReadFault> for EditFault {
+    ghost use Rattle.std.specs.Prelude.{◌≡◌};
+    ghost use Rattle.sudoers_edit.specs.Reread.{edit_of_read};
+
+    ghost from_gives = { λ fault e. e ≡ edit_of_read fault };
+
+    fn from(fault: ReadFault) -> EditFault {
+        match fault {
+            ReadFault::NoMemory => EditFault::NoMemory,
+            fault => EditFault::NotPolicy(fault),
+        }
+    }
+}

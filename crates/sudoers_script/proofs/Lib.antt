@@ -1,0 +1,10 @@
+pub mod EndLemmas
+mod FrontLemmas
+mod NumberLemmas
+mod OneSpelling
+mod PhysicalLemmas
+mod ReadingLemmas
+mod ScriptLemmas
+mod SpellingLemmas
+mod WordLemmas
+mod WritingLemmas
