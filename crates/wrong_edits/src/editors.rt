@@ -1,0 +1,68 @@
+//! Edits, their refusals, and the way back.
+
+ghost use Rattle.std.specs.Prelude.{◌≡◌, ◌<◌, ◌∷◌, [], ◌++◌, length, take, Some, Ok, IfOk, IfErr, OnOk, OnErr, MatchResult, true, false};
+ghost use Rattle.sudoers_edit.specs.declared.fault.EditFault.TheVariants as EditFault;
+ghost use Rattle.sudoers_edit.specs.Editing.{step, inv, run, run_all, inv_run, first_of, edits_of, Refuses, StopsAt};
+ghost use Rattle.sudoers_edit.specs.Undoing.{TakesLast};
+
+use std::alloc::AllocError;
+use sudoers_edit::{Edit, EditFault, Editor, Edits};
+
+/// Applies `edit`.
+///
+/// # Errors
+///
+/// The first cause for which the edit is refused, or memory ran out. The editor is then as it was.
+pub fn apply_edit(editor: &mut Editor, edit: &Edit) -> Result<(), EditFault>
+    ensures step { OnOk result (step edit.now editor.old.lines ≡ Ok editor.new.lines) }
+    ensures journal { OnOk result (editor.new.journal
+        ≡ editor.old.journal ++ record { edit = edit.now; inverse = inv edit.now editor.old.lines } ∷ []) }
+    ensures back { OnOk result (run (inv edit.now editor.old.lines) editor.new.lines ≡ Some editor.old.lines) }
+    ensures refused { IfErr result (λ fault. Refuses fault (step edit.now editor.old.lines)) }
+    ensures unchanged { OnErr result (editor.new ≡ editor.old) }
+{
+    editor.apply(edit)
+}
+
+/// Applies `edits` in their order.
+///
+/// # Errors
+///
+/// The place of the first edit that is refused, with the cause. The edits before it stay.
+pub fn apply_edits(editor: &mut Editor, edits: &[Edit]) -> Result<(), (usize, EditFault)>
+    ensures lines { MatchResult result (λ _. run edits.now editor.old.lines ≡ Some editor.new.lines)
+        (λ refused. run (take refused.0 edits.now) editor.old.lines ≡ Some editor.new.lines) }
+    ensures accepted { OnOk result (run_all 0 edits.now editor.old.lines ≡ Ok editor.new.lines) }
+    ensures refused { IfErr result (λ refused. StopsAt refused.0 refused.1 edits.now editor.old.lines) }
+    ensures place { IfErr result (λ refused. refused.0 < length edits.now) }
+{
+    editor.apply_all(edits)
+}
+
+/// Undoes the last edit. Returns `false` if there is none.
+///
+/// # Errors
+///
+/// Memory ran out. The editor is then as it was.
+pub fn undo_edit(editor: &mut Editor) -> Result<bool, EditFault>
+    ensures taken { result ≡ Ok true → TakesLast editor.old editor.new }
+    ensures none { result ≡ Ok false → (editor.old.journal ≡ []) × (editor.new ≡ editor.old) }
+    ensures empty { editor.old.journal ≡ [] → result ≡ Ok false }
+    ensures refused { IfErr result (λ fault. fault ≡ EditFault.NoMemory) }
+    ensures unchanged { OnErr result (editor.new ≡ editor.old) }
+{
+    editor.undo()
+}
+
+/// Returns the edits that undo all that were applied.
+///
+/// # Errors
+///
+/// Memory ran out.
+pub fn edits_that_undo(editor: &Editor) -> Result<Edits, AllocError>
+    ensures exact { IfOk result (λ edits. edits ≡ inv_run (edits_of editor.now.journal) (first_of editor.now)) }
+    ensures restores { IfOk result (λ edits. run edits editor.now.lines ≡ Some (first_of editor.now)) }
+    ensures accepted { IfOk result (λ edits. run_all 0 edits editor.now.lines ≡ Ok (first_of editor.now)) }
+{
+    editor.inverse()
+}

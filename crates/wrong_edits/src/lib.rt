@@ -1,0 +1,8 @@
+//! Calls of the libraries that edit a policy and read scripts, each with the clauses that its library promises.
+#![tactic(auto)]
+
+mod editors;
+mod scripts;
+
+pub use editors::{apply_edit, apply_edits, edits_that_undo, undo_edit};
+pub use scripts::{edits_of_script, script_of_edits};

@@ -1,0 +1,31 @@
+//! Scripts as text.
+
+ghost use Rattle.std.specs.Prelude.{◌≡◌, ◌≤◌, length, Ok, IfOk, MatchResult};
+ghost use Rattle.sudoers_script.specs.Script.{spelling, edit_limit, writing};
+ghost use Rattle.sudoers_script.specs.ScriptReading.{reading, Reads, Tells};
+
+use std::alloc::Global;
+use sudoers_script::{Edit, Edits, ScriptFault, read_script, write_script};
+
+/// Returns the edits of the script `text`.
+///
+/// # Errors
+///
+/// The first fault of the script, or memory ran out.
+pub fn edits_of_script(alloc: Global, text: &[u8]) -> Result<Edits, ScriptFault>
+    ensures edits { IfOk result (λ edits. (text.now ≡ spelling edits) × (length edits ≤ edit_limit)) }
+    ensures reading { Reads result (reading text.now) }
+{
+    read_script(alloc, text)
+}
+
+/// Returns `edits` as a script.
+///
+/// # Errors
+///
+/// The first cause for which the edits have no spelling, or memory ran out.
+pub fn script_of_edits(alloc: Global, edits: &[Edit]) -> Result<Vec<u8>, ScriptFault>
+    ensures { MatchResult result (λ text. writing edits.now ≡ Ok text.items) (λ fault. Tells fault (writing edits.now)) }
+{
+    write_script(alloc, edits)
+}
