@@ -13,7 +13,7 @@ use crate::fault::WhoFault;
 use crate::people::People;
 use crate::person::{find_account, person_of};
 use std::alloc::{AllocError, Global};
-use sudoers_hits::{Group, Request, Who, stamp_number};
+use sudoers_hits::{Group, Person, Request, Who, stamp_number};
 use sudoers_line::{Items, is_stamp};
 
 /// Returns the group with the name `name`.
@@ -80,6 +80,31 @@ fn args_in(alloc: Global, words: &[Items<u8>]) -> Result<Items<Items<u8>>, Alloc
     Ok(Items::from_vec(args))
 }
 
+/// Returns the request of `who` to run `words` as `target` and as `target_group`, at the moment `moment`.
+fn ask(
+    alloc: Global,
+    who: Who,
+    target: Person,
+    target_group: Option<Group>,
+    words: &[Items<u8>],
+    moment: u64,
+) -> Result<Request, AllocError>
+    ensures { IfOk result (λ request. request ≡ record {
+        who = who; target = target; target_group = target_group;
+        command = command_in words.now; args = args_in words.now; moment = moment }) }
+{
+    let command = command_in(alloc, words)?;
+    let args = args_in(alloc, words)?;
+    Ok(Request {
+        who,
+        target,
+        target_group,
+        command,
+        args,
+        moment,
+    })
+}
+
 /// Returns what `who` asks: to run `words` as the user `target`, and as the group `group`, at the moment `stamp`. The first word is
 /// the command, and empty where there is none.
 ///
@@ -108,12 +133,6 @@ pub fn request_for(
     let Some(moment) = moment_in(stamp) else {
         return Err(WhoFault::BadMoment);
     };
-    Ok(Request {
-        who,
-        target: person_of(alloc, people, target)?,
-        target_group,
-        command: command_in(alloc, words)?,
-        args: args_in(alloc, words)?,
-        moment,
-    })
+    let target = person_of(alloc, people, target)?;
+    Ok(ask(alloc, who, target, target_group, words, moment)?)
 }

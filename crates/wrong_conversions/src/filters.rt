@@ -6,10 +6,10 @@ ghost use Rattle.sudoers_rewrite.specs.declared.filter_text.FilterFault.TheVaria
 ghost use Rattle.sudoers_rewrite.specs.Changed.{changes_shown};
 ghost use Rattle.sudoers_rewrite.specs.Count.{member_limit};
 ghost use Rattle.sudoers_rewrite.specs.FilterText.{filter_of};
-ghost use Rattle.sudoers_rewrite.specs.Rewrite.{has_round, member_count, rewritten};
+ghost use Rattle.sudoers_rewrite.specs.Rewrite.{has_round, member_count, rewritten, used_rules};
 
 use std::alloc::Global;
-use sudoers_cvt::CvtFault;
+use sudoers_cvt::{CvtFault, Rules};
 use sudoers_rewrite::{Changes, Filter, FilterFault, Rewritten, read_filter, rewrite};
 use sudoers_tree::Policy;
 
@@ -43,4 +43,16 @@ pub fn rewrite_policy(
         × (member_limit < member_count (rewritten (changes_shown changes.now) policy.now))))) }
 {
     rewrite(alloc, policy, changes)
+}
+
+/// Returns the rules of `lines`, with the definitions that they use.
+///
+/// # Errors
+///
+/// Memory ran out.
+pub fn rules_of_lines<'a>(alloc: Global, lines: &'a Rewritten) -> Result<Rules<'a>, CvtFault>
+    ensures rules { IfOk result (λ rules. rules ≡ used_rules lines.now) }
+    ensures fault { IfErr result (λ fault. fault ≡ NoMemory) }
+{
+    lines.rules(alloc)
 }
