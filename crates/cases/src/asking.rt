@@ -1,6 +1,8 @@
 //! What a policy answers to a question.
 
-use crate::drawn::{allow_word, push_answered, push_ask_fault, push_group_places, push_text};
+use crate::drawn::{
+    allow_word, push_answered, push_ask_fault, push_debug, push_group_places, push_text,
+};
 use crate::edited::push_edited;
 use std::alloc::{AllocError, Global};
 use sudoers_edit::Editor;
@@ -88,7 +90,7 @@ fn push_said<K: MemberKind>(
         return answers.push_str("no alias");
     };
     match decide::<K>(alloc, policy, kind, &members, asked) {
-        Ok(verdict) => write!(answers, "{verdict:?}"),
+        Ok(verdict) => push_debug(&verdict, answers),
         Err(fault) => push_ask_fault(fault, answers),
     }
 }

@@ -1,10 +1,21 @@
 //! How answers are written, each in one line.
 
 use std::alloc::AllocError;
+use std::fmt::{Debug, Display};
 use sudoers_hits::{Group, Interface, Person, Who};
 use sudoers_line::{Address, Mask};
 use sudoers_match::{Answer, AskFault, GroupPlace, Options, Request, Tags};
 use sudoers_people::{Account, GroupRow, People, PeopleFault, PeopleFile, WhoFault};
+
+/// Adds `value` as `{:?}` writes it.
+pub fn push_debug(value: &impl Debug, answers: &mut String) -> Result<(), AllocError> {
+    write!(answers, "{value:?}")
+}
+
+/// Adds `value` as `{}` writes it.
+pub fn push_shown(value: &impl Display, answers: &mut String) -> Result<(), AllocError> {
+    write!(answers, "{value}")
+}
 
 /// Adds a text: each byte as it is from `␠` to `~`, but `\` and two hexadecimal digits for `\` and for all others.
 pub fn push_text(text: &[u8], answers: &mut String) -> Result<(), AllocError> {
@@ -84,7 +95,7 @@ fn push_interface(interface: Interface, answers: &mut String) -> Result<(), Allo
     push_address(interface.address, answers)?;
     answers.push('/')?;
     match interface.mask {
-        Mask::Bits(bits) => write!(answers, "{}", bits),
+        Mask::Bits(bits) => push_shown(&bits, answers),
         Mask::Dotted(address) => push_address(address, answers),
     }
 }
@@ -135,7 +146,7 @@ pub fn push_people_fault(fault: PeopleFault, answers: &mut String) -> Result<(),
 pub fn push_who_fault(fault: WhoFault, answers: &mut String) -> Result<(), AllocError> {
     match fault {
         WhoFault::NoMemory => Err(AllocError),
-        _ => write!(answers, "{fault:?}"),
+        _ => push_debug(&fault, answers),
     }
 }
 
@@ -143,7 +154,7 @@ pub fn push_who_fault(fault: WhoFault, answers: &mut String) -> Result<(), Alloc
 pub fn push_ask_fault(fault: AskFault, answers: &mut String) -> Result<(), AllocError> {
     match fault {
         AskFault::NoMemory => Err(AllocError),
-        _ => write!(answers, "{fault:?}"),
+        _ => push_debug(&fault, answers),
     }
 }
 

@@ -2,6 +2,7 @@
 //!
 //! The body of a case is a part, the text, and then calls. Its byte says what the calls are of.
 
+use crate::drawn::{push_debug, push_shown};
 use crate::frames::{Call, next_call, next_part};
 use crate::policies;
 use crate::scripts::{self, push_script};
@@ -46,7 +47,7 @@ impl Target<'_> {
             Target::Text(text) => scripts::push_answer(alloc, text, call, answers),
             Target::Policy(policy) => policies::push_answer(alloc, policy, call, answers),
             Target::Editor(editor) => push_of_editor(alloc, editor, call, answers),
-            Target::Fault(fault) => write!(answers, "{fault:?}"),
+            Target::Fault(fault) => push_debug(&fault, answers),
         }
     }
 }
@@ -81,8 +82,8 @@ fn push_of_editor(
         b'1' => push_applied(alloc, editor, call.body, answers),
         // A script.
         b'+' => push_all_applied(alloc, editor, call.body, answers),
-        b'-' => write!(answers, "{:?}", editor.undo()),
-        b's' => write!(answers, "{}", editor.steps()),
+        b'-' => push_debug(&editor.undo(), answers),
+        b's' => push_shown(&editor.steps(), answers),
         b'<' => push_script(alloc, editor.inverse()?.as_slice(), answers),
         _ => policies::push_query(alloc, editor.policy(), call, answers),
     }
@@ -97,10 +98,10 @@ fn push_applied(
 ) -> Result<(), AllocError> {
     match read_script(alloc, script) {
         Ok(edits) => match edits.as_slice().first() {
-            Some(edit) => write!(answers, "{:?}", editor.apply(edit)),
+            Some(edit) => push_debug(&editor.apply(edit), answers),
             None => answers.push_str("no edit"),
         },
-        Err(fault) => write!(answers, "{fault}"),
+        Err(fault) => push_shown(&fault, answers),
     }
 }
 
@@ -112,7 +113,7 @@ fn push_all_applied(
     answers: &mut String,
 ) -> Result<(), AllocError> {
     match read_script(alloc, script) {
-        Ok(edits) => write!(answers, "{:?}", editor.apply_all(edits.as_slice())),
-        Err(fault) => write!(answers, "{fault}"),
+        Ok(edits) => push_debug(&editor.apply_all(edits.as_slice()), answers),
+        Err(fault) => push_shown(&fault, answers),
     }
 }

@@ -4,6 +4,7 @@
 //! The body of a call holds two parts, a pattern and a text or a network and interfaces; or a policy, and the parts of a question.
 
 use crate::asking::{self, Question};
+use crate::drawn::push_shown;
 use crate::frames::{Call, part_of};
 use crate::given::{
     command_of, group_of, interfaces_of, network_of, person_of, request_of, user_of, who_of,
@@ -23,7 +24,7 @@ pub fn push_answer(alloc: Global, call: Call<'_>, answers: &mut String) -> Resul
         b'n' => hits(alloc, first, second)?,
         _ => return push_of_policy(alloc, call, answers),
     };
-    write!(answers, "{holds}")
+    push_shown(&holds, answers)
 }
 
 /// Returns whether `network`, an address with its mask if it has one, hits one of `interfaces`.

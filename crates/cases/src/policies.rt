@@ -1,6 +1,7 @@
 //! Calls of a policy.
 
 use crate::changes::{line_replaced, with_line, without_line};
+use crate::drawn::push_debug;
 use crate::frames::{Call, next_call, number_of, part_of};
 use std::alloc::{AllocError, Global};
 use sudoers_check::{check, report_text, unused};
@@ -21,7 +22,7 @@ pub fn push_answer(
         b'i' => line_replaced(policy, at, line),
         _ => return push_query(alloc, policy, call, answers),
     };
-    write!(answers, "{changed:?}")
+    push_debug(&changed, answers)
 }
 
 /// Adds the answer to a call that changes nothing.
@@ -33,8 +34,8 @@ pub fn push_query(
 ) -> Result<(), AllocError> {
     match call.asked {
         b'r' => answers.push_str("read"),
-        b'n' => write!(answers, "{}", policy.len()),
-        b't' => write!(answers, "{:?}", policy.text()?),
+        b'n' => push_debug(&policy.len(), answers),
+        b't' => push_text(policy, answers),
         // The number of a line.
         b'l' => push_line(policy, place_of(call.body).0, answers),
         b'a' => push_lines(policy, answers),
@@ -42,8 +43,8 @@ pub fn push_query(
         // A kind of alias and a name.
         b'd' => push_definition(policy, call.body, answers),
         b'm' => push_mentions(policy, call.body, answers),
-        b'k' => write!(answers, "{:?}", check(alloc, policy)?),
-        b'u' => write!(answers, "{:?}", unused(alloc, policy)?),
+        b'k' => push_notes(alloc, policy, answers),
+        b'u' => push_unused(alloc, policy, answers),
         // The name of a file, and `s` for a strict report.
         b'p' => push_report(alloc, policy, call.body, answers),
         b'f' => push_fine(alloc, policy, answers),
@@ -51,15 +52,18 @@ pub fn push_query(
     }
 }
 
+/// Adds the text of `policy`.
+fn push_text(policy: &Policy, answers: &mut String) -> Result<(), AllocError> {
+    push_debug(&policy.text()?, answers)
+}
+
 /// Adds the text of a line, its kind, and what it says.
 fn push_line(policy: &Policy, at: usize, answers: &mut String) -> Result<(), AllocError> {
-    write!(
-        answers,
-        "{:?}\t{:?}\t{:?}",
-        policy.line(at),
-        policy.line_kind(at),
-        policy.node(at)
-    )
+    push_debug(&policy.line(at), answers)?;
+    answers.push('\t')?;
+    push_debug(&policy.line_kind(at), answers)?;
+    answers.push('\t')?;
+    push_debug(&policy.node(at), answers)
 }
 
 /// Adds all lines, with a tab behind each.
@@ -87,17 +91,27 @@ fn push_definition(policy: &Policy, named: &[u8], answers: &mut String) -> Resul
     let (kind, name) = name_of(named);
     let place = policy.definition(kind, name);
     let line = place.and_then(|place| policy.line(place.line));
-    write!(
-        answers,
-        "{place:?}\t{:?}\t{line:?}",
-        policy.members(kind, name)
-    )
+    push_debug(&place, answers)?;
+    answers.push('\t')?;
+    push_debug(&policy.members(kind, name), answers)?;
+    answers.push('\t')?;
+    push_debug(&line, answers)
 }
 
 /// Adds where a name is mentioned.
 fn push_mentions(policy: &Policy, named: &[u8], answers: &mut String) -> Result<(), AllocError> {
     let (kind, name) = name_of(named);
-    write!(answers, "{:?}", policy.mentions(kind, name)?)
+    push_debug(&policy.mentions(kind, name)?, answers)
+}
+
+/// Adds the notes of the report.
+fn push_notes(alloc: Global, policy: &Policy, answers: &mut String) -> Result<(), AllocError> {
+    push_debug(&check(alloc, policy)?, answers)
+}
+
+/// Adds the unused definitions.
+fn push_unused(alloc: Global, policy: &Policy, answers: &mut String) -> Result<(), AllocError> {
+    push_debug(&unused(alloc, policy)?, answers)
 }
 
 /// Adds the text of the report. `asked` is the name of a file, and `s` for a strict report.
@@ -110,17 +124,16 @@ fn push_report(
     let (file, strict) = part_of(asked);
     let report = check(alloc, policy)?;
     let text = report_text(alloc, &report, file, strict == b"s".as_slice())?;
-    write!(answers, "{text:?}")
+    push_debug(&text, answers)
 }
 
 /// Adds whether the report is fine, and is with strictness, and how long its text is.
 fn push_fine(alloc: Global, policy: &Policy, answers: &mut String) -> Result<(), AllocError> {
     let report = check(alloc, policy)?;
     let text = report_text(alloc, &report, b"f", false)?;
-    write!(
+    push_debug(
+        &(report.is_fine(false), report.is_fine(true), text.len()),
         answers,
-        "{:?}",
-        (report.is_fine(false), report.is_fine(true), text.len())
     )
 }
 
@@ -131,20 +144,23 @@ fn push_changed_text(
     call: Call<'_>,
     answers: &mut String,
 ) -> Result<(), AllocError> {
-    let lines = policy.lines();
     let (at, line) = place_of(call.body);
     let text = match call.asked {
-        b'W' if at <= lines.rows.len() => text_with(alloc, &lines, at, line)?,
-        b'O' if at < lines.rows.len() => text_without(alloc, &lines, at)?,
-        b'I' if at < lines.rows.len() => text_replaced(alloc, &lines, at, line)?,
-        b'A' => {
-            let mut text = Vec::from_slice(alloc, call.body)?;
-            append_texts(lines.tables, lines.rows, &mut text)?;
-            text
-        }
+        b'A' => text_after(alloc, policy, call.body),
+        b'W' if at <= policy.len() => text_with(alloc, &policy.lines(), at, line),
+        b'O' if at < policy.len() => text_without(alloc, &policy.lines(), at),
+        b'I' if at < policy.len() => text_replaced(alloc, &policy.lines(), at, line),
         _ => return answers.push_str("unknown"),
     };
-    write!(answers, "{text:?}")
+    push_debug(&text?, answers)
+}
+
+/// Returns `front`, and the text of `policy` after it.
+fn text_after(alloc: Global, policy: &Policy, front: &[u8]) -> Result<Vec<u8>, AllocError> {
+    let lines = policy.lines();
+    let mut text = Vec::from_slice(alloc, front)?;
+    append_texts(lines.tables, lines.rows, &mut text)?;
+    Ok(text)
 }
 
 /// Returns the kind of alias and the name with which `bytes` begin.

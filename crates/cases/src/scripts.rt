@@ -1,5 +1,6 @@
 //! Calls of a text that need not be a policy.
 
+use crate::drawn::{push_debug, push_shown};
 use crate::frames::{Call, next_call};
 use std::alloc::{AllocError, Global};
 use sudoers_edit::{Edit, Edits, MAX_EDITS, ScriptFault, Text, read_script, write_script};
@@ -14,7 +15,7 @@ pub fn push_answer(
 ) -> Result<(), AllocError> {
     match call.asked {
         // What the text says as one line.
-        b'l' => write!(answers, "{:?}", read_line(alloc, text)?),
+        b'l' => push_debug(&read_line(alloc, text)?, answers),
         // How many edits the text spells as a script.
         b'r' => push_count(alloc, text, answers),
         // Further edits: the script of the text's edits and of those.
@@ -28,8 +29,8 @@ pub fn push_answer(
 /// Adds how many edits `text` spells, or why it spells none.
 fn push_count(alloc: Global, text: &[u8], answers: &mut String) -> Result<(), AllocError> {
     match read_script(alloc, text) {
-        Ok(edits) => write!(answers, "{}", edits.len()),
-        Err(fault) => write!(answers, "{fault}"),
+        Ok(edits) => push_shown(&edits.len(), answers),
+        Err(fault) => push_shown(&fault, answers),
     }
 }
 
@@ -42,7 +43,7 @@ fn push_written(
 ) -> Result<(), AllocError> {
     match read_further(alloc, text, further) {
         Ok(edits) => push_script(alloc, edits.as_slice(), answers),
-        Err(fault) => write!(answers, "{fault}"),
+        Err(fault) => push_shown(&fault, answers),
     }
 }
 
@@ -97,7 +98,7 @@ fn first_dropped(alloc: Global, name: &[u8]) -> Result<Edit, AllocError> {
 /// Adds the script of `edits`, or why they have none.
 pub fn push_script(alloc: Global, edits: &[Edit], answers: &mut String) -> Result<(), AllocError> {
     match write_script(alloc, edits) {
-        Ok(script) => write!(answers, "{script:?}"),
-        Err(fault) => write!(answers, "{fault}"),
+        Ok(script) => push_debug(&script, answers),
+        Err(fault) => push_shown(&fault, answers),
     }
 }

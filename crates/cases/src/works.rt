@@ -5,6 +5,7 @@
 ghost use Rattle.std.specs.Prelude.{◌≡◌, ◌≤◌, ℕ, List, length, IfOk};
 ghost use Rattle.sudoers_text.specs.Fault.{IsCut};
 
+use crate::drawn::push_shown;
 use crate::frames::{Call, number_of};
 use std::alloc::{AllocError, Global};
 use sudoers_reader::{Tables, read_line};
@@ -14,9 +15,9 @@ use sudoers_text::{Lines, TextFault, cut, line_mode, tokens};
 pub fn push_answer(alloc: Global, call: Call<'_>, answers: &mut String) -> Result<(), AllocError> {
     let (times, text) = number_of(call.body);
     match call.asked {
-        b'c' => write!(answers, "{}", cut_often(alloc, text, times)),
-        b't' => write!(answers, "{}", tokens_often(alloc, text, times)),
-        b'p' => write!(answers, "{}", parse_often(alloc, text, times)),
+        b'c' => push_shown(&cut_often(alloc, text, times), answers),
+        b't' => push_shown(&tokens_often(alloc, text, times), answers),
+        b'p' => push_shown(&parse_often(alloc, text, times), answers),
         _ => answers.push_str("unknown"),
     }
 }
