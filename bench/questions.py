@@ -1,9 +1,12 @@
-"""Cases for the program `cases_match`: a policy that is only read, a request to it, and a pattern against a text."""
+"""Cases for the program `cases`: a policy that is only read, a request to it, a pattern against a text, and the works on a text."""
 
 import struct
 
-# what the program does with the policy of a case
-READ, ANSWER, GROUPS = b"-", b"A", b"K"
+# what the program does with the policy of a case: its subject, and what is asked
+READ, ANSWER, GROUPS = b"ep", b"mA", b"mK"
+
+# the works on a text
+CUT, TOKENS, PARSE = b"wc", b"wt", b"wp"
 
 
 def part(data):
@@ -25,8 +28,10 @@ def question(asked, policy):
     """A case in which bob, who is in the group adm, asks on the host web1 to run /bin/ls as root; or the policy is only read."""
     host = parts(b"web1", b"web1.example", b"")
     user = parts(b"bob", number(1000), b"adm", number(4))
-    if asked != ANSWER:
-        return asked + part(part(policy) + host + user)
+    if asked == READ:
+        return asked + part(part(policy) + b"r" + part(b""))
+    if asked == GROUPS:
+        return asked + part(parts(policy, host, user))
     root = parts(b"root", number(0), b"root", number(0))
     moment = struct.pack(">Q", 20260101000000)
     return asked + part(parts(policy, host, user, root, b"", b"/bin/ls", parts(b"-l", b"/tmp"), moment))
@@ -41,4 +46,9 @@ def chain(count, members):
 
 def pattern(stars, length, last=b"a"):
     """A case that matches so many `*a` against a text of so many `a`; with another last byte the text does not match."""
-    return b"a" + part(parts(b"*a" * stars, b"a" * (length - 1) + last))
+    return b"ma" + part(parts(b"*a" * stars, b"a" * (length - 1) + last))
+
+
+def work(asked, times, text):
+    """A case that does a work on a text so many times."""
+    return asked + part(struct.pack(">Q", times) + text)

@@ -9,8 +9,8 @@ byte that cannot be seen has a picture: `␊` LF, `␍` CR, `␉` tab, `␀` NUL
 digits, `⟨⟩` is no byte, and `⟨65535×#⟩` is a repeated text, in which others may be repeated too. In a repeated text
 `{n}` is the number of the time, from 1, and `{3n-2}` a number counted from it.
 
-A frame is a byte that says what is asked, the length of its body in eight bytes, and the body. The body holds a text,
-or parts: the length of each in eight bytes, and the part.
+A frame is a byte that names the subject, and a call. A call is a byte that says what is asked, the length of its body
+in eight bytes, and the body. The body holds a text, or parts: the length of each in eight bytes, and the part.
 """
 
 import glob
@@ -27,16 +27,19 @@ TOP = os.path.dirname(os.path.dirname(os.path.abspath(__file__)))
 TABLES = os.path.join(TOP, "tests", "tables")
 SECONDS = 120
 
-# The folders of tables, and the crate of the program that each is asked of.
-PROGRAMS = {
-    "text": "cases_line",
-    "line": "cases_line",
-    "hits": "cases_match",
-    "match": "cases_match",
-    "list": "cases_list",
-    "tree": "cases_edit",
-    "check": "cases_edit",
-    "edit": "cases_edit",
+# The crate of the program that is asked.
+PROGRAM = "cases"
+
+# The folders of tables, and the part that reads each.
+FOLDERS = {
+    "text": "tables_line",
+    "line": "tables_line",
+    "hits": "tables_match",
+    "match": "tables_match",
+    "list": "tables_list",
+    "tree": "tables_edit",
+    "check": "tables_edit",
+    "edit": "tables_edit",
 }
 
 PICTURES = {"␊": b"\n", "␍": b"\r", "␉": b"\t", "␀": b"\0", "␠": b" "}
@@ -138,14 +141,19 @@ def part(data):
     return struct.pack(">Q", len(data)) + data
 
 
-def frame(asked, *parts):
-    """A case or a call whose body holds parts. `asked` is one byte."""
-    return asked + part(b"".join(map(part, parts)))
+def joined(*parts):
+    """Parts, one after another."""
+    return b"".join(map(part, parts))
 
 
-def frame_of_text(asked, text):
-    """A case whose body is a text."""
-    return asked + part(text)
+def call(asked, body=b""):
+    """A call. `asked` is one byte."""
+    return asked + part(body)
+
+
+def frame(subject, asked, body):
+    """A case. `subject` is one byte."""
+    return subject + call(asked, body)
 
 
 def check_row(row):
@@ -191,9 +199,9 @@ def groups_of(path):
     return groups
 
 
-def programs_of(crate):
-    """The builds of a crate's program: that of `rt run`, and that of Rattle's own compiler if it was made."""
-    built = os.path.join(TOP, "crates", crate, "out", crate)
+def programs():
+    """The builds of the program: that of `rt run`, and that of Rattle's own compiler if it was made."""
+    built = os.path.join(TOP, "crates", PROGRAM, "out", PROGRAM)
     other = built + ".by-rattle"
     return [built, other] if os.path.exists(other) else [built]
 
@@ -243,23 +251,23 @@ def check_folders(tally):
     for path, _, names in os.walk(TABLES):
         folder = os.path.relpath(path, TABLES)
         for name in sorted(names):
-            if not (folder in PROGRAMS and re.fullmatch(r"[^.].*\.table", name)):
+            if not (folder in FOLDERS and re.fullmatch(r"[^.].*\.table", name)):
                 tally.note(os.path.relpath(os.path.join(path, name), TOP), ["no part reads this file"])
 
 
-def run_tables(crate, readers, tally):
-    """Asks the program of a crate the tables of its folders.
+def run_tables(name, readers, tally):
+    """Asks the program the tables of the folders of the part of this name.
 
     `readers` has for each folder a function that makes cases of the groups of a table.
     """
-    built = programs_of(crate)
+    built = programs()
     if not os.access(built[0], os.X_OK):
-        tally.note(crate, [f"no program: run `rt run < /dev/null` in crates/{crate}"])
+        tally.note(name, [f"no program: run `rt run < /dev/null` in crates/{PROGRAM}"])
         return
     check_folders(tally)
-    wanted = {folder for folder, program in PROGRAMS.items() if program == crate}
+    wanted = {folder for folder, reader in FOLDERS.items() if reader == name}
     if wanted != set(readers):
-        tally.note(crate, [f"the folders {sorted(wanted)} are read by {sorted(readers)}"])
+        tally.note(name, [f"the folders {sorted(wanted)} are read by {sorted(readers)}"])
     for folder in sorted(readers):
         paths = sorted(glob.glob(os.path.join(TABLES, folder, "*.table")))
         if not paths:

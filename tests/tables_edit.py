@@ -1,4 +1,4 @@
-"""Asks the program `cases_edit` the tables of `tables/tree`, `tables/check` and `tables/edit`.
+"""Asks the program `cases` the tables of `tables/tree`, `tables/check` and `tables/edit`.
 
 The words of a group's head say what its rows are. Two rows, a case and its answer:
 
@@ -56,18 +56,28 @@ from policies import (
     is_fault,
     lines_of,
 )
-from tables import TABLES, TOP, Case, NoRow, asked, groups_of, part, programs_of, run_tables, text_of, unrolled
+from tables import (
+    TABLES,
+    TOP,
+    Case,
+    NoRow,
+    asked,
+    call,
+    frame,
+    groups_of,
+    part,
+    programs,
+    run_tables,
+    text_of,
+    unrolled,
+)
 from tally import difference
 
+SUBJECT = b"e"
 VERDICTS = (": parsed OK", ": faults found")
 PARTS = 16  # how many smaller policies are as much as the large one
 TIMES = 4  # how many times as long as its parts a policy may take
 ENOUGH = 0.2  # so many seconds can be compared
-
-
-def call(byte, body=b""):
-    """A call."""
-    return byte + part(body)
 
 
 def number(word):
@@ -86,15 +96,15 @@ def named(kind, name):
 
 def frame_of(sort, text, calls):
     """A case: a text and calls."""
-    return call(sort, part(text) + b"".join(calls))
+    return frame(SUBJECT, sort, part(text) + b"".join(calls))
 
 
 def cases_of_calls(name, sort, text, calls):
     """The cases of calls on one text. A call is its name, its frame, its wanted answer, and how its answer is drawn."""
-    frame = frame_of(sort, text, [one for _, one, _, _ in calls])
+    asking = frame_of(sort, text, [one for _, one, _, _ in calls])
     for what, _, wanted, drawn in calls:
-        yield Case(f"{name}: {what}", frame, wanted, drawn)
-        frame = b""
+        yield Case(f"{name}: {what}", asking, wanted, drawn)
+        asking = b""
 
 
 def wanted_row(row):
@@ -276,8 +286,8 @@ def read(name, _words, text, _row, answer):
 
 def rows(name, _words, text, _row, answer):
     """The first physical lines of the lines of a policy."""
-    calls = [("rows", call(b"o"), wanted_row(answer), lambda line: drawn_line_fault(line) or line.strip())]
-    yield from cases_of_calls(name, b"t", text, calls)
+    calls = [("rows", call(b"b"), wanted_row(answer), lambda line: drawn_line_fault(line) or line.strip())]
+    yield from cases_of_calls(name, b"p", text, calls)
 
 
 def defined(name, words, text, _row, answer):
@@ -384,7 +394,7 @@ def cases_of_report(name, text, strict, file, report):
         ("is fine", call(b"f"), (True, is_fine, len(wanted)), fine),
     ]
     yield from cases_of_calls(name, b"p", text, calls)
-    yield from cases_of_calls(name, b"t", text, [("of the text", call(b"k", body), wanted, drawn_bytes)])
+    yield from cases_of_calls(name, b"e", text, [("of an editor", call(b"p", body), wanted, drawn_bytes)])
 
 
 def cases_of_reports(group):
@@ -537,10 +547,10 @@ def is_run_alone(group):
     return group.words == ("time",) or group.words[0] == "run" and group.words[-1].isdigit() and len(group.words) == 2
 
 
-def seconds_of(program, frame):
+def seconds_of(program, case):
     """The seconds of processor that a program takes to answer a case."""
     before = resource.getrusage(resource.RUSAGE_CHILDREN)
-    asked(program, [frame])
+    asked(program, [case])
     after = resource.getrusage(resource.RUSAGE_CHILDREN)
     return after.ru_utime - before.ru_utime + after.ru_stime - before.ru_stime
 
@@ -674,7 +684,7 @@ def run_alone(tally):
         for path in sorted(glob.glob(os.path.join(TABLES, folder, "*.table"))):
             try:
                 groups = [group for group in groups_of(path) if is_run_alone(group)]
-                for program in programs_of("cases_edit") if groups else []:
+                for program in programs() if groups else []:
                     for group in groups:
                         (run_times if group.words == ("time",) else run_edits)(program, group, tally)
             except (NoRow, OSError, subprocess.SubprocessError) as error:
@@ -683,5 +693,5 @@ def run_alone(tally):
 
 def run_all(_program, tally):
     """Asks all tables of policies, checks and editors."""
-    run_tables("cases_edit", {folder: cases_of for folder in ("tree", "check", "edit")}, tally)
+    run_tables("tables_edit", {folder: cases_of for folder in ("tree", "check", "edit")}, tally)
     run_alone(tally)

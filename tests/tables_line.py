@@ -1,4 +1,4 @@
-"""Asks the program `cases_line` the tables of `tables/text` and `tables/line`.
+"""Asks the program `cases` the tables of `tables/text` and `tables/line`.
 
 The words of a group's head say what is asked of each of its cases:
 
@@ -33,7 +33,9 @@ from functools import partial
 
 import said
 from nodes import drawn_aliases, drawn_node, drawn_syntax, held_in
-from tables import Case, NoRow, frame_of_text, run_tables, text_of, unrolled
+from tables import Case, NoRow, frame, run_tables, text_of, unrolled
+
+SUBJECT = b"l"
 
 TOKEN = re.compile(r"Token \{ kind: (\w+), start: (\d+), stop: (\d+) \}")
 ERROR = re.compile(r" *\^ [A-Z][A-Za-z]+")
@@ -170,8 +172,8 @@ def case_of(name, ask, row, answer):
             marks = drawn_tokens(line)
             return wanted if marks.startswith(head) and marks[len(head) : len(head) + 1] != "-" else marks
 
-        return Case(name, frame_of_text(asked, text), wanted, begun)
-    return Case(name, frame_of_text(asked, text), wanted, drawn)
+        return Case(name, frame(SUBJECT, asked, text), wanted, begun)
+    return Case(name, frame(SUBJECT, asked, text), wanted, drawn)
 
 
 def filled(line, answer, piece, said_of_piece):
@@ -213,7 +215,7 @@ def cases_of_group(group, frames):
     if group.words == ("lines",):
         for number, row in group.rows:
             name = f"{group.where}:{number}: {group.title}: {row}"
-            yield Case(name, frame_of_text(b"l", text_of(row.replace("|", ""))), text_of(row), drawn_lines)
+            yield Case(name, frame(SUBJECT, b"l", text_of(row.replace("|", ""))), text_of(row), drawn_lines)
         return
     if len(group.words) == 3 and rest[0] == "in" and first in ASKS:
         if rest[1] not in frames:
@@ -245,4 +247,4 @@ def cases_of(groups):
 
 def run_all(_program, tally):
     """Asks all tables of texts and of lines."""
-    run_tables("cases_line", {"text": cases_of, "line": cases_of}, tally)
+    run_tables("tables_line", {"text": cases_of, "line": cases_of}, tally)

@@ -1,4 +1,4 @@
-"""Asks the program `cases_list` the tables of `tables/list`.
+"""Asks the program `cases` the tables of `tables/list`.
 
 A row `passwd: TEXT` or `group: TEXT` is a file of people. It holds for the rows below it, until another of its kind or
 the next group. The words of a group's head say what is asked:
@@ -21,7 +21,9 @@ follows may be missing. Then there are no interfaces, the target is root, no gro
 
 import re
 
-from tables import Case, drawn_text, frame, part, run_tables, text_of, unrolled
+from tables import Case, drawn_text, frame, joined, part, run_tables, text_of, unrolled
+
+SUBJECT = b"p"
 
 ASKED = {
     ("people",): b"P",
@@ -64,7 +66,7 @@ def parts_of_question(asked, policy):
         text_of(found["target"] or "root"),
         part(text_of(found["group"])) if found["group"] else b"",
         text_of(found["stamp"] or "20260101000000Z"),
-        b"".join(part(text_of(word)) for word in words),
+        joined(*map(text_of, words)),
     ]
 
 
@@ -94,7 +96,7 @@ def cases_of_group(group):
             raise group.error(number, "this is no question")
         texts = [text_of(files["passwd"]), text_of(files["group"])]
         name = f"{group.where}:{number}: {group.title}: {policy or ''}: {row}"
-        yield Case(name, frame(asked, *texts, *parts), wanted(answer), drawn)
+        yield Case(name, frame(SUBJECT, asked, joined(*texts, *parts)), wanted(answer), drawn)
 
 
 def cases_of(groups):
@@ -105,4 +107,4 @@ def cases_of(groups):
 
 def run_all(_program, tally):
     """Asks all tables of people and listings."""
-    run_tables("cases_list", {"list": cases_of}, tally)
+    run_tables("tables_list", {"list": cases_of}, tally)

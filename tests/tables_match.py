@@ -1,4 +1,4 @@
-"""Asks the program `cases_match` the tables of `tables/hits` and `tables/match`.
+"""Asks the program `cases` the tables of `tables/hits` and `tables/match`.
 
 The words of a group's head say what is asked:
 
@@ -38,7 +38,9 @@ A row that begins with `+ ` is a script, which the requests below it are asked a
 import re
 import struct
 
-from tables import Case, NoRow, frame, part, run_tables, text_of, unrolled
+from tables import Case, NoRow, frame, joined, run_tables, text_of, unrolled
+
+SUBJECT = b"m"
 
 ASKED = {("glob", "path"): b"p", ("glob", "args"): b"a", ("glob", "host"): b"l", ("network",): b"n"}
 SIGNS = {"+ ": "true", "- ": "false"}
@@ -87,11 +89,6 @@ def parts_asked(asked, row):
     return [part for one in [words[0], *groups] for part in numbered(one)]
 
 
-def joined(parts):
-    """Parts as one."""
-    return b"".join(map(part, parts))
-
-
 def parts_of_request(asked):
     """The parts of a request: host, user, target, group, command, arguments and moment; `None` if it is none."""
     found = REQUEST.fullmatch(asked)
@@ -99,20 +96,20 @@ def parts_of_request(asked):
         return None
     command, *args = unrolled(found["command"]).split(" ")
     return [
-        joined(parts_asked(b"H", found["host"])),
-        joined(parts_asked(b"U", found["user"])),
-        joined(parts_asked(b"U", found["target"] or "root:0 root:0")),
-        joined(numbered(found["group"])) if found["group"] else b"",
+        joined(*parts_asked(b"H", found["host"])),
+        joined(*parts_asked(b"U", found["user"])),
+        joined(*parts_asked(b"U", found["target"] or "root:0 root:0")),
+        joined(*numbered(found["group"])) if found["group"] else b"",
         text_of(command),
-        joined(map(text_of, args)),
+        joined(*map(text_of, args)),
         struct.pack(">Q", int(found["moment"] or "20260101000000")),
     ]
 
 
 def parts_of_user(asked):
-    """The parts of a user on a host; `None` if it is none."""
+    """The parts of a user on a host: host and user; `None` if it is none."""
     user, at, host = asked.partition(" @ ")
-    return [*parts_asked(b"H", host), *parts_asked(b"U", user)] if at else None
+    return [joined(*parts_asked(b"H", host)), joined(*parts_asked(b"U", user))] if at else None
 
 
 def cases_of_policies(group):
@@ -133,7 +130,7 @@ def cases_of_policies(group):
             raise group.error(number, "this is no question")
         scripts = [] if script is None else [text_of(script)]
         name = f"{group.where}:{number}: {group.title}: {policy}: {script or ''}: {row}"
-        yield Case(name, frame(asked_of, text_of(policy), *scripts, *parts), wanted, str)
+        yield Case(name, frame(SUBJECT, asked_of, joined(text_of(policy), *scripts, *parts)), wanted, str)
 
 
 def cases_of_lists(group):
@@ -146,7 +143,7 @@ def cases_of_lists(group):
         if policy is None:
             raise group.error(number, "a question without a policy")
         name = f"{group.where}:{number}: {group.title}: {policy}: {row}"
-        yield Case(name, frame(asked, text_of(policy), *parts_asked(asked, row[2:])), VERDICTS[row[:2]], str)
+        yield Case(name, frame(SUBJECT, asked, joined(text_of(policy), *parts_asked(asked, row[2:]))), VERDICTS[row[:2]], str)
 
 
 def cases_of_group(group):
@@ -168,7 +165,7 @@ def cases_of_group(group):
         if pattern is None:
             raise group.error(number, "a text without a pattern")
         name = f"{group.where}:{number}: {group.title}: {pattern}: {row}"
-        yield Case(name, frame(asked, of_pattern(pattern), of_text(row[2:])), SIGNS[row[:2]], str)
+        yield Case(name, frame(SUBJECT, asked, joined(of_pattern(pattern), of_text(row[2:]))), SIGNS[row[:2]], str)
 
 
 def cases_of(groups):
@@ -179,4 +176,4 @@ def cases_of(groups):
 
 def run_all(_program, tally):
     """Asks all tables of patterns, networks and lists."""
-    run_tables("cases_match", {"hits": cases_of, "match": cases_of}, tally)
+    run_tables("tables_match", {"hits": cases_of, "match": cases_of}, tally)

@@ -1,0 +1,112 @@
+//! The frames of cases.
+//!
+//! A case is one byte that names its subject, and a call. A call is one byte that says what is asked, the length of the body in
+//! eight bytes (most significant first), and the body. A part is a length in eight bytes, and then the bytes. A body holds a text, or
+//! parts, or parts and then further calls.
+
+use std::alloc::{AllocError, Global};
+use sudoers_line::Items;
+
+/// What a case is about.
+#[derive(Clone, Copy)]
+pub enum Subject {
+    /// Texts and lines.
+    Line,
+    /// Patterns, networks, lists and requests.
+    Match,
+    /// People and their listings.
+    People,
+    /// Policies, editors and scripts.
+    Edit,
+    /// What the benchmark times.
+    Work,
+}
+
+impl Subject {
+    /// Returns the subject that `byte` names.
+    fn of(byte: u8) -> Option<Subject> {
+        match byte {
+            b'l' => Some(Subject::Line),
+            b'm' => Some(Subject::Match),
+            b'p' => Some(Subject::People),
+            b'e' => Some(Subject::Edit),
+            b'w' => Some(Subject::Work),
+            _ => None,
+        }
+    }
+}
+
+/// What is asked, and of which bytes.
+#[derive(Clone, Copy)]
+pub struct Call<'a> {
+    /// The byte that says what is asked.
+    pub asked: u8,
+    pub body: &'a [u8],
+}
+
+/// A call about a subject.
+#[derive(Clone, Copy)]
+pub struct Case<'a> {
+    /// `None` if no subject has the byte.
+    pub subject: Option<Subject>,
+    pub call: Call<'a>,
+}
+
+/// Splits the first case off `bytes`. `None` if they begin with no whole case.
+pub fn next_case(bytes: &[u8]) -> Option<(Case<'_>, &[u8])> {
+    let (subject, rest) = bytes.split_first()?;
+    let (call, rest) = next_call(rest)?;
+    let case = Case {
+        subject: Subject::of(*subject),
+        call,
+    };
+    Some((case, rest))
+}
+
+/// Splits the first call off `bytes`. `None` if they begin with no whole call.
+pub fn next_call(bytes: &[u8]) -> Option<(Call<'_>, &[u8])> {
+    let (asked, rest) = bytes.split_first()?;
+    let (body, rest) = next_part(rest)?;
+    let call = Call {
+        asked: *asked,
+        body,
+    };
+    Some((call, rest))
+}
+
+/// Splits the first part off `bytes`. `None` if they begin with no whole part.
+pub fn next_part(bytes: &[u8]) -> Option<(&[u8], &[u8])> {
+    let (len, rest) = bytes.split_first_chunk::<8>()?;
+    rest.split_at_checked(u64::from_be_bytes(*len) as usize)
+}
+
+/// Splits the first part off `bytes`: an empty part if they begin with no whole one.
+pub fn part_of(bytes: &[u8]) -> (&[u8], &[u8]) {
+    next_part(bytes).unwrap_or((b"", b""))
+}
+
+/// Splits a number of eight bytes off `bytes`, the first highest: 0 if there are fewer.
+pub fn number_of(bytes: &[u8]) -> (u64, &[u8]) {
+    match bytes.split_first_chunk::<8>() {
+        Some((number, rest)) => (u64::from_be_bytes(*number), rest),
+        None => (0, bytes),
+    }
+}
+
+/// Returns the words that parts are.
+///
+/// # Errors
+///
+/// Memory ran out.
+pub fn words_of(alloc: Global, bytes: &[u8]) -> Result<Vec<Items<u8>>, AllocError> {
+    let mut words = Vec::new(alloc);
+    let mut left = bytes;
+    for _ in 0..bytes.len() {
+        let Some((word, rest)) = next_part(left) else {
+            break;
+        };
+        words.push(Items::from_slice(alloc, word)?)?;
+        left = rest;
+    }
+    Ok(words)
+}

@@ -1,0 +1,168 @@
+//! Users, hosts, commands and requests, as the parts of a body have them.
+
+use crate::frames::{number_of, part_of, words_of};
+use std::alloc::{AllocError, Global};
+use sudoers_hits::{CommandLine, Group, Interface, Person, Who};
+use sudoers_line::{Address, Items, Mask};
+use sudoers_match::Request;
+
+/// Returns the number that four bytes are, the first highest: 0 if there are fewer.
+fn id_of(bytes: &[u8]) -> u32 {
+    match bytes.split_first_chunk::<4>() {
+        Some((number, _)) => u32::from_be_bytes(*number),
+        None => 0,
+    }
+}
+
+/// Returns the mask that five bytes are: a number of bits, or 255 and a dotted mask. `None` if there is no byte.
+fn mask_of(bytes: &[u8]) -> Option<Mask> {
+    let (bits, dotted) = bytes.split_first()?;
+    Some(match *bits {
+        255 => Mask::Dotted(Address {
+            number: id_of(dotted),
+        }),
+        bits => Mask::Bits(bits),
+    })
+}
+
+/// Returns the address that four bytes are, and the mask behind it if there is one.
+pub fn network_of(bytes: &[u8]) -> (Address, Option<Mask>) {
+    let address = Address {
+        number: id_of(bytes),
+    };
+    let (_, mask) = bytes.split_at_checked(4).unwrap_or((b"", b""));
+    (address, mask_of(mask))
+}
+
+/// Returns the interfaces that are nine bytes each: an address and a mask.
+///
+/// # Errors
+///
+/// Memory ran out.
+pub fn interfaces_of(alloc: Global, bytes: &[u8]) -> Result<Vec<Interface>, AllocError> {
+    let mut interfaces = Vec::new(alloc);
+    for piece in bytes.chunks_exact(9) {
+        if let (address, Some(mask)) = network_of(piece) {
+            interfaces.push(Interface { address, mask })?;
+        }
+    }
+    Ok(interfaces)
+}
+
+/// Returns the group that the first two parts are: a name, and a number of four bytes.
+///
+/// # Errors
+///
+/// Memory ran out.
+pub fn group_of(alloc: Global, bytes: &[u8]) -> Result<Group, AllocError> {
+    let (name, rest) = part_of(bytes);
+    let (number, _) = part_of(rest);
+    Ok(Group {
+        gid: id_of(number),
+        name: Items::from_slice(alloc, name)?,
+    })
+}
+
+/// Returns the user that the parts are: a name, a number of four bytes, and groups.
+///
+/// # Errors
+///
+/// Memory ran out.
+pub fn person_of(alloc: Global, bytes: &[u8]) -> Result<Person, AllocError> {
+    let (name, rest) = part_of(bytes);
+    let (number, rest) = part_of(rest);
+    Ok(Person {
+        name: Items::from_slice(alloc, name)?,
+        uid: id_of(number),
+        groups: groups_of(alloc, rest)?,
+    })
+}
+
+/// Returns the groups that the parts are, two for each.
+fn groups_of(alloc: Global, bytes: &[u8]) -> Result<Items<Group>, AllocError> {
+    let mut groups = Vec::new(alloc);
+    let mut left = bytes;
+    for _ in 0..bytes.len() {
+        if left.is_empty() {
+            break;
+        }
+        groups.push(group_of(alloc, left)?)?;
+        let (_, rest) = part_of(left);
+        let (_, others) = part_of(rest);
+        left = others;
+    }
+    Ok(Items::from_vec(groups))
+}
+
+/// Returns `user` on the host that three parts are, its short name, its long name and its interfaces.
+///
+/// # Errors
+///
+/// Memory ran out.
+pub fn who_of(alloc: Global, user: Person, host: &[u8]) -> Result<Who, AllocError> {
+    let (short, rest) = part_of(host);
+    let (long, rest) = part_of(rest);
+    let (interfaces, _) = part_of(rest);
+    Ok(Who {
+        user,
+        long_host: Items::from_slice(alloc, long)?,
+        short_host: Items::from_slice(alloc, short)?,
+        interfaces: Items::from_vec(interfaces_of(alloc, interfaces)?),
+    })
+}
+
+/// Returns the user on a host that two parts are: the host, and the user.
+///
+/// # Errors
+///
+/// Memory ran out.
+pub fn user_of(alloc: Global, bytes: &[u8]) -> Result<Who, AllocError> {
+    let (host, rest) = part_of(bytes);
+    let (user, _) = part_of(rest);
+    who_of(alloc, person_of(alloc, user)?, host)
+}
+
+/// Returns the command that two parts are: its path and its arguments.
+///
+/// # Errors
+///
+/// Memory ran out.
+pub fn command_of(alloc: Global, bytes: &[u8]) -> Result<CommandLine, AllocError> {
+    let (path, rest) = part_of(bytes);
+    let (args, _) = part_of(rest);
+    Ok(CommandLine {
+        path: Items::from_slice(alloc, path)?,
+        args: Items::from_slice(alloc, args)?,
+    })
+}
+
+/// Returns the request that seven parts are: the host, the user, the target, its group, the command, its arguments and the moment.
+///
+/// # Errors
+///
+/// Memory ran out.
+pub fn request_of(alloc: Global, bytes: &[u8]) -> Result<Request, AllocError> {
+    let (_, rest) = part_of(bytes);
+    let (_, rest) = part_of(rest);
+    let (target, rest) = part_of(rest);
+    let (group, rest) = part_of(rest);
+    let (command, rest) = part_of(rest);
+    let (args, rest) = part_of(rest);
+    let (moment, _) = part_of(rest);
+    Ok(Request {
+        who: user_of(alloc, bytes)?,
+        target: person_of(alloc, target)?,
+        target_group: target_group_of(alloc, group)?,
+        command: Items::from_slice(alloc, command)?,
+        args: Items::from_vec(words_of(alloc, args)?),
+        moment: number_of(moment).0,
+    })
+}
+
+/// Returns the group that two parts are; `None` if there is no byte.
+fn target_group_of(alloc: Global, bytes: &[u8]) -> Result<Option<Group>, AllocError> {
+    if bytes.is_empty() {
+        return Ok(None);
+    }
+    Ok(Some(group_of(alloc, bytes)?))
+}

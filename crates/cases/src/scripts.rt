@@ -1,0 +1,104 @@
+//! Calls of a text that need not be a policy.
+
+use crate::drawn::{push_debug, push_shown};
+use crate::frames::{Call, next_call};
+use std::alloc::{AllocError, Global};
+use sudoers_edit::{Edit, Edits, MAX_EDITS, ScriptFault, Text, read_script, write_script};
+use sudoers_tree::{ALIAS_LIMIT, Kind, read_line};
+
+/// Adds the answer to a call of `text`; `unknown` if this is not known.
+pub fn push_answer(
+    alloc: Global,
+    text: &[u8],
+    call: Call<'_>,
+    answers: &mut String,
+) -> Result<(), AllocError> {
+    match call.asked {
+        // What the text says as one line.
+        b'l' => push_debug(&read_line(alloc, text)?, answers),
+        // How many edits the text spells as a script.
+        b'r' => push_count(alloc, text, answers),
+        // Further edits: the script of the text's edits and of those.
+        b'w' => push_written(alloc, text, call.body, answers),
+        // The most edits of a script, and the most aliases of a kind.
+        b'm' => write!(answers, "{MAX_EDITS} {ALIAS_LIMIT}"),
+        _ => answers.push_str("unknown"),
+    }
+}
+
+/// Adds how many edits `text` spells, or why it spells none.
+fn push_count(alloc: Global, text: &[u8], answers: &mut String) -> Result<(), AllocError> {
+    match read_script(alloc, text) {
+        Ok(edits) => push_shown(&edits.len(), answers),
+        Err(fault) => push_shown(&fault, answers),
+    }
+}
+
+/// Adds the script of the edits that `text` spells and of `further` ones.
+fn push_written(
+    alloc: Global,
+    text: &[u8],
+    further: &[u8],
+    answers: &mut String,
+) -> Result<(), AllocError> {
+    match read_further(alloc, text, further) {
+        Ok(edits) => push_script(alloc, edits.as_slice(), answers),
+        Err(fault) => push_shown(&fault, answers),
+    }
+}
+
+/// Returns copies of the edits that `text` spells, and `further` edits.
+fn read_further(alloc: Global, text: &[u8], further: &[u8]) -> Result<Edits, ScriptFault> {
+    let mut edits = Edits::new(alloc);
+    push_copies(alloc, &mut edits, text)?;
+    let mut left = further;
+    for _ in 0..further.len() {
+        let Some((more, rest)) = next_call(left) else {
+            break;
+        };
+        push_further(alloc, &mut edits, more)?;
+        left = rest;
+    }
+    Ok(edits)
+}
+
+/// Appends the edits of one call to `edits`.
+fn push_further(alloc: Global, edits: &mut Edits, more: Call<'_>) -> Result<(), ScriptFault> {
+    match more.asked {
+        // Those that a script spells.
+        b's' => push_copies(alloc, edits, more.body)?,
+        // One that drops the first member of an alias of users with this name.
+        b'd' => edits.push(first_dropped(alloc, more.body)?)?,
+        // One that prunes, in place of the others.
+        _ => *edits = Edits::one(alloc, Edit::Prune)?,
+    }
+    Ok(())
+}
+
+/// Appends copies of the edits that `script` spells to `edits`.
+fn push_copies(alloc: Global, edits: &mut Edits, script: &[u8]) -> Result<(), ScriptFault> {
+    for edit in read_script(alloc, script)?.as_slice() {
+        edits.push(edit.copied(alloc)?)?;
+    }
+    Ok(())
+}
+
+/// Returns the edit that drops the first member of the alias of users `name`. It makes the name of two pieces.
+fn first_dropped(alloc: Global, name: &[u8]) -> Result<Edit, AllocError> {
+    let (front, back) = name.split_at(name.len() / 2);
+    let mut name = Text::from_slice(alloc, front)?;
+    name.extend_from_slice(back)?;
+    Ok(Edit::DropMember {
+        kind: Kind::User,
+        name,
+        at: 0,
+    })
+}
+
+/// Adds the script of `edits`, or why they have none.
+pub fn push_script(alloc: Global, edits: &[Edit], answers: &mut String) -> Result<(), AllocError> {
+    match write_script(alloc, edits) {
+        Ok(script) => push_debug(&script, answers),
+        Err(fault) => push_shown(&fault, answers),
+    }
+}
