@@ -149,20 +149,40 @@ pub fn request_of(alloc: Global, bytes: &[u8]) -> Result<Request, AllocError> {
     let (command, rest) = part_of(rest);
     let (args, rest) = part_of(rest);
     let (moment, _) = part_of(rest);
+    let who = user_of(alloc, bytes)?;
+    let (target, target_group) = target_of(alloc, target, group)?;
+    let (command, args) = words_in(alloc, command, args)?;
     Ok(Request {
-        who: user_of(alloc, bytes)?,
-        target: person_of(alloc, target)?,
-        target_group: target_group_of(alloc, group)?,
-        command: Items::from_slice(alloc, command)?,
-        args: Items::from_vec(words_of(alloc, args)?),
+        who,
+        target,
+        target_group,
+        command,
+        args,
         moment: number_of(moment).0,
     })
 }
 
-/// Returns the group that two parts are; `None` if there is no byte.
-fn target_group_of(alloc: Global, bytes: &[u8]) -> Result<Option<Group>, AllocError> {
-    if bytes.is_empty() {
-        return Ok(None);
+/// Returns the user as whom a command is to run, and the group; `None` if `group` has no byte.
+fn target_of(
+    alloc: Global,
+    target: &[u8],
+    group: &[u8],
+) -> Result<(Person, Option<Group>), AllocError> {
+    let target = person_of(alloc, target)?;
+    if group.is_empty() {
+        return Ok((target, None));
     }
-    Ok(Some(group_of(alloc, bytes)?))
+    let group = group_of(alloc, group)?;
+    Ok((target, Some(group)))
+}
+
+/// Returns the path of a command, and its arguments, which are parts.
+fn words_in(
+    alloc: Global,
+    path: &[u8],
+    args: &[u8],
+) -> Result<(Items<u8>, Items<Items<u8>>), AllocError> {
+    let args = words_of(alloc, args)?;
+    let path = Items::from_slice(alloc, path)?;
+    Ok((path, Items::from_vec(args)))
 }
