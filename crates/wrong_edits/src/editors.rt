@@ -1,28 +1,11 @@
-//! Edits, their refusals, and the way back.
+//! Several edits, and undoing one.
 
-ghost use Rattle.std.specs.Prelude.{◌≡◌, ◌<◌, ◌∷◌, [], ◌++◌, length, take, Some, Ok, IfOk, IfErr, OnOk, OnErr, MatchResult, true, false};
+ghost use Rattle.std.specs.Prelude.{◌≡◌, ◌<◌, [], length, take, Some, Ok, IfErr, OnOk, OnErr, MatchResult, true, false};
 ghost use Rattle.sudoers_edit.specs.declared.fault.EditFault.TheVariants as EditFault;
-ghost use Rattle.sudoers_edit.specs.Editing.{step, inv, run, run_all, inv_run, first_of, edits_of, Refuses, StopsAt};
+ghost use Rattle.sudoers_edit.specs.Editing.{run, run_all, StopsAt};
 ghost use Rattle.sudoers_edit.specs.Undoing.{TakesLast};
 
-use std::alloc::AllocError;
-use sudoers_edit::{Edit, EditFault, Editor, Edits};
-
-/// Applies `edit`.
-///
-/// # Errors
-///
-/// The first cause for which the edit is refused, or memory ran out. The editor is then as it was.
-pub fn apply_edit(editor: &mut Editor, edit: &Edit) -> Result<(), EditFault>
-    ensures step { OnOk result (step edit.now editor.old.lines ≡ Ok editor.new.lines) }
-    ensures journal { OnOk result (editor.new.journal
-        ≡ editor.old.journal ++ record { edit = edit.now; inverse = inv edit.now editor.old.lines } ∷ []) }
-    ensures back { OnOk result (run (inv edit.now editor.old.lines) editor.new.lines ≡ Some editor.old.lines) }
-    ensures refused { IfErr result (λ fault. Refuses fault (step edit.now editor.old.lines)) }
-    ensures unchanged { OnErr result (editor.new ≡ editor.old) }
-{
-    editor.apply(edit)
-}
+use sudoers_edit::{Edit, EditFault, Editor};
 
 /// Applies `edits` in their order.
 ///
@@ -52,17 +35,4 @@ pub fn undo_edit(editor: &mut Editor) -> Result<bool, EditFault>
     ensures unchanged { OnErr result (editor.new ≡ editor.old) }
 {
     editor.undo()
-}
-
-/// Returns the edits that undo all that were applied.
-///
-/// # Errors
-///
-/// Memory ran out.
-pub fn edits_that_undo(editor: &Editor) -> Result<Edits, AllocError>
-    ensures exact { IfOk result (λ edits. edits ≡ inv_run (edits_of editor.now.journal) (first_of editor.now)) }
-    ensures restores { IfOk result (λ edits. run edits editor.now.lines ≡ Some (first_of editor.now)) }
-    ensures accepted { IfOk result (λ edits. run_all 0 edits editor.now.lines ≡ Ok (first_of editor.now)) }
-{
-    editor.inverse()
 }
