@@ -13,28 +13,28 @@ use sudoers_tree::{Kind, Policy, ReadFault};
 use sudoers_verdict::{Commands, Groups, Hosts, MemberKind, Users, decide};
 
 /// What is asked of a policy.
-#[derive(Drop)]
+#[derive(Clone, Copy)]
 pub enum Question<'a> {
     /// What its alias A of this kind says of a user.
-    OfUser(Kind, Person),
+    OfUser(Kind, &'a Person),
     /// What its runas alias A says of a group.
-    OfGroup(Group),
+    OfGroup(&'a Group),
     /// What its host alias A says of a host.
-    OfHost(Who),
+    OfHost(&'a Who),
     /// What its command alias A says of a command.
-    OfCommand(CommandLine),
+    OfCommand(&'a CommandLine),
     /// Where a user has rules on a host.
-    Places(Who),
+    Places(&'a Who),
     /// As whom a command runs for him where nothing else is said.
-    Default(Who),
+    Default(&'a Who),
     /// What he may run.
-    Listing(Who),
+    Listing(&'a Who),
     /// Whether a request is allowed.
-    Allowed(Request),
+    Allowed(&'a Request),
     /// Which row decides a request.
-    Row(Request),
+    Row(&'a Request),
     /// Which row decides a request after the edits of a script.
-    Edited(&'a [u8], Request),
+    Edited(&'a [u8], &'a Request),
 }
 
 /// Adds what the policy `text` answers to `question`; `no policy` if it is none.
@@ -47,7 +47,7 @@ pub fn push_answer(
     match Policy::read(alloc, text) {
         Ok(policy) => {
             let mut editor = Editor::new(policy);
-            push_of_editor(alloc, &mut editor, &question, answers)
+            push_of_editor(alloc, &mut editor, question, answers)
         }
         Err(ReadFault::NoMemory) => Err(AllocError),
         Err(_) => answers.push_str("no policy"),
@@ -58,12 +58,12 @@ pub fn push_answer(
 fn push_of_editor(
     alloc: Global,
     editor: &mut Editor,
-    question: &Question<'_>,
+    question: Question<'_>,
     answers: &mut String,
 ) -> Result<(), AllocError> {
     let policy = editor.policy();
     match question {
-        Question::OfUser(kind, user) => push_said::<Users>(alloc, policy, *kind, user, answers),
+        Question::OfUser(kind, user) => push_said::<Users>(alloc, policy, kind, user, answers),
         Question::OfGroup(group) => push_said::<Groups>(alloc, policy, Kind::Runas, group, answers),
         Question::OfHost(who) => push_said::<Hosts>(alloc, policy, Kind::Host, who, answers),
         Question::OfCommand(command) => {

@@ -37,28 +37,106 @@ fn hits(alloc: Global, network: &[u8], interfaces: &[u8]) -> Result<bool, AllocE
 /// Adds what a policy, the first part of `call`, answers to the question that the other parts are; `unknown` if they are none.
 fn push_of_policy(alloc: Global, call: Call<'_>, answers: &mut String) -> Result<(), AllocError> {
     let (policy, parts) = part_of(call.body);
-    match question_of(alloc, call.asked, parts)? {
-        Some(question) => asking::push_answer(alloc, policy, question, answers),
-        None => answers.push_str("unknown"),
+    match call.asked {
+        b'U' => push_of_person(alloc, policy, Kind::User, parts, answers),
+        b'R' => push_of_person(alloc, policy, Kind::Runas, parts, answers),
+        b'G' => push_of_group(alloc, policy, parts, answers),
+        b'H' => push_of_host(alloc, policy, parts, answers),
+        b'C' => push_of_command(alloc, policy, parts, answers),
+        b'K' => push_places(alloc, policy, parts, answers),
+        b'D' => push_default(alloc, policy, parts, answers),
+        b'A' => push_row(alloc, policy, parts, answers),
+        b'E' => push_row_after_edits(alloc, policy, parts, answers),
+        _ => answers.push_str("unknown"),
     }
 }
 
-/// Returns the question of the kind `asked` that `parts` are. `None` if no kind has this byte.
-fn question_of(alloc: Global, asked: u8, parts: &[u8]) -> Result<Option<Question<'_>>, AllocError> {
-    let question = match asked {
-        b'U' => Question::OfUser(Kind::User, person_of(alloc, parts)?),
-        b'R' => Question::OfUser(Kind::Runas, person_of(alloc, parts)?),
-        b'G' => Question::OfGroup(group_of(alloc, parts)?),
-        b'H' => Question::OfHost(who_of(alloc, person_of(alloc, b"")?, parts)?),
-        b'C' => Question::OfCommand(command_of(alloc, parts)?),
-        b'K' => Question::Places(user_of(alloc, parts)?),
-        b'D' => Question::Default(user_of(alloc, parts)?),
-        b'A' => Question::Row(request_of(alloc, parts)?),
-        b'E' => {
-            let (script, request) = part_of(parts);
-            Question::Edited(script, request_of(alloc, request)?)
-        }
-        _ => return Ok(None),
-    };
-    Ok(Some(question))
+/// Adds what the alias A of `kind` says of the user that `parts` are.
+fn push_of_person(
+    alloc: Global,
+    policy: &[u8],
+    kind: Kind,
+    parts: &[u8],
+    answers: &mut String,
+) -> Result<(), AllocError> {
+    let person = person_of(alloc, parts)?;
+    asking::push_answer(alloc, policy, Question::OfUser(kind, &person), answers)
+}
+
+/// Adds what the runas alias A says of the group that `parts` are.
+fn push_of_group(
+    alloc: Global,
+    policy: &[u8],
+    parts: &[u8],
+    answers: &mut String,
+) -> Result<(), AllocError> {
+    let group = group_of(alloc, parts)?;
+    asking::push_answer(alloc, policy, Question::OfGroup(&group), answers)
+}
+
+/// Adds what the host alias A says of the host that `parts` are.
+fn push_of_host(
+    alloc: Global,
+    policy: &[u8],
+    parts: &[u8],
+    answers: &mut String,
+) -> Result<(), AllocError> {
+    let who = who_of(alloc, person_of(alloc, b"")?, parts)?;
+    asking::push_answer(alloc, policy, Question::OfHost(&who), answers)
+}
+
+/// Adds what the command alias A says of the command that `parts` are.
+fn push_of_command(
+    alloc: Global,
+    policy: &[u8],
+    parts: &[u8],
+    answers: &mut String,
+) -> Result<(), AllocError> {
+    let command = command_of(alloc, parts)?;
+    asking::push_answer(alloc, policy, Question::OfCommand(&command), answers)
+}
+
+/// Adds where the user that `parts` are has rules.
+fn push_places(
+    alloc: Global,
+    policy: &[u8],
+    parts: &[u8],
+    answers: &mut String,
+) -> Result<(), AllocError> {
+    let who = user_of(alloc, parts)?;
+    asking::push_answer(alloc, policy, Question::Places(&who), answers)
+}
+
+/// Adds as whom commands of the user that `parts` are run by default.
+fn push_default(
+    alloc: Global,
+    policy: &[u8],
+    parts: &[u8],
+    answers: &mut String,
+) -> Result<(), AllocError> {
+    let who = user_of(alloc, parts)?;
+    asking::push_answer(alloc, policy, Question::Default(&who), answers)
+}
+
+/// Adds the row that decides the request that `parts` are.
+fn push_row(
+    alloc: Global,
+    policy: &[u8],
+    parts: &[u8],
+    answers: &mut String,
+) -> Result<(), AllocError> {
+    let request = request_of(alloc, parts)?;
+    asking::push_answer(alloc, policy, Question::Row(&request), answers)
+}
+
+/// Adds the row that decides a request after the edits of a script, the first of `parts`; the others are the request.
+fn push_row_after_edits(
+    alloc: Global,
+    policy: &[u8],
+    parts: &[u8],
+    answers: &mut String,
+) -> Result<(), AllocError> {
+    let (script, parts) = part_of(parts);
+    let request = request_of(alloc, parts)?;
+    asking::push_answer(alloc, policy, Question::Edited(script, &request), answers)
 }

@@ -130,17 +130,20 @@ fn push_of_user(
     answers: &mut String,
 ) -> Result<(), WhoFault> {
     let who = who_for(alloc, people, words.user, words.host, words.interfaces)?;
-    let question = match inquiry {
-        Inquiry::Who => return Ok(push_who(&who, answers)?),
-        Inquiry::Request => {
-            let request = requested(alloc, people, who, words)?;
-            return Ok(push_request(&request, answers)?);
+    match inquiry {
+        Inquiry::Who => push_who(&who, answers)?,
+        Inquiry::Listing => {
+            asking::push_answer(alloc, words.policy, Question::Listing(&who), answers)?;
         }
-        Inquiry::Listing => Question::Listing(who),
-        Inquiry::Default => Question::Default(who),
-        Inquiry::Allowed => Question::Allowed(requested(alloc, people, who, words)?),
-    };
-    asking::push_answer(alloc, words.policy, question, answers)?;
+        Inquiry::Default => {
+            asking::push_answer(alloc, words.policy, Question::Default(&who), answers)?;
+        }
+        Inquiry::Request => push_request(&requested(alloc, people, who, words)?, answers)?,
+        Inquiry::Allowed => {
+            let request = requested(alloc, people, who, words)?;
+            asking::push_answer(alloc, words.policy, Question::Allowed(&request), answers)?;
+        }
+    }
     Ok(())
 }
 
