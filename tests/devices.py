@@ -289,6 +289,8 @@ def run_pieces(program, tally):
         if case.wanted.stdout:
             real_devices.run_writes(program, tally, case)
         real_devices.run_reads(program, tally, case, input_given.too_large)
+        real_devices.run_closed(program, tally, case)
+    real_devices.run_full_errors(program, tally)
 
     def check(stand, chosen):
         check_library(stand, chosen.given[0][0])

@@ -3,7 +3,10 @@
 import os
 import threading
 
-from program import fault, run
+from program import Wanted, fault, run
+
+CLOSED = 'exec "$@" <&-'
+FULL_ERRORS = 'exec "$@" 2>/dev/full'
 
 
 def run_reads(program, tally, case, too_large):
@@ -15,6 +18,20 @@ def run_reads(program, tally, case, too_large):
         os.close(folder)
     tally.note(f"{case.name}, a folder as standard input", problems)
     tally.note(f"{case.name}, a pipe without end as standard input", pipe_problems(program, case, too_large))
+
+
+def run_closed(program, tally, case):
+    """A closed standard input, which is no file that the words name."""
+    words = ("-c", CLOSED, "sh", program, *case.words)
+    problems = fault("Read").problems(run("/bin/sh", words, folder=case.folder, files=case.files))
+    tally.note(f"{case.name}, a closed standard input", problems)
+
+
+def run_full_errors(program, tally):
+    """Wrong words have their status, though nothing can be written to standard error."""
+    for words in (("lint",), ("check",), ("list", "-x"), ("convert", "-f")):
+        answer = run("/bin/sh", ("-c", FULL_ERRORS, "sh", program, *words))
+        tally.note(f"{' '.join(words)}, a full standard error", Wanted(status=2).problems(answer))
 
 
 def run_writes(program, tally, case):

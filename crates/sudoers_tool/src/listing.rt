@@ -89,11 +89,12 @@ fn why_word<'a>(alloc: Global) -> Result<Arg<'a>, AllocError> {
         .requires_arg("WORD")
 }
 
-/// Returns the argument with a command and its arguments.
+/// Returns the argument with a command and its arguments. Each word after the command is an argument of it.
 fn command_word<'a>(alloc: Global) -> Arg<'a> {
-    Arg::new(alloc, "WORD").num_args(0..).help(
-        "Command and its arguments; without a command all that the user may run is listed",
-    )
+    Arg::new(alloc, "WORD")
+        .num_args(0..)
+        .trailing_var_arg(true)
+        .help("Command and its arguments; without a command all that the user may run is listed")
 }
 
 /// What the command line asks for.
@@ -185,7 +186,12 @@ fn command_of(alloc: Global, words: &ArgMatches<'_>) -> Result<Vec<Items<u8>>, A
 pub fn list_file(rt: &HostRuntime, file: &str, words: &ArgMatches<'_>) -> Result<u8, ToolFault> {
     let asked = Asked::of(rt.alloc(), file, words)?;
     if file == STDIN {
-        return list_policy(rt, &mut Counted::new(rt.stdin()), words, &asked.words());
+        let mut policy = Counted::new(rt.stdin());
+        // A closed standard input fails here. Otherwise the next file that is opened would become the standard input.
+        if policy.pull(&mut []).is_err() {
+            return Err(ToolFault::Read);
+        }
+        return list_policy(rt, &mut policy, words, &asked.words());
     }
     let opened = open(rt, file)?;
     list_policy(rt, &mut Counted::new(opened), words, &asked.words())

@@ -183,8 +183,12 @@ fn show_usage(rt: &HostRuntime, error: &Error) -> Result<ExitCode, ToolFault> {
     if error.kind() == ErrorKind::OutOfMemory {
         return Err(ToolFault::from(AllocError));
     }
-    match error.print(rt) {
-        Ok(()) => Ok(ExitCode::from(if error.use_stderr() { 2 } else { 0 })),
+    let printed = error.print(rt);
+    if error.use_stderr() {
+        return Ok(ExitCode::from(2));
+    }
+    match printed {
+        Ok(()) => Ok(ExitCode::from(0)),
         Err(_) => Err(ToolFault::Write),
     }
 }
