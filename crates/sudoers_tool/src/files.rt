@@ -7,6 +7,9 @@ use sudoers_run::ToolFault;
 /// The name of the standard input as a file.
 pub const STDIN: &str = "-";
 
+/// The descriptor of the standard input.
+pub const STDIN_NUMBER: i32 = 0;
+
 /// Opens a file. A file that cannot be opened is the error `Read`.
 pub fn open(rt: &HostRuntime, file: &str) -> Result<fs::File, ToolFault> {
     match fs::open(rt, file) {

@@ -1,8 +1,10 @@
 //! The subcommand `list`: its command line, and its run.
 
-use crate::files::{STDIN, open};
+use crate::files::{STDIN, STDIN_NUMBER, open};
 use clap::{Arg, ArgAction, ArgMatches, Command};
 use std::alloc::{AllocError, Global};
+use std::fs;
+use std::os::fd::AsRawFd;
 use sudoers_line::Items;
 use sudoers_run::{Counted, ListWords, Source, ToolFault, run_list};
 
@@ -186,33 +188,43 @@ fn command_of(alloc: Global, words: &ArgMatches<'_>) -> Result<Vec<Items<u8>>, A
 pub fn list_file(rt: &HostRuntime, file: &str, words: &ArgMatches<'_>) -> Result<u8, ToolFault> {
     let asked = Asked::of(rt.alloc(), file, words)?;
     if file == STDIN {
-        let mut policy = Counted::new(rt.stdin());
-        // A closed standard input fails here. Otherwise the next file that is opened would become the standard input.
-        if policy.pull(&mut []).is_err() {
+        let (passwd, group) = open_people(rt, words)?;
+        // Had the standard input been closed, the first file that was opened would be it.
+        if passwd.as_raw_fd() == STDIN_NUMBER {
             return Err(ToolFault::Read);
         }
-        return list_policy(rt, &mut policy, words, &asked.words());
+        let mut policy = Counted::new(rt.stdin());
+        return list_policy(rt, &mut policy, passwd, group, &asked.words());
     }
-    let opened = open(rt, file)?;
-    list_policy(rt, &mut Counted::new(opened), words, &asked.words())
+    let mut policy = Counted::new(open(rt, file)?);
+    let (passwd, group) = open_people(rt, words)?;
+    list_policy(rt, &mut policy, passwd, group, &asked.words())
 }
 
-/// Opens the files of people, and lists by a policy that is open.
+/// Opens the files of users and of groups that `words` name.
+fn open_people(
+    rt: &HostRuntime,
+    words: &ArgMatches<'_>,
+) -> Result<(fs::File, fs::File), ToolFault> {
+    let passwd = open(rt, words.get_str("PASSWD").unwrap_or(""))?;
+    let group = open(rt, words.get_str("GROUPS").unwrap_or(""))?;
+    Ok((passwd, group))
+}
+
+/// Lists by a policy and files of people that are open.
 fn list_policy<P: Source>(
     rt: &HostRuntime,
     policy: &mut P,
-    words: &ArgMatches<'_>,
+    passwd: fs::File,
+    group: fs::File,
     asked: &ListWords<'_>,
 ) -> Result<u8, ToolFault> {
-    let mut passwd = Counted::new(open(rt, words.get_str("PASSWD").unwrap_or(""))?);
-    let mut group = Counted::new(open(rt, words.get_str("GROUPS").unwrap_or(""))?);
-    let mut writer = Counted::new(rt.stdout());
     run_list(
         rt.alloc(),
         policy,
-        &mut passwd,
-        &mut group,
+        &mut Counted::new(passwd),
+        &mut Counted::new(group),
         asked,
-        &mut writer,
+        &mut Counted::new(rt.stdout()),
     )
 }
