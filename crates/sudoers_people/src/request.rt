@@ -90,8 +90,13 @@ fn ask(
     moment: u64,
 ) -> Result<Request, AllocError>
     ensures { IfOk result (λ request. request ≡ record {
-        who = who; target = target; target_group = target_group;
-        command = command_in words.now; args = args_in words.now; moment = moment }) }
+      who = who;
+      target = target;
+      target_group = target_group;
+      command = command_in words.now;
+      args = args_in words.now;
+      moment = moment;
+    }) }
 {
     let command = command_in(alloc, words)?;
     let args = args_in(alloc, words)?;

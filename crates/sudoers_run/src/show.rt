@@ -15,9 +15,7 @@ use std::alloc::{AllocError, Global};
 use sudoers_line::kind_name;
 use sudoers_print::append_number;
 use sudoers_text::{TEXT_LIMIT, TextFault};
-use sudoers_tree::{
-    Def, DefRow, Kind, Line, LineKind, Node, Policy, ReadFault, Rows, lf_count,
-};
+use sudoers_tree::{Def, DefRow, Kind, Line, LineKind, Node, Policy, ReadFault, Rows, lf_count};
 
 /// Reads a policy file, and writes for each of its lines its number, its kind and the number of its first physical line, and
 /// for each definition of an alias its numbers, its kind, its name and how many members it has. All numbers count from 1.
