@@ -7,8 +7,8 @@ mod policies;
 mod texts;
 
 pub use checks::{check_policy, find_cycle, is_fine_report, report_of_policy};
-pub use lines::{aliases_of_line, reading_of_line};
+pub use lines::reading_of_line;
 pub use policies::{
     definition_of, insert_line, mentions_of, policy_text, read_policy, reread_policy,
 };
-pub use texts::{cut_text, line_tokens, word_value};
+pub use texts::{line_tokens, word_value};

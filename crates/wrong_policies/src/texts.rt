@@ -1,23 +1,11 @@
-//! Lines, tokens and words of a text.
+//! Tokens and words of a text.
 
 ghost use Rattle.std.specs.Prelude.{◌≡◌, IfOk};
-ghost use Rattle.sudoers_text.specs.Cut.{cut_of, CutGives};
 ghost use Rattle.sudoers_text.specs.Found.{tokens_of};
 ghost use Rattle.sudoers_text.specs.Value.{value_of};
 
 use std::alloc::{AllocError, Global};
-use sudoers_text::{Lines, Mode, TextFault, Token, cut, tokens, value};
-
-/// Returns the logical lines of `text`.
-///
-/// # Errors
-///
-/// Those of `cut`.
-pub fn cut_text(alloc: Global, text: &[u8]) -> Result<Lines<'_>, TextFault>
-    ensures { CutGives result (cut_of text.now) }
-{
-    cut(alloc, text)
-}
+use sudoers_text::{Mode, TextFault, Token, tokens, value};
 
 /// Returns the tokens of `line` in `mode`.
 ///
