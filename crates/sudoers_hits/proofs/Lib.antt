@@ -9,3 +9,4 @@ pub mod Passing
 pub mod Left
 pub mod Plain
 pub mod Stamps
+pub mod Open

@@ -3,7 +3,9 @@
 
 mod asked;
 mod class;
+mod front;
 mod hits;
+mod known;
 mod laws;
 mod moment;
 mod network;

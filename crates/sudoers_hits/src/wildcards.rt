@@ -1,12 +1,13 @@
 //! Patterns with wildcards.
 
-ghost use Rattle.std.specs.Prelude.{◌≡◌, ◌≢◌, ◌<◌, ◌≤◌, ◌+◌, ◌↔◌, [], length, IsTrue};
-ghost use Rattle.sudoers_hits.specs.Wildcard.{may_take, takes, bracket, item_at, matches, Star};
+ghost use Rattle.std.specs.Prelude.{◌≡◌, ◌↔◌, IsTrue};
+ghost use Rattle.sudoers_hits.specs.Wildcard.{may_take, matches};
+ghost use Rattle.sudoers_hits.specs.Known.{AreKnown, IsTailBehind};
 ghost use Rattle.sudoers_hits.specs.Folded.{read};
 ghost use Rattle.sudoers_hits.specs.Run.{Outcome, Matches};
 
 use crate::class::fold;
-use crate::set::set_has;
+use crate::known::KnownSets;
 
 /// Which bytes wildcards match.
 #[derive(Clone, Copy)]
@@ -19,90 +20,13 @@ pub enum GlobMode {
 
 impl GlobMode {
     /// Returns whether a wildcard may take the byte.
-    fn may_take(self, byte: u8) -> bool
+    pub(crate) fn may_take(self, byte: u8) -> bool
         ensures { result ≡ may_take self byte }
     {
         match self {
             GlobMode::Path => byte != b'/',
             GlobMode::Args => true,
         }
-    }
-}
-
-/// What begins a pattern and is no `*`: how long it is, and whether it takes a byte.
-#[derive(Clone, Copy)]
-struct Front {
-    len: usize,
-    takes: bool,
-}
-
-impl Front {
-    fn one(takes: bool) -> Front
-        ensures { result ≡ record { len = 1; takes = takes } }
-    {
-        Front { len: 1, takes }
-    }
-}
-
-/// What stands behind a `[`, where that begins the item.
-fn bracket(rest: &[u8], byte: u8, mode: GlobMode, lower: bool) -> Front
-    ensures len { result.len ≡ (bracket (read lower rest.now)).1 }
-    ensures takes { result.takes ≡ takes mode (bracket (read lower rest.now)).0 byte }
-    ensures some { 0 < result.len }
-    ensures within { result.len ≤ length rest.now + 1 }
-{
-    let [second, more @ ..] = rest else {
-        return Front::one(byte == b'[');
-    };
-    if fold(lower, *second) == b'!' {
-        match set_has(more, byte, lower) {
-            Some((len, has)) => {
-                Front {
-                    len: len + 3,
-                    takes: mode.may_take(byte) && !has,
-                }
-            }
-            None => Front::one(byte == b'['),
-        }
-    } else {
-        match set_has(rest, byte, lower) {
-            Some((len, has)) => {
-                Front {
-                    len: len + 2,
-                    takes: mode.may_take(byte) && has,
-                }
-            }
-            None => Front::one(byte == b'['),
-        }
-    }
-}
-
-fn front_at(pattern: &[u8], byte: u8, mode: GlobMode, lower: bool) -> Front
-    requires some { pattern.now ≢ [] }
-    requires no_star { (item_at (read lower pattern.now)).0 ≢ Star }
-    ensures len { result.len ≡ (item_at (read lower pattern.now)).1 }
-    ensures takes { result.takes ≡ takes mode (item_at (read lower pattern.now)).0 byte }
-    ensures some { 0 < result.len }
-    ensures within { result.len ≤ length pattern.now }
-{
-    let [first, rest @ ..] = pattern else {
-        return Front::one(false);
-    };
-    match fold(lower, *first) {
-        b'?' => Front::one(mode.may_take(byte)),
-        b'\\' => {
-            match rest {
-                [escaped, ..] => {
-                    Front {
-                        len: 2,
-                        takes: byte == fold(lower, *escaped),
-                    }
-                }
-                [] => Front::one(byte == b'\\'),
-            }
-        }
-        b'[' => bracket(rest, byte, mode, lower),
-        first => Front::one(byte == first),
     }
 }
 
@@ -117,8 +41,18 @@ enum Run<'a> {
     Star(&'a [u8], &'a [u8]),
 }
 
-fn up_to_star<'a>(pattern: &'a [u8], text: &'a [u8], mode: GlobMode, lower: bool) -> Run<'a>
-    ensures { Outcome mode lower pattern.now text.now result }
+/// Matches the items of `pattern` up to its next `*`. `known` is what is known of its sets.
+fn up_to_star<'a>(
+    pattern: &'a [u8],
+    text: &'a [u8],
+    mode: GlobMode,
+    lower: bool,
+    known: &mut KnownSets,
+) -> Run<'a>
+    requires known { AreKnown mode lower pattern.now known.old }
+    ensures outcome { Outcome mode lower pattern.now text.now result }
+    ensures known { AreKnown mode lower pattern.now known.new }
+    ensures behind { IsTailBehind known.new.tail result }
 {
     let mut at = 0;
     let mut place = 0;
@@ -129,7 +63,7 @@ fn up_to_star<'a>(pattern: &'a [u8], text: &'a [u8], mode: GlobMode, lower: bool
         if place == text.len() {
             return Run::Failed;
         }
-        let front = front_at(&pattern[at..], fold(lower, text[place]), mode, lower);
+        let front = known.front(pattern, at, fold(lower, text[place]), mode, lower);
         if !front.takes {
             return Run::Failed;
         }
@@ -147,17 +81,20 @@ fn up_to_star<'a>(pattern: &'a [u8], text: &'a [u8], mode: GlobMode, lower: bool
 fn is_match(pattern: &[u8], text: &[u8], mode: GlobMode, lower: bool) -> bool
     ensures { IsTrue result ↔ Matches mode (read lower pattern.now) (read lower text.now) }
 {
-    let (mut pattern, mut text) = match up_to_star(pattern, text, mode, lower) {
+    let mut known = KnownSets::of(pattern);
+    let (mut pattern, mut text) = match up_to_star(pattern, text, mode, lower, &mut known) {
         Run::Matched => return true,
         Run::Failed => return false,
         Run::Star(pattern, text) => (pattern, text),
     };
+    known.forget();
     loop {
-        match up_to_star(pattern, text, mode, lower) {
+        match up_to_star(pattern, text, mode, lower, &mut known) {
             Run::Matched => return true,
             Run::Star(behind, rest) => {
                 pattern = behind;
                 text = rest;
+                known.forget();
             }
             Run::Failed => {
                 if text.is_empty() || !mode.may_take(fold(lower, text[0])) {

@@ -22,7 +22,7 @@ use Rattle.sudoers_match.specs.Allows.{Allows}
 use Rattle.sudoers_match.specs.Heads.{Head, no_head, filled, tags_of}
 use Rattle.sudoers_match.specs.IsHead.{IsHead}
 use Rattle.sudoers_match.specs.Rows.{Row, CommandRows}
-use Rattle.sudoers_match.specs.Runas.{GroupAllows, RunasAllows}
+use Rattle.sudoers_match.specs.Runas.{GroupAllows, RunasAllows, is_among}
 use Rattle.sudoers_match.specs.Specs.{AreJoined}
 use Rattle.sudoers_match.specs.Straight.{RunasIsStraight}
 use Rattle.sudoers_match.specs.Values.{values_of}
@@ -39,6 +39,7 @@ pub record IsQuestion (lines : List Line) (r : Request) (q : Question) : Type 0 
   pub targets : Remembers Runas lines (user_hits r.target) q.targets
   pub groups : RemembersGroup lines r.target_group q.groups
   pub commands : Remembers Cmnd lines (command_hits (command_line r)) q.commands
+  pub own : q.own ≡ is_among r.target.groups r.target_group
 
 -- The group part allows, or it does not; the same of the whole.
 abbrev pub GroupPermits : List Line → Person → Option Group → List Member → Bool → Type 0
@@ -48,6 +49,11 @@ GroupPermits lines target group groups false = GroupAllows lines target group gr
 abbrev pub RunasPermits : List Line → Who → Person → Option Group → Option RunasSpec → Bool → Type 0
 RunasPermits lines who target group runas true = RunasAllows lines who target group runas
 RunasPermits lines who target group runas false = RunasAllows lines who target group runas → ⊥
+
+-- What is known of a Runas_Spec is right: whether it permits the user and the group that are asked for.
+abbrev pub PermittedIs : List Line → Request → Option RunasSpec → Option Bool → Type 0
+PermittedIs lines r runas None = Unit {0}
+PermittedIs lines r runas (Some allowed) = RunasPermits lines r.who r.target r.target_group runas allowed
 
 -- the answer that a command gives where an atom of its list says this
 abbrev pub told_by : Place → Head → Hit → Answer

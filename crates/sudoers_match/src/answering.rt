@@ -1,6 +1,6 @@
 //! The answer to a request: forward through the rows, keeping the latest that fits.
 
-ghost use Rattle.std.specs.Prelude.{◌≡◌, ◌⊎◌, ◌<◌, ◌≤◌, ◌∷◌, [], List, length, IfOk, IfErr};
+ghost use Rattle.std.specs.Prelude.{◌≡◌, ◌⊎◌, ◌<◌, ◌≤◌, ◌∷◌, [], List, length, Some, IfOk, IfErr};
 ghost use Rattle.std.specs.Option.{option_map};
 ghost use Rattle.sudoers_line.specs.declared.node.Kind.TheVariants.{User as OfUsers, Host as OfHosts, Cmnd as OfCommands};
 ghost use Rattle.sudoers_line.specs.declared.node.Member.{Member as MemberOf};
@@ -12,7 +12,7 @@ ghost use Rattle.sudoers_match.specs.Allows.{Allows};
 ghost use Rattle.sudoers_match.specs.Answer.{Answers, IsAnswer, answer_shown, argument_limit, joined};
 ghost use Rattle.sudoers_match.specs.Heads.{Head as HeadOf, no_head};
 ghost use Rattle.sudoers_match.specs.IsHead.{IsHead};
-ghost use Rattle.sudoers_match.specs.Question.{IsQuestion};
+ghost use Rattle.sudoers_match.specs.Question.{IsQuestion, PermittedIs, RunasPermits};
 ghost use Rattle.sudoers_match.specs.Rows.{Row, CommandRows, GroupRows, SpecRows};
 ghost use Rattle.sudoers_match.specs.Specs.{spec_of};
 ghost use Rattle.sudoers_match.specs.Straight.{IsStraight, RunasIsStraight, GroupIsStraight, GroupsAreStraight};
@@ -65,7 +65,7 @@ pub fn answer<'a>(
     let mut users = Verdicts::new(alloc, &numbers)?;
     let mut hosts = Verdicts::new(alloc, &numbers)?;
     let default = find_default(&mut users, &mut hosts, &numbers, &request.who)?;
-    let mut question = Question::new(alloc, &numbers, default, users, hosts)?;
+    let mut question = Question::new(alloc, &numbers, request, default, users, hosts)?;
     let asked = Asked {
         numbers: &numbers,
         request,
@@ -158,9 +158,14 @@ fn answer_in_group<'a>(
         return Ok(None);
     }
     let mut latest = None;
+    let mut permitted = None;
     let tables = group.commands.tables;
     for (command, row) in group.commands.rows.iter().enumerate() {
-        head.inherit(&tables.command(row));
+        let written = tables.command(row);
+        if written.runas.is_some() {
+            permitted = None;
+        }
+        head.inherit(&written);
         let member = Rows {
             tables,
             rows: std::slice::from_ref(&row.member),
@@ -170,24 +175,51 @@ fn answer_in_group<'a>(
             host_group,
             command,
         };
-        let answer = answer_of_command(question, asked, place, head, &member)?;
+        let answer = answer_of_command(question, asked, place, head, &mut permitted, &member)?;
         latest = answer.or(latest);
     }
     Ok(latest)
 }
 
+/// Returns whether a command may run as the user and the group that are asked for, by the Runas_Spec of `head`. `permitted` is what is
+/// known of that, and is known then.
+fn permits_runas<'a>(
+    question: &mut Question<'a>,
+    asked: &Asked<'a, '_>,
+    head: &Head<'a>,
+    permitted: &mut Option<bool>,
+) -> Result<bool, AllocError>
+    requires question { IsQuestion asked.now.numbers.now.policy.now asked.now.request.now question.old }
+    requires straight { RunasIsStraight asked.now.numbers.now.policy.now (option_map runas_shown head.now.runas) }
+    requires permitted { PermittedIs asked.now.numbers.now.policy.now asked.now.request.now (option_map runas_shown head.now.runas) permitted.old }
+    ensures kept { IfOk result (λ _. IsQuestion asked.now.numbers.now.policy.now asked.now.request.now question.new) }
+    ensures permits { IfOk result (λ allowed. RunasPermits asked.now.numbers.now.policy.now asked.now.request.now.who asked.now.request.now.target asked.now.request.now.target_group (option_map runas_shown head.now.runas) allowed) }
+    ensures permitted { IfOk result (λ allowed. permitted.new ≡ Some allowed) }
+{
+    if let Some(allowed) = *permitted {
+        return Ok(allowed);
+    }
+    let allowed = question.allows_runas(asked, &head.runas)?;
+    *permitted = Some(allowed);
+    Ok(allowed)
+}
+
 /// Returns the answer of the last row of a command that fits, where the users and the hosts allow. `member` is the command alone.
+/// `permitted` is what is known of the Runas_Spec of `head`.
 fn answer_of_command<'a>(
     question: &mut Question<'a>,
     asked: &Asked<'a, '_>,
     place: Place,
     head: &Head<'a>,
+    permitted: &mut Option<bool>,
     member: &Rows<'_, MemberRow>,
 ) -> Result<Option<Answer<'a>>, AllocError>
     requires question { IsQuestion asked.now.numbers.now.policy.now asked.now.request.now question.old }
     requires runas { RunasIsStraight asked.now.numbers.now.policy.now (option_map runas_shown head.now.runas) }
+    requires permitted { PermittedIs asked.now.numbers.now.policy.now asked.now.request.now (option_map runas_shown head.now.runas) permitted.old }
     requires member { IsStraight OfCommands asked.now.numbers.now.policy.now (members_shown member.now) }
     ensures kept { IfOk result (λ _. IsQuestion asked.now.numbers.now.policy.now asked.now.request.now question.new) }
+    ensures permitted { IfOk result (λ _. PermittedIs asked.now.numbers.now.policy.now asked.now.request.now (option_map runas_shown head.now.runas) permitted.new) }
     ensures answer { IfOk result (λ answer. (users hosts : List MemberOf)
         → Allows OfUsers asked.now.numbers.now.policy.now (user_hits asked.now.request.now.who.user) users
         → Allows OfHosts asked.now.numbers.now.policy.now (host_hits asked.now.request.now.who) hosts
@@ -199,7 +231,7 @@ fn answer_of_command<'a>(
     if !is_in_time(asked.request.moment, &head.options) {
         return Ok(None);
     }
-    if !question.allows_runas(asked, &head.runas)? {
+    if !permits_runas(question, asked, head, permitted)? {
         return Ok(None);
     }
     let hit = find_hit::<Commands>(

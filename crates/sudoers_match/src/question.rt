@@ -8,7 +8,6 @@ ghost use Rattle.sudoers_hits.specs.Hits.{user_hits, host_hits};
 ghost use Rattle.sudoers_verdict.specs.Search.{Remembers};
 ghost use Rattle.sudoers_match.specs.Allows.{Permits};
 ghost use Rattle.sudoers_match.specs.Answer.{command_line};
-ghost use Rattle.sudoers_hits.specs.declared.request.Request.{Request as RequestOf};
 ghost use Rattle.sudoers_match.specs.Default.{IsRunasDefault};
 ghost use Rattle.sudoers_match.specs.Question.{IsQuestion, GroupPermits, RunasPermits};
 ghost use Rattle.sudoers_match.specs.Runas.{is_among};
@@ -43,6 +42,8 @@ pub struct Question<'a> {
     pub targets: Verdicts<'a>,
     pub groups: Verdicts<'a>,
     pub commands: Verdicts<'a>,
+    /// Whether no group is asked for, or it is one of the target's.
+    pub own: bool,
 }
 
 impl<'a> Question<'a> {
@@ -54,14 +55,16 @@ impl<'a> Question<'a> {
     pub fn new(
         alloc: Global,
         numbers: &Numbers<'a>,
+        request: &Request,
         default: &'a [u8],
         users: Verdicts<'a>,
         hosts: Verdicts<'a>,
     ) -> Result<Question<'a>, AllocError>
-        ensures { IfOk result (λ question. (r : RequestOf) → IsRunasDefault numbers.now.policy.now r.who default.now
-            → Remembers OfUsers numbers.now.policy.now (user_hits r.who.user) users.entry
-            → Remembers OfHosts numbers.now.policy.now (host_hits r.who) hosts.entry → IsQuestion numbers.now.policy.now r question) }
+        ensures { IfOk result (λ question. IsRunasDefault numbers.now.policy.now request.now.who default.now
+            → Remembers OfUsers numbers.now.policy.now (user_hits request.now.who.user) users.entry
+            → Remembers OfHosts numbers.now.policy.now (host_hits request.now.who) hosts.entry → IsQuestion numbers.now.policy.now request.now question) }
     {
+        let own = is_among(request.target.groups.as_slice(), &request.target_group);
         let targets = Verdicts::new(alloc, numbers)?;
         let groups = Verdicts::new(alloc, numbers)?;
         let commands = Verdicts::new(alloc, numbers)?;
@@ -72,6 +75,7 @@ impl<'a> Question<'a> {
             targets,
             groups,
             commands,
+            own,
         })
     }
 
@@ -91,7 +95,7 @@ impl<'a> Question<'a> {
         ensures permits { IfOk result (λ allowed. RunasPermits asked.now.numbers.now.policy.now asked.now.request.now.who asked.now.request.now.target asked.now.request.now.target_group (option_map runas_shown runas.now) allowed) }
     {
         let request = asked.request;
-        let own = is_among(request.target.groups.as_slice(), &request.target_group);
+        let own = self.own;
         let Some(runas) = runas else {
             return Ok(own && is_same_name(self.default, request.target.name.as_slice()));
         };
@@ -154,10 +158,7 @@ impl<'a> Question<'a> {
         match Verdict::of(hit) {
             Verdict::Allow => Ok(true),
             Verdict::Deny => Ok(false),
-            Verdict::Unsaid => Ok(is_among(
-                request.target.groups.as_slice(),
-                &request.target_group,
-            )),
+            Verdict::Unsaid => Ok(self.own),
         }
     }
 }

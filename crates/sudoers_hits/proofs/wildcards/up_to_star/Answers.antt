@@ -1,5 +1,5 @@
 use Rattle.std.proofs.Common.{◌≡◌, ◌≢◌, ℕ, ◌+◌, ◌-◌, ◌≤◌, ◌<◌, Bool, true, false, List, [], ◌∷◌, ◌++◌, length, drop, take, get_or, sym, ap, subst, ◌∙◌, arith}
-use Rattle.std.proofs.lemmas.List.{drop_more, drop-drop, drop_all, length-drop, take_rest}
+use Rattle.std.proofs.lemmas.List.{drop_more, drop-drop, drop_all, length-drop, drop-map}
 use Rattle.std.proofs.lemmas.Bool.{not-true, not-false}
 use Rattle.sudoers_hits.specs.declared.wildcards.GlobMode.{GlobMode}
 use Rattle.sudoers_hits.specs.Folded.{folded, read}
@@ -13,8 +13,8 @@ use Rattle.sudoers_hits.proofs.wildcards.up_to_star.Goals as goal
 some_left : (xs : List ℕ) (i : ℕ) → i < length xs → drop i xs ≢ []
 some_left xs i h e = omega (arith, length-drop i xs, ap length e)
 
-within_more : (pattern : List ℕ) (at len : ℕ) → at < length pattern → len ≤ length (take (length pattern - at) (drop at pattern)) → at + len ≤ length pattern
-within_more pattern at len h k = omega (arith, k, ap (length {A = ℕ}) (take_rest pattern at), length-drop at pattern)
+within_more : (pattern : List ℕ) (at len : ℕ) → at < length pattern → len ≤ length (drop at pattern) → at + len ≤ length pattern
+within_more pattern at len h k = omega (arith, k, length-drop at pattern)
 
 at_star : (mode : GlobMode) (xs ys : List ℕ) (at place : ℕ) → Passed mode xs ys (drop at xs) (drop place ys) → at < length xs → get_or xs at 0 ≡ 42
     → ToStar mode xs ys (drop (at + 1) xs) (drop place ys)
@@ -44,17 +44,17 @@ taken mode xs ys at place len h k is size p =
 
 -- what the item at the place does to the byte at the other, as the code learns it
 told : (mode : GlobMode) (lower : Bool) (pattern text : List ℕ) (at place b : ℕ) (t u : Bool) → place < length text → b ≡ folded lower (get_or text place 0)
-    → t ≡ takes mode (item_at (read lower (take (length pattern - at) (drop at pattern)))).0 b → t ≡ u
+    → t ≡ takes mode (item_at (read lower (drop at pattern))).0 b → t ≡ u
     → takes mode (item_at (drop at (read lower pattern))).0 (get_or (read lower text) place 0) ≡ u
 told mode lower pattern text at place b t u h is e f =
     ap (λ c. takes mode (item_at (drop at (read lower pattern))).0 c) (read_at lower text place h ∙ sym is)
-    ∙ ap (λ xs. takes mode (item_at xs).0 b) (sym (read_rest lower pattern at)) ∙ sym e ∙ f
+    ∙ ap (λ xs. takes mode (item_at xs).0 b) (drop-map (folded lower) at pattern) ∙ sym e ∙ f
 
 other : (lower : Bool) (pattern : List ℕ) (at b : ℕ) → at < length pattern → b ≡ folded lower (get_or pattern at 0) → (b ≡ 42 → ⊥) → get_or (read lower pattern) at 0 ≢ 42
 other lower pattern at b h is n e = n (is ∙ sym (read_at lower pattern at h) ∙ e)
 
-pub returns-then-fold-eq42 : goal.returns-then-fold-eq42
-returns-then-fold-eq42 c =
+pub returns-then-fold-eq42-clause-outcome : goal.returns-then-fold-eq42-clause-outcome
+returns-then-fold-eq42-clause-outcome c =
     let lower = c.args.lower in let pattern = c.args.pattern.now in let text = c.args.text.now in let at = c.loop-at.at in let place = c.loop-at.place in
     let xs = read lower pattern in let ys = read lower text in let mode = c.args.mode in
     subst (λ behind. ToStar mode xs ys behind (read lower (take (length text - place) (drop place text)))) (sym (read_rest lower pattern (at + 1)))
@@ -62,8 +62,8 @@ returns-then-fold-eq42 c =
     (at_star mode xs ys at place c.loop-at.invariant.passed (omega (arith, read_length lower pattern, c.loop-at-test.true))
     (read_at lower pattern at c.loop-at-test.true ∙ sym c.fold.ensures ∙ c.if-fold-eq42.true)))
 
-pub returns-then-place-text : goal.returns-then-place-text
-returns-then-place-text c =
+pub returns-then-place-text-clause-outcome : goal.returns-then-place-text-clause-outcome
+returns-then-place-text-clause-outcome c =
     let lower = c.args.lower in let pattern = c.args.pattern.now in let text = c.args.text.now in let at = c.loop-at.at in let place = c.loop-at.place in
     let xs = read lower pattern in let ys = read lower text in
     let within : at < length xs = omega (arith, read_length lower pattern, c.loop-at-test.true) in
@@ -72,13 +72,13 @@ returns-then-place-text c =
     (no_star xs at within (other lower pattern at c.fold.result c.loop-at-test.true c.fold.ensures c.if-fold-eq42.false))
     (item_some (drop at xs)) (drop_all place ys (omega (arith, read_length lower text, c.if-place-text.true))))
 
-pub returns-then-not-front : goal.returns-then-not-front
-returns-then-not-front c =
+pub returns-then-not-front-clause-outcome : goal.returns-then-not-front-clause-outcome
+returns-then-not-front-clause-outcome c =
     let lower = c.args.lower in let pattern = c.args.pattern.now in let text = c.args.text.now in let at = c.loop-at.at in let place = c.loop-at.place in
     let inside : place < length text = omega arith in
     refused c.args.mode (read lower pattern) (read lower text) at place (omega (arith, read_length lower pattern, c.loop-at-test.true)) (omega (arith, read_length lower text, inside))
     (other lower pattern at c.fold.result c.loop-at-test.true c.fold.ensures c.if-fold-eq42.false)
-    (told c.args.mode lower pattern text at place c.fold-in-loop-at.result c.front_at-front.result.takes false inside c.fold-in-loop-at.ensures c.front_at-front.ensures.takes (not-true c.front_at-front.result.takes c.if-not-front.true))
+    (told c.args.mode lower pattern text at place c.fold-in-loop-at.result c.front-front.result.takes false inside c.fold-in-loop-at.ensures c.front-front.ensures.front.takes (not-true c.front-front.result.takes c.if-not-front.true))
     c.loop-at.invariant.passed
 
 pub loop-at-preserved : goal.loop-at-preserved
@@ -86,22 +86,23 @@ loop-at-preserved c =
     let lower = c.args.lower in let pattern = c.args.pattern.now in let text = c.args.text.now in let at = c.loop-at.at in let place = c.loop-at.place in
     let inside : place < length text = omega arith in
     record {
-      passed = taken c.args.mode (read lower pattern) (read lower text) at place c.front_at-front.result.len (omega (arith, read_length lower pattern, c.loop-at-test.true)) (omega (arith, read_length lower text, inside))
-          (told c.args.mode lower pattern text at place c.fold-in-loop-at.result c.front_at-front.result.takes true inside c.fold-in-loop-at.ensures c.front_at-front.ensures.takes (not-false c.front_at-front.result.takes c.if-not-front.false))
-          (ap (λ xs. (item_at xs).1) (sym (read_rest lower pattern at)) ∙ sym c.front_at-front.ensures.len) c.loop-at.invariant.passed;
-      within = within_more pattern at c.front_at-front.result.len c.loop-at-test.true c.front_at-front.ensures.within;
+      passed = taken c.args.mode (read lower pattern) (read lower text) at place c.front-front.result.len (omega (arith, read_length lower pattern, c.loop-at-test.true)) (omega (arith, read_length lower text, inside))
+          (told c.args.mode lower pattern text at place c.fold-in-loop-at.result c.front-front.result.takes true inside c.fold-in-loop-at.ensures c.front-front.ensures.front.takes (not-false c.front-front.result.takes c.if-not-front.false))
+          (ap (λ xs. (item_at xs).1) (drop-map (folded lower) at pattern) ∙ sym c.front-front.ensures.front.len) c.loop-at.invariant.passed;
+      within = within_more pattern at c.front-front.result.len c.loop-at-test.true c.front-front.ensures.front.within;
       placed = omega arith;
+      known = c.front-front.ensures.known;
     }
 
-pub returns-then-place-text-2 : goal.returns-then-place-text-2
-returns-then-place-text-2 c =
+pub returns-then-place-text-2-clause-outcome : goal.returns-then-place-text-2-clause-outcome
+returns-then-place-text-2-clause-outcome c =
     let lower = c.args.lower in let xs = read lower c.args.pattern.now in let ys = read lower c.args.text.now in
     all_passed c.args.mode xs ys _ _ c.loop-at.invariant.passed
     (drop_all c.loop-at.at xs (omega (arith, read_length lower c.args.pattern.now, c.loop-at-test.false)))
     (drop_all c.loop-at.place ys (omega (arith, read_length lower c.args.text.now, c.if-place-text-2.true)))
 
-pub returns-else-place-text-2 : goal.returns-else-place-text-2
-returns-else-place-text-2 c =
+pub returns-else-place-text-2-clause-outcome : goal.returns-else-place-text-2-clause-outcome
+returns-else-place-text-2-clause-outcome c =
     let lower = c.args.lower in let xs = read lower c.args.pattern.now in let ys = read lower c.args.text.now in
     let inside : c.loop-at.place < length c.args.text.now = omega arith in
     not_passed c.args.mode xs ys _ _ c.loop-at.invariant.passed

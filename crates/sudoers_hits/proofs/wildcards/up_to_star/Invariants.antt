@@ -1,6 +1,7 @@
 use Rattle.std.proofs.Common.{◌≤◌, ◌-◌, length, drop}
 use Rattle.sudoers_hits.specs.Folded.{read}
 use Rattle.sudoers_hits.specs.Run.{Passed}
+use Rattle.sudoers_hits.specs.Known.{AreKnown}
 use Rattle.sudoers_hits.proofs.wildcards.up_to_star.Given as goal
 
 abbrev pub invariant-loop-at : goal.invariant-loop-at
@@ -8,6 +9,7 @@ invariant-loop-at l = record {
   passed : Passed l.mode (read l.lower l.pattern) (read l.lower l.text) (drop l.at (read l.lower l.pattern)) (drop l.place (read l.lower l.text));
   within : l.at ≤ length l.pattern;
   placed : l.place ≤ length l.text;
+  known : AreKnown l.mode l.lower l.pattern l.known;
 }
 
 abbrev pub decreases-loop-at : goal.decreases-loop-at

@@ -1,21 +1,31 @@
-use Rattle.std.proofs.Common.{◌+◌, ◌∷◌, [], true, map, sym, subst, ap, ◌∙◌, arith}
-use Rattle.std.specs.Option.{option_map}
+use Rattle.std.proofs.Common.{◌≡◌, ◌+◌, ◌∷◌, [], true, false, true≢false, Option, Some, None, map, refl, sym, subst, ap, ◌∙◌, arith}
+use Rattle.std.specs.Option.{option_map, option_or, is_some}
 use Rattle.std.proofs.lemmas.List.{length-map}
 use Rattle.sudoers_line.specs.declared.node.Kind.TheVariants.{Host, Cmnd}
 use Rattle.sudoers_line.specs.declared.node.CmdSpec.{CmdSpec}
 use Rattle.sudoers_reader.specs.Tables.{command_in, member_in}
-use Rattle.sudoers_reader.specs.View.{command_shown, commands_shown, group_shown, members_shown}
+use Rattle.sudoers_reader.specs.View.{command_shown, commands_shown, group_shown, members_shown, runas_shown}
 use Rattle.sudoers_hits.specs.Hits.{host_hits}
 use Rattle.sudoers_match.specs.Allows.{Permits}
 use Rattle.sudoers_match.specs.Answer.{answer_shown}
-use Rattle.sudoers_match.specs.Heads.{inherit}
-use Rattle.sudoers_match.specs.Question.{IsListSoFar}
+use Rattle.sudoers_reader.specs.declared.view.RunasSpec.{RunasSpec as RunasView}
+use Rattle.sudoers_match.specs.declared.head.Head.{Head as HeadHeld}
+use Rattle.sudoers_match.specs.Heads.{Head, inherit}
+use Rattle.sudoers_match.specs.IsHead.{IsHead}
+use Rattle.sudoers_match.specs.Question.{IsListSoFar, PermittedIs}
 use Rattle.sudoers_match.specs.Straight.{RunasIsStraight, CommandIsStraight, IsStraight}
 use Rattle.sudoers_match.proofs.Gathered.{at_map}
 use Rattle.sudoers_match.proofs.Lasts.{map_or}
 use Rattle.sudoers_match.proofs.Reached.{has_at}
 use Rattle.sudoers_match.proofs.Rowed.{no_host, inherit_straight, list_none, list_more, list_all}
 use Rattle.sudoers_match.proofs.answering.answer_in_group.Goals as goal
+use Rattle.sudoers_match.proofs.answering.answer_in_group.Goals.{then-is_some, else-is_some}
+
+-- A command without a Runas_Spec of its own keeps that of the commands before it.
+kept_runas : (x : Option RunasView) (old new : HeadHeld) (before : Head) (cmd : CmdSpec) → is_some x ≡ false → cmd.runas ≡ option_map runas_shown x
+    → IsHead old before → IsHead new (inherit before cmd) → option_map runas_shown old.runas ≡ option_map runas_shown new.runas
+kept_runas None old new before cmd none is was now = was.runas ∙ sym (now.runas ∙ ap (λ r. option_or r before.runas) is)
+kept_runas (Some x) old new before cmd none is was now = absurd (true≢false none)
 
 pub returns-then-not-branch-clause-answer : goal.returns-then-not-branch-clause-answer
 returns-then-not-branch-clause-answer c users user rows p =
@@ -39,7 +49,9 @@ loop-command-init c =
         targets = was.targets;
         groups = was.groups;
         commands = was.commands;
+        own = was.own;
       };
+      permitted = tt;
       so_far = list_none c.args.asked.now.numbers.now.policy.now c.args.asked.now.request.now c.args.spec c.args.host_group (members_shown g.hosts)
           (map (command_in g.commands.tables.now) g.commands.rows.now) c.args.head.now c.requires.head;
     }
@@ -50,11 +62,27 @@ answer_of_command-requires-clause-runas c =
     let r = c.args.asked.now.request.now in
     let g = c.args.group.now in
     let k = c.loop-command.command in
-    let cmd : CmdSpec = command_shown c.command.result in
+    let cmd : CmdSpec = command_shown c.command-written.result in
     let s = c.loop-command.invariant.so_far in
-    let at = at_map (command_in g.commands.tables.now) g.commands.rows.now k _ c.loop-command-test.true cmd c.command.ensures in
+    let at = at_map (command_in g.commands.tables.now) g.commands.rows.now k _ c.loop-command-test.true cmd c.command-written.ensures in
     let straight : CommandIsStraight lines cmd = c.requires.straight.commands cmd (has_at (commands_shown g.commands) k cmd at) in
     subst (RunasIsStraight lines) (sym (c.inherit.ensures s.head s.is_head).runas) (inherit_straight lines r s.head cmd s.straight straight.runas)
+
+pub answer_of_command-requires-clause-permitted : goal.answer_of_command-requires-clause-permitted
+answer_of_command-requires-clause-permitted c =
+    let lines = c.args.asked.now.numbers.now.policy.now in
+    let r = c.args.asked.now.request.now in
+    let s = c.loop-command.invariant.so_far in
+    let written = c.command-written.result in
+    let runas = option_map runas_shown c.inherit.new.self.runas in
+    elim c.if-is_some.branch [
+      | then-is_some w ↦ subst (PermittedIs lines r runas) (sym w.permitted-is) tt
+      | else-is_some w ↦ subst (PermittedIs lines r runas) (sym w.permitted-is)
+          (subst (λ o. PermittedIs lines r o c.loop-command.permitted)
+          (kept_runas written.runas c.loop-command.head c.inherit.new.self s.head (command_shown written) (sym c.is_some.ensures ∙ w.if-is_some.false) refl
+          s.is_head (c.inherit.ensures s.head s.is_head))
+          c.loop-command.invariant.permitted)
+    ]
 
 pub answer_of_command-requires-clause-member : goal.answer_of_command-requires-clause-member
 answer_of_command-requires-clause-member c =
@@ -62,10 +90,10 @@ answer_of_command-requires-clause-member c =
     let g = c.args.group.now in
     let t = g.commands.tables.now in
     let k = c.loop-command.command in
-    let cmd : CmdSpec = command_shown c.command.result in
-    let at = at_map (command_in t) g.commands.rows.now k _ c.loop-command-test.true cmd c.command.ensures in
+    let cmd : CmdSpec = command_shown c.command-written.result in
+    let at = at_map (command_in t) g.commands.rows.now k _ c.loop-command-test.true cmd c.command-written.ensures in
     let straight : CommandIsStraight lines cmd = c.requires.straight.commands cmd (has_at (commands_shown g.commands) k cmd at) in
-    subst (IsStraight Cmnd lines) (sym (ap (map (member_in t)) c.from_ref.ensures.value ∙ ap (λ (x : CmdSpec). x.member ∷ []) (sym c.command.ensures))) straight.member
+    subst (IsStraight Cmnd lines) (sym (ap (map (member_in t)) c.from_ref.ensures.value ∙ ap (λ (x : CmdSpec). x.member ∷ []) (sym c.command-written.ensures))) straight.member
 
 pub loop-command-preserved : goal.loop-command-preserved
 loop-command-preserved c =
@@ -76,11 +104,11 @@ loop-command-preserved c =
     let cs = map (command_in t) g.commands.rows.now in
     let hosts = members_shown g.hosts in
     let k = c.loop-command.command in
-    let cmd : CmdSpec = command_shown c.command.result in
+    let cmd : CmdSpec = command_shown c.command-written.result in
     let s = c.loop-command.invariant.so_far in
-    let at = at_map (command_in t) g.commands.rows.now k _ c.loop-command-test.true cmd c.command.ensures in
+    let at = at_map (command_in t) g.commands.rows.now k _ c.loop-command-test.true cmd c.command-written.ensures in
     let straight : CommandIsStraight lines cmd = c.requires.straight.commands cmd (has_at (commands_shown g.commands) k cmd at) in
-    let shown = ap (map (member_in t)) c.from_ref.ensures.value ∙ ap (λ (x : CmdSpec). x.member ∷ []) (sym c.command.ensures) in
+    let shown = ap (map (member_in t)) c.from_ref.ensures.value ∙ ap (λ (x : CmdSpec). x.member ∷ []) (sym c.command-written.ensures) in
     let is = c.inherit.ensures s.head s.is_head in
     let host : Permits Host lines (host_hits r.who) hosts true =
     subst (Permits Host lines (host_hits r.who) hosts) c.if-not-branch.false c.in_ok-allows.ensures.allowed in
@@ -88,6 +116,7 @@ loop-command-preserved c =
     let new = option_map answer_shown c.in_ok-answer.answer in
     record {
       question = c.in_ok-answer.ensures.kept;
+      permitted = c.in_ok-answer.ensures.permitted;
       so_far = subst (IsListSoFar lines r c.args.spec c.args.host_group hosts cs (k + 1) c.inherit.new.self)
           (sym (ap (option_map answer_shown) c.or-latest.ensures ∙ map_or answer_shown c.in_ok-answer.answer c.loop-command.latest))
           (list_more lines r c.args.spec c.args.host_group hosts cs k cmd at c.loop-command.head c.inherit.new.self old new s is straight.runas

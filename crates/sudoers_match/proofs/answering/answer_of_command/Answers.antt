@@ -27,17 +27,17 @@ returns-then-not-branch-clause-answer c users hosts user host h is m shown rows 
     let place = c.args.place in
     no_runas lines r place.spec place.host_group users hosts place.command h m rows
     (subst (λ o. RunasPermits lines r.who r.target r.target_group o false) is.runas
-    (subst (RunasPermits lines r.who r.target r.target_group (option_map runas_shown c.args.head.now.runas)) c.if-not-branch.true c.in_ok-allows_runas.ensures.permits)) p
+    (subst (RunasPermits lines r.who r.target r.target_group (option_map runas_shown c.args.head.now.runas)) c.if-not-branch.true c.in_ok-permits_runas.ensures.permits)) p
 
 pub find_hit-requires-clause-verdicts : goal.find_hit-requires-clause-verdicts
 find_hit-requires-clause-verdicts c =
     let lines = c.args.asked.now.numbers.now.policy.now in
-    subst (λ (cl : CommandLine). Remembers Cmnd lines (command_hits cl) c.allows_runas.new.self.commands) (sym c.args.asked.now.command_is)
-    c.in_ok-allows_runas.ensures.kept.commands
+    subst (λ (cl : CommandLine). Remembers Cmnd lines (command_hits cl) c.permits_runas.new.question.commands) (sym c.args.asked.now.command_is)
+    c.in_ok-permits_runas.ensures.kept.commands
 
 pub returns-in-Some-clause-kept : goal.returns-in-Some-clause-kept
 returns-in-Some-clause-kept c =
-    let kept = c.in_ok-allows_runas.ensures.kept in
+    let kept = c.in_ok-permits_runas.ensures.kept in
     let lines = c.args.asked.now.numbers.now.policy.now in
     record {
       default = kept.default;
@@ -46,11 +46,12 @@ returns-in-Some-clause-kept c =
       targets = kept.targets;
       groups = kept.groups;
       commands = subst (λ (cl : CommandLine). Remembers Cmnd lines (command_hits cl) c.find_hit.new.verdicts) c.args.asked.now.command_is c.in_ok-hit.ensures.kept;
+      own = kept.own;
     }
 
 pub returns-in-None-clause-kept : goal.returns-in-None-clause-kept
 returns-in-None-clause-kept c =
-    let kept = c.in_ok-allows_runas.ensures.kept in
+    let kept = c.in_ok-permits_runas.ensures.kept in
     let lines = c.args.asked.now.numbers.now.policy.now in
     record {
       default = kept.default;
@@ -59,6 +60,7 @@ returns-in-None-clause-kept c =
       targets = kept.targets;
       groups = kept.groups;
       commands = subst (λ (cl : CommandLine). Remembers Cmnd lines (command_hits cl) c.find_hit.new.verdicts) c.args.asked.now.command_is c.in_ok-hit.ensures.kept;
+      own = kept.own;
     }
 
 pub returns-in-Some-clause-answer : goal.returns-in-Some-clause-answer
@@ -71,7 +73,7 @@ returns-in-Some-clause-answer c users hosts user host h is m shown rows p =
     subst (λ a. Answers lines r rows (Some a)) (sym (c.tell.ensures h is))
     (by_latest lines r place.spec place.host_group users hosts place.command h user host
     (subst (λ o. RunasPermits lines r.who r.target r.target_group o true) is.runas
-    (subst (RunasPermits lines r.who r.target r.target_group (option_map runas_shown c.args.head.now.runas)) c.if-not-branch.false c.in_ok-allows_runas.ensures.permits))
+    (subst (RunasPermits lines r.who r.target r.target_group (option_map runas_shown c.args.head.now.runas)) c.if-not-branch.false c.in_ok-permits_runas.ensures.permits))
     (ap (is_in_time r.moment) (sym is.options) ∙ sym c.is_in_time.ensures ∙ c.if-not-is_in_time.false)
     (λ ms fs others. c.one_flat.ensures Cmnd lines ms fs others) m rows (Some c.in-Some.hit)
     (subst (λ (cl : CommandLine). IsLatest Cmnd lines (command_hits cl) (m ∷ []) (Some c.in-Some.hit)) c.args.asked.now.command_is
@@ -86,7 +88,7 @@ returns-in-None-clause-answer c users hosts user host h is m shown rows p =
     subst (IsLatest Cmnd lines (command_hits c.args.asked.now.command.now) (members_shown c.args.member.now)) c.in-None.is c.in_ok-hit.ensures.hit in
     by_latest lines r place.spec place.host_group users hosts place.command h user host
     (subst (λ o. RunasPermits lines r.who r.target r.target_group o true) is.runas
-    (subst (RunasPermits lines r.who r.target r.target_group (option_map runas_shown c.args.head.now.runas)) c.if-not-branch.false c.in_ok-allows_runas.ensures.permits))
+    (subst (RunasPermits lines r.who r.target r.target_group (option_map runas_shown c.args.head.now.runas)) c.if-not-branch.false c.in_ok-permits_runas.ensures.permits))
     (ap (is_in_time r.moment) (sym is.options) ∙ sym c.is_in_time.ensures ∙ c.if-not-is_in_time.false)
     (λ ms fs others. c.one_flat.ensures Cmnd lines ms fs others) m rows None
     (subst (λ (cl : CommandLine). IsLatest Cmnd lines (command_hits cl) (m ∷ []) None) c.args.asked.now.command_is

@@ -24,7 +24,7 @@ returns-in-Unsaid-clause-permits c =
     let target = c.args.asked.now.request.now.target in
     let ms = members_shown c.args.groups.now in
     let g : Group = c.in-Some.group in
-    subst (λ o. GroupPermits lines target o ms c.is_among.result) (sym c.in-Some.is)
+    subst (λ o. GroupPermits lines target o ms c.args.self.now.own) (sym c.in-Some.is)
     (group_permits lines target (λ v o h ns. c.one_verdict.ensures Runas lines (group_hits h) ns v o) g ms c.in_ok-hit.hit c.of.result c.in_ok-hit.ensures.hit c.of.ensures
-    c.is_among.result (c.is_among.ensures ∙ ap (λ gs. is_among gs c.args.asked.now.request.now.target_group) c.as_slice.ensures ∙ ap (is_among target.groups) c.in-Some.is
+    c.args.self.now.own (c.requires.question.own ∙ ap (is_among target.groups) c.in-Some.is
     ∙ ap (λ v. may_use v (is_among target.groups (Some g))) (sym c.in-Unsaid.is)))

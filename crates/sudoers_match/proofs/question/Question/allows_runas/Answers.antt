@@ -15,9 +15,9 @@ returns-then-own-clause-permits c =
     let lines = c.args.asked.now.numbers.now.policy.now in
     let r = c.args.asked.now.request.now in
     subst (λ o. RunasPermits lines r.who r.target r.target_group (option_map runas_shown o) c.is_same_name.result) (sym c.in_default.is)
-    (default_permits lines r.target r.who r.target_group c.args.self.now.default.now c.requires.question.default c.is_among-own.result c.is_same_name.result
-    (c.is_among-own.ensures ∙ ap (λ gs. is_among gs r.target_group) c.as_slice.ensures)
-    (c.is_same_name.ensures ∙ ap (is_same_name c.args.self.now.default.now) c.as_slice-then-own.ensures
+    (default_permits lines r.target r.who r.target_group c.args.self.now.default.now c.requires.question.default c.args.self.now.own c.is_same_name.result
+    c.requires.question.own
+    (c.is_same_name.ensures ∙ ap (is_same_name c.args.self.now.default.now) c.as_slice.ensures
     ∙ ap (λ b. b && is_same_name c.args.self.now.default.now r.target.name) (sym c.if-own.true)))
 
 pub returns-else-is_empty-3-clause-permits : goal.returns-else-is_empty-3-clause-permits

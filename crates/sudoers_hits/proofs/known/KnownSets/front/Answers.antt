@@ -1,0 +1,34 @@
+use Rattle.std.proofs.Common.{◌≡◌, ◌==◌, ℕ, ◌+◌, ◌<◌, ◌≤◌, Bool, true, List, ◌∷◌, length, drop, take, get_or, sym, ap, subst, ◌∙◌, ◌-◌, add-zero, arith}
+use Rattle.std.proofs.lemmas.List.{drop_more, length-drop, get_or-drop, take_rest}
+use Rattle.sudoers_hits.specs.declared.wildcards.GlobMode.{GlobMode}
+use Rattle.sudoers_hits.specs.declared.front.Front.{Front}
+use Rattle.sudoers_hits.specs.Folded.{folded, read}
+use Rattle.sudoers_hits.specs.Wildcard.{takes as takes_by, Item, item_at}
+use Rattle.sudoers_hits.specs.Known.{IsFront, IsTail}
+use Rattle.sudoers_hits.proofs.Open.{open_item, tail_open}
+use Rattle.sudoers_hits.proofs.known.KnownSets.front.Goals as goal
+
+-- a `[` in the last bytes
+by_byte : (mode : GlobMode) (lower : Bool) (pattern : List ℕ) (at b tail : ℕ) (front : Front) → IsTail tail pattern → at < length pattern → length (drop at pattern) ≤ tail
+    → folded lower (get_or pattern at 0) ≡ 91 → front.len ≡ 1 → front.takes ≡ ◌==◌ b 91 → IsFront mode lower (drop at pattern) b front
+by_byte mode lower pattern at b tail front is within few bracket one takes =
+    let item = ap (λ xs. item_at (read lower xs)) (drop_more pattern at 0 within)
+    ∙ open_item lower (get_or pattern at 0) (drop (at + 1) pattern) bracket (tail_open tail at pattern is few within) in
+    record {
+      len = one ∙ sym (ap (λ (x : Item × ℕ). x.1) item);
+      takes = takes ∙ sym (ap (λ (x : Item × ℕ). takes_by mode x.0 b) item);
+      some = omega (arith, one);
+      within = omega (arith, one, length-drop at pattern, within);
+    }
+
+-- the byte at a place is the first of the rest
+first_at : (xs : List ℕ) (at : ℕ) → get_or xs at 0 ≡ get_or (take (length xs - at) (drop at xs)) 0 0
+first_at xs at =
+    sym (ap (λ ys. get_or ys 0 0) (take_rest xs at) ∙ get_or-drop at xs 0 0 ∙ ap (λ n. get_or xs n 0) (add-zero at))
+
+pub returns-then-rest-self-clause-front : goal.returns-then-rest-self-clause-front
+returns-then-rest-self-clause-front c =
+    by_byte c.args.mode c.args.lower c.args.pattern.now c.args.at c.args.byte c.args.self.now.tail c.one.result c.requires.known.tail c.requires.within
+    (subst (λ xs. length xs ≤ c.args.self.now.tail) (take_rest c.args.pattern.now c.args.at) c.if-rest-self.true)
+    (ap (folded c.args.lower) (first_at c.args.pattern.now c.args.at) ∙ sym c.fold.ensures ∙ c.if-fold-ne91.false)
+    (ap (λ (f : Front). f.len) c.one.ensures) (ap (λ (f : Front). f.takes) c.one.ensures)
