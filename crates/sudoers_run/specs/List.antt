@@ -24,7 +24,7 @@ use Rattle.sudoers_people.specs.declared.fault.WhoFault.{WhoFault}
 use Rattle.sudoers_list.specs.Listing.{IsListing}
 use Rattle.sudoers_list.specs.Reason.{IsReason}
 use Rattle.sudoers_run.specs.Device.{Rose, counted_by}
-use Rattle.sudoers_run.specs.Faults.{DeviceOr}
+use Rattle.sudoers_run.specs.Faults.{DeviceOr, IsPeopleFault, IsPolicyFault, IsQuestionFault, IsWhoFault}
 use Rattle.sudoers_run.specs.declared.words.ListWords.{ListWords}
 use Rattle.sudoers_run.specs.declared.fault.LayerFault.{LayerFault}
 use Rattle.sudoers_run.specs.declared.fault.LayerFault.TheVariants as layer
@@ -150,10 +150,10 @@ TellsList w fault policy passwd group =
 
 -- the faults of files and words
 abbrev pub IsAskFault : LayerFault → Type 0
-IsAskFault (layer.Policy fault) = Unit {0}
-IsAskFault (layer.People fault) = Unit {0}
-IsAskFault (layer.Who fault) = Unit {0}
-IsAskFault (layer.Ask fault) = Unit {0}
+IsAskFault (layer.Policy fault) = IsPolicyFault fault
+IsAskFault (layer.People fault) = IsPeopleFault fault
+IsAskFault (layer.Who fault) = IsWhoFault fault
+IsAskFault (layer.Ask fault) = IsQuestionFault fault
 IsAskFault layer.NoMemory = Unit {0}
 IsAskFault (layer.Script fault) = ⊥
 IsAskFault (layer.Edit place fault) = ⊥

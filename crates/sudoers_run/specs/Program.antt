@@ -15,6 +15,7 @@ use Rattle.sudoers_run.specs.declared.fault.LayerFault.TheVariants as layer
 use Rattle.sudoers_run.specs.declared.fault.ToolFault.{ToolFault}
 use Rattle.sudoers_run.specs.declared.fault.ToolFault.TheVariants as tool
 use Rattle.sudoers_run.specs.Device.{TakesAtMost, TakesExactly}
+use Rattle.sudoers_run.specs.Faults.{IsPolicyFault, IsScriptFault, IsRefusal}
 use Rattle.sudoers_script.specs.Physical.{physical_lines}
 use Rattle.sudoers_edit.specs.Editing.{run_all, inv_run}
 use Rattle.sudoers_script.specs.Script.{edit_limit, spelling}
@@ -155,9 +156,9 @@ IsReadFault tool.NoMark = ⊥
 
 -- the faults of the input of `edit`: of its script, of its policy, or of an edit
 abbrev pub IsInputFault : LayerFault → Type 0
-IsInputFault (layer.Script fault) = Unit {0}
-IsInputFault (layer.Policy fault) = Unit {0}
-IsInputFault (layer.Edit place fault) = Unit {0}
+IsInputFault (layer.Script fault) = IsScriptFault fault
+IsInputFault (layer.Policy fault) = IsPolicyFault fault
+IsInputFault (layer.Edit place fault) = IsRefusal fault
 IsInputFault layer.NoMemory = Unit {0}
 IsInputFault (layer.Convert fault) = ⊥
 IsInputFault (layer.Filter fault) = ⊥
