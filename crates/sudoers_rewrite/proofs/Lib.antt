@@ -11,3 +11,4 @@ pub mod Whole
 pub mod Kept
 pub mod GroupsLeft
 pub mod Straights
+pub mod Parts
