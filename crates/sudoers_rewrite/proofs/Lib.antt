@@ -1,6 +1,5 @@
 pub mod FilterTexts
 pub mod Matchers
-pub mod Found
 pub mod Lists
 pub mod Members
 pub mod Uses
@@ -12,3 +11,4 @@ pub mod Kept
 pub mod GroupsLeft
 pub mod Straights
 pub mod Parts
+pub mod Shortened

@@ -11,3 +11,4 @@ pub mod Written
 pub mod Changed
 pub mod Selected
 pub mod Parts
+pub mod Shortcuts

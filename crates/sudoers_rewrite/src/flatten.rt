@@ -9,6 +9,7 @@ ghost use Rattle.sudoers_rewrite.specs.Count.{member_limit};
 ghost use Rattle.sudoers_rewrite.specs.Parts.{IsReplacement, left_of, steps_left};
 
 use crate::aliases::Aliases;
+use crate::shortcuts::flip;
 use std::alloc::Global;
 use sudoers_cvt::CvtFault;
 use sudoers_reader::MemberRow;
@@ -101,11 +102,18 @@ fn replacement<'a>(
         ≡ member_in aliases.now.lines.tables.now row.now ∷ [])
         (λ part. IsReplacement kind aliases.now.policy.now aliases.now.lines.tables.now times (member_in aliases.now.lines.tables.now row.now) part) }
 {
-    let times = times.checked_sub(1)?;
-    let rows = aliases.find(kind, row.atom)?;
+    let left = times.checked_sub(1)?;
+    let chain = aliases.find(kind, row.atom)?;
+    let Some(times) = left.checked_sub(chain.times) else {
+        return Some(Part {
+            rows: chain.first,
+            negated: row.negated,
+            times: left,
+        });
+    };
     Some(Part {
-        rows,
-        negated: row.negated,
+        rows: chain.last,
+        negated: flip(row.negated, chain.negated),
         times,
     })
 }
@@ -127,7 +135,7 @@ fn turn(negated: bool, row: &MemberRow) -> MemberRow
     ensures { (t : TablesOf) → member_in t result ≡ turned_member negated (member_in t row.now) }
 {
     MemberRow {
-        negated: if negated { !row.negated } else { row.negated },
+        negated: flip(negated, row.negated),
         ..*row
     }
 }
