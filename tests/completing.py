@@ -1,9 +1,10 @@
 """Completes command lines in bash, zsh and fish, and compares what each offers.
 
 A row of ROWS is the words of a command line, of which the last is not complete,
-and the words that a shell has to offer for it. The shells run in a folder with
-the files of FILES and the folder of FOLDER. zsh runs in a terminal of its own,
-because its completion needs one.
+and the words that a shell has to offer for it. Of a word with `=` or `,` these are
+what comes after the last of them. The shells run in a folder with the files of
+FILES and the folder of FOLDER. zsh runs in a terminal of its own, because its
+completion needs one.
 """
 
 import os
@@ -30,6 +31,8 @@ OPTIONS_OF_LIST = (
     *("--host", "--moment", "--interfaces", "--why", "-h", "--help"),
 )
 ALL_FILES = (*FILES, FOLDER)
+FORMS = ("json", "sudoers")
+KEYS = ("group=", "host=", "user=")
 
 ROWS = (
     (("",), COMMANDS),
@@ -56,18 +59,30 @@ ROWS = (
     (("convert", "--f"), ("--form",)),
     (("convert", "--m"), ("--match",)),
     (("convert", "-e", "--p"), ("--prune-matches",)),
-    (("convert", "-f", ""), ("json", "sudoers")),
+    (("convert", "-f", ""), FORMS),
     (("convert", "-f", "j"), ("json",)),
     (("convert", "-f", "s"), ("sudoers",)),
     (("convert", "-f", "x"), ()),
     (("convert", "-f", "sudoers", ""), ALL_FILES),
     (("convert", "-f", "json", ""), ALL_FILES),
-    (("convert", "--form", ""), ("json", "sudoers")),
+    (("convert", "--form", ""), FORMS),
     (("convert", "--form", "sudoers", "w"), ("web team",)),
+    (("convert", "--form="), FORMS),
+    (("convert", "--form=s"), ("sudoers",)),
+    (("convert", "--form=w"), ()),
+    (("convert", "--form=json", "w"), ("web team",)),
     (("convert", ""), ALL_FILES),
     (("convert", "-e", "w"), ("web team",)),
-    (("convert", "-m", ""), ()),
-    (("convert", "--match", "p"), ()),
+    (("convert", "-m", ""), KEYS),
+    (("convert", "-m", "g"), ("group=",)),
+    (("convert", "-m", "x"), ()),
+    (("convert", "-m", "user=roo"), ("root",)),
+    (("convert", "-m", "host=p"), ()),
+    (("convert", "-m", "user=bob,"), KEYS),
+    (("convert", "-m", "user=bob,host=h1,group=roo"), ("root",)),
+    (("convert", "--match", "h"), ("host=",)),
+    (("convert", "--match="), KEYS),
+    (("convert", "--match=u"), ("user=",)),
     (("convert", "-m", "user=bob", "p"), ("policy",)),
     (("convert", "-f", "json", "-m", "user=bob", "-p", ""), ALL_FILES),
     (("convert", "-f", "sudoers", "policy", ""), ()),
@@ -88,7 +103,16 @@ ROWS = (
     (("list", ""), ALL_FILES),
     (("list", "-U", "bob", "--host", "h1", "--moment", "2026010100Z", "p"), ("policy",)),
     (("list", "--why", "w"), ("web team",)),
-    (("list", "policy", ""), ()),
+    (("list", "--passwd=w"), ("web team",)),
+    (("list", "--other-user=roo"), ("root",)),
+    (("list", "policy", ""), ALL_FILES),
+    (("list", "policy", "w"), ("web team",)),
+    (("list", "policy", "--wh"), ("--why",)),
+    (("list", "policy", "-U", "roo"), ("root",)),
+    (("list", "policy", "--", "w"), ("web team",)),
+    (("list", "policy", "/bin/ls", ""), ALL_FILES),
+    (("list", "policy", "/bin/ls", "-l", "p"), ("policy",)),
+    (("list", "policy", "/bin/ls", "-"), ()),
     (("show", ""), ALL_FILES),
     (("show", "s"), ("sub",)),
     (("show", "--"), ("--help",)),
@@ -109,6 +133,11 @@ ZSH_ROWS = {
     ),
     ("edit", ""): ("-h", "--help"),
 }
+
+
+def ending(offer, begun):
+    """Returns an offer without what it has of the begun word, up to the last `=` or `,`."""
+    return offer.removeprefix(begun[: max(begun.rfind("="), begun.rfind(",")) + 1])
 
 
 def run(words, folder):
@@ -141,10 +170,17 @@ done
 """
 
 
+def as_readline(words):
+    """Returns the words as readline parts them: each `=` is a word of its own."""
+    return [part for word in words for part in ([part for part in re.split("(=)", word) if part] or [""])]
+
+
 def by_bash(words, folder):
     """Returns what bash offers for the last of the words, without the package bash-completion."""
     source = os.path.join(COMPLETIONS, "bash/sudoers_tool")
-    return run(["bash", "--norc", "--noprofile", "-c", BASH, "bash", source, *words], folder).splitlines()
+    parts = as_readline(words)
+    output = run(["bash", "--norc", "--noprofile", "-c", BASH, "bash", source, *parts], folder)
+    return [ending(offer, parts[-1]) for offer in output.splitlines()]
 
 
 # ---- fish
@@ -155,7 +191,7 @@ def by_fish(words, folder):
     line = " ".join(["sudoers_tool", *words])
     source = os.path.join(COMPLETIONS, "fish/sudoers_tool.fish")
     output = run(["fish", "--no-config", "-c", "source $argv[1]; complete -C $argv[2]", source, line], folder)
-    return [offer.split("\t")[0].rstrip("/") for offer in output.splitlines()]
+    return [ending(offer.split("\t")[0].rstrip("/"), words[-1]) for offer in output.splitlines()]
 
 
 # ---- zsh

@@ -18,6 +18,8 @@ visudo, if it is of that version.
 So is one whose last header cell is `` `list` answers ``, with `allowed`, `not allowed`
 or an error in that column. Its column `Request` has what bob asks on the host h1:
 options of `list` and a command. PEOPLE are the users and groups.
+
+The pages of PAGES_OF_CRATES have a link to the README of each crate that they are about.
 """
 
 import functools
@@ -72,6 +74,10 @@ PEOPLE = (
 )
 LIST_WORDS = ("list", "--passwd", "passwd", "--group-file", "group", "--moment", "2026010100Z")
 BOB_ON_H1 = ("-U", "bob", "--host", "h1", "--interfaces", "10.0.0.1/8")
+
+# The pages that have a link to crates, and the beginnings of the names of these crates.
+PAGES_OF_CRATES = {"docs/ARCHITECTURE.md": "", "docs/TRUST.md": "sudoers_"}
+PROGRAM = "sudoers_tool"
 
 PRINTS = re.compile(r"`(check|show|convert -f (?:json|sudoers)(?: [^`]+)?)` prints")
 ESCAPES = {"n": b"\n", "r": b"\r", "t": b"\t", "0": b"\0", "\\": b"\\", "|": b"|"}
@@ -189,15 +195,15 @@ def read_document(name):
                 block = None
         elif block is not None:
             block.text += line + "\n"
-        elif line.startswith("|"):
-            cells = cells_of(line)
-            if is_run(cells):
+        else:
+            document.links += [(number, link) for link in re.findall(r"\]\(([^)#:\s]+)(?:#[^)]*)?\)", line)]
+            cells = cells_of(line) if line.startswith("|") else []
+            if not cells:
+                header = None
+            elif is_run(cells):
                 header = cells
             elif header and not set(cells[0]) <= set("-: "):
                 document.rows.append(read_row(number, header, cells))
-        else:
-            header = None
-            document.links += [(number, link) for link in re.findall(r"\]\(([^)#:\s]+)(?:#[^)]*)?\)", line)]
     return document
 
 
@@ -301,6 +307,16 @@ def run_forms(document, tally):
     tally.note(f"{document.name}, length", [f"more than {most} lines"] if document.lines > most else [])
 
 
+def run_crates(tally):
+    """The pages of PAGES_OF_CRATES have a link to each crate of crates.txt, TRUST.md to each but the program."""
+    with open(os.path.join(TOP, "crates.txt"), encoding="utf-8") as file:
+        crates = [line.split(":")[0] for line in file.read().split("\n") if line]
+    for page, begun in PAGES_OF_CRATES.items():
+        linked = {os.path.basename(os.path.dirname(link)) for _, link in read_document(page).links}
+        wanted = [crate for crate in crates if crate.startswith(begun) and (begun == "" or crate != PROGRAM)]
+        tally.note(f"{page}, crates", [f"there is no link to {crate}" for crate in wanted if crate not in linked])
+
+
 def names():
     """Returns the names of all documents."""
     paths = [path for pattern in PATTERNS for path in sorted(glob.glob(os.path.join(TOP, pattern)))]
@@ -310,6 +326,7 @@ def names():
 def run_all(program, tally):
     """Runs what all documents show, and looks for the tests that they name."""
     named_cases.run_all(tally)
+    run_crates(tally)
     if not visudo():
         tally.skip("documents, what sudo answers", f"visudo of sudo {SUDO.decode()} is not installed")
     for name in names():

@@ -1,29 +1,79 @@
 # Completes the command line of sudoers_tool in fish.
 
-# Succeeds if the command line has this command and no argument after it but options.
-function __sudoers_tool_argument_of
+# Prints the command of the command line and its arguments, without options. Fails if the next word is the value of an option.
+function __sudoers_tool_plain_words
     set -l words (commandline -opc)
     set -e words[1]
     set -l plain
     set -l option
+    set -l no_options
     for word in $words
         if test -n "$option"
             set option
-        else if string match --quiet -- '-?*' $word
+        else if test -z "$no_options"; and test "$word" = --
+            set no_options yes
+        else if test -z "$no_options"; and string match --quiet -- '-?*' $word
             # These options of convert and list take the next word.
             contains -- convert $plain; and contains -- $word -f --form -m --match; and set option $word
             contains -- list $plain; and contains -- $word -U --other-user -u --user -g --group; and set option $word
             contains -- list $plain; and contains -- $word --passwd --group-file --host --moment --interfaces; and set option $word
         else
             set -a plain $word
+            # What comes after the command of list belongs to it.
+            test "$plain[1]" = list; and test (count $plain) -eq 3; and set no_options yes
         end
     end
-    test -z "$option"; or return 1
+    string join -- \n $plain
+    test -z "$option"
+end
+
+# Succeeds if the command line has one of these commands, and the next word is its first argument.
+function __sudoers_tool_argument_of
+    set -l plain (__sudoers_tool_plain_words); or return 1
     test (count $plain) -eq 1; and contains -- $plain[1] $argv
 end
 
+# Succeeds if the next word is the command of list, or a word after it.
+function __sudoers_tool_word_of_list
+    set -l plain (__sudoers_tool_plain_words); or return 1
+    test (count $plain) -ge 2; and test $plain[1] = list
+end
+
+# Succeeds if the next word may be an option of list, or the value of one.
+function __sudoers_tool_option_of_list
+    set -l plain (__sudoers_tool_plain_words)
+    test (count $plain) -ge 1; and test (count $plain) -le 2; and test $plain[1] = list
+end
+
+# Succeeds if the next word may ask for help.
+function __sudoers_tool_help
+    set -l plain (__sudoers_tool_plain_words)
+    test (count $plain) -lt 3; or test $plain[1] != list
+end
+
+# Prints what the last pair of a filter may be: a key, or a user or a group after its key.
+function __sudoers_tool_filter
+    set -l text (string replace --regex -- '^(--match=|-m)' '' (commandline -ct))
+    set -l before (string match --regex -- '^.*,' $text)
+    switch (string replace --regex -- '^.*,' '' $text)
+        case 'user=*'
+            for name in (__fish_complete_users)
+                echo "$before"user=$name
+            end
+        case 'group=*'
+            for name in (__fish_complete_groups)
+                echo "$before"group=$name
+            end
+        case '*=*'
+        case '*'
+            echo "$before"user=\t'Rules for this user'
+            echo "$before"group=\t'Rules for this group'
+            echo "$before"host=\t'Rules for this host'
+    end
+end
+
 complete -c sudoers_tool -f
-complete -c sudoers_tool -s h -l help -d 'Print help'
+complete -c sudoers_tool -n __sudoers_tool_help -s h -l help -d 'Print help'
 complete -c sudoers_tool -n __fish_use_subcommand -s V -l version -d 'Print the version'
 complete -c sudoers_tool -n __fish_use_subcommand -a check -d 'Check a policy'
 complete -c sudoers_tool -n __fish_use_subcommand -a convert -d 'Print the rules of a policy anew, as a policy or as JSON, without comments'
@@ -35,16 +85,17 @@ complete -c sudoers_tool -n '__fish_seen_subcommand_from check' -s q -d 'Print n
 complete -c sudoers_tool -n '__fish_seen_subcommand_from check' -s s -d 'Treat undefined and cyclic aliases as errors'
 complete -c sudoers_tool -n '__fish_seen_subcommand_from convert' -s e -l expand-aliases -d 'Replace aliases by their members'
 complete -c sudoers_tool -n '__fish_seen_subcommand_from convert' -s f -l form -x -a 'json sudoers' -d 'Form of the output: sudoers or json'
-complete -c sudoers_tool -n '__fish_seen_subcommand_from convert' -s m -l match -x -d 'Print only rules for some users, groups and hosts'
+complete -c sudoers_tool -n '__fish_seen_subcommand_from convert' -s m -l match -x -a '(__sudoers_tool_filter)' -d 'Print only rules for some users, groups and hosts'
 complete -c sudoers_tool -n '__fish_seen_subcommand_from convert' -s p -l prune-matches -d 'With -m, drop other users and hosts from the lists'
-complete -c sudoers_tool -n '__fish_seen_subcommand_from list' -s U -l other-user -x -a '(__fish_complete_users)' -d 'User who would run the command'
-complete -c sudoers_tool -n '__fish_seen_subcommand_from list' -s u -l user -x -a '(__fish_complete_users)' -d 'User as whom it would run'
-complete -c sudoers_tool -n '__fish_seen_subcommand_from list' -s g -l group -x -a '(__fish_complete_groups)' -d 'Group as which it would run'
-complete -c sudoers_tool -n '__fish_seen_subcommand_from list' -l passwd -r -F -d 'File of users, as /etc/passwd'
-complete -c sudoers_tool -n '__fish_seen_subcommand_from list' -l group-file -r -F -d 'File of groups, as /etc/group'
-complete -c sudoers_tool -n '__fish_seen_subcommand_from list' -l host -x -d 'Long name of the host'
-complete -c sudoers_tool -n '__fish_seen_subcommand_from list' -l moment -x -d 'Moment in UTC, as 20260101120000Z'
-complete -c sudoers_tool -n '__fish_seen_subcommand_from list' -l interfaces -x -d 'Addresses of the host, as 10.1.2.9/24'
-complete -c sudoers_tool -n '__fish_seen_subcommand_from list' -l why -d 'Print the rule that decides'
+complete -c sudoers_tool -n __sudoers_tool_option_of_list -s U -l other-user -x -a '(__fish_complete_users)' -d 'User who would run the command'
+complete -c sudoers_tool -n __sudoers_tool_option_of_list -s u -l user -x -a '(__fish_complete_users)' -d 'User as whom it would run'
+complete -c sudoers_tool -n __sudoers_tool_option_of_list -s g -l group -x -a '(__fish_complete_groups)' -d 'Group as which it would run'
+complete -c sudoers_tool -n __sudoers_tool_option_of_list -l passwd -r -F -d 'File of users, as /etc/passwd'
+complete -c sudoers_tool -n __sudoers_tool_option_of_list -l group-file -r -F -d 'File of groups, as /etc/group'
+complete -c sudoers_tool -n __sudoers_tool_option_of_list -l host -x -d 'Long name of the host'
+complete -c sudoers_tool -n __sudoers_tool_option_of_list -l moment -x -d 'Moment in UTC, as 20260101120000Z'
+complete -c sudoers_tool -n __sudoers_tool_option_of_list -l interfaces -x -d 'Addresses of the host, as 10.1.2.9/24'
+complete -c sudoers_tool -n __sudoers_tool_option_of_list -l why -d 'Print the rule that decides'
 complete -c sudoers_tool -n '__sudoers_tool_argument_of check convert list show' -F
+complete -c sudoers_tool -n __sudoers_tool_word_of_list -F
 complete -c sudoers_tool -n '__sudoers_tool_argument_of help' -a 'check convert edit list show'
