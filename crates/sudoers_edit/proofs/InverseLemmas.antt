@@ -1,5 +1,5 @@
 -- Edits that are accepted lead to a policy, and what takes them back leads back.
-use Rattle.std.proofs.Common.{◌≡◌, ◌∙◌, ℕ, ◌+◌, ◌≤◌, List, [], ◌∷◌, ◌++◌, length, map, Option, Some, Result, Ok, Err, refl, sym, ap, subst, arith, option_and_then}
+use Rattle.std.proofs.Common.{◌≡◌, ◌∙◌, ℕ, ◌+◌, ◌≤◌, List, [], ◌∷◌, ◌++◌, length, map, Some, Result, Ok, Err, refl, sym, ap, subst, arith, option_and_then}
 use Rattle.std.proofs.lemmas.List.{length-append}
 use Rattle.std.specs.List.{AllByRecursion}
 use Rattle.std.specs.Result.{result_unwrap_or}
@@ -8,7 +8,7 @@ use Rattle.sudoers_text.specs.Fault.{text_limit}
 use Rattle.sudoers_tree.specs.Line.{Line}
 use Rattle.sudoers_tree.specs.Policy.{texts}
 use Rattle.sudoers_tree.specs.Reading.{read_of}
-use Rattle.sudoers_script.specs.Script.{IsNumbered, AreNumbered}
+use Rattle.sudoers_script.specs.Script.{AreNumbered}
 use Rattle.sudoers_script.specs.declared.edit.Edit.{Edit}
 use Rattle.sudoers_script.specs.declared.edit.Edit.TheVariants.{Insert, Delete, Move, AddMember, DropMember, AddDef, DropDef, Rename, EndLine, OpenEnd, Prune}
 use Rattle.sudoers_edit.specs.declared.fault.EditFault.{EditFault}
@@ -26,7 +26,7 @@ use Rattle.sudoers_edit.proofs.PruneLemmas.{lines_few}
 use Rattle.sudoers_edit.proofs.PruneNumbers.{numbered_append, removals_numbered}
 use Rattle.sudoers_edit.proofs.RenameSteps.{rename_takes}
 use Rattle.sudoers_edit.proofs.SpliceSteps.{add_def_takes, drop_def_takes, add_member_takes, drop_member_takes}
-use Rattle.sudoers_edit.proofs.StepLemmas.{Laws, Steps, Takes, insert_takes, delete_takes, move_takes, end_takes, open_takes}
+use Rattle.sudoers_edit.proofs.StepLemmas.{Laws, Takes, insert_takes, delete_takes, move_takes, end_takes, open_takes}
 
 -- RUNS
 

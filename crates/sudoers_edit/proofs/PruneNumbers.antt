@@ -1,16 +1,14 @@
 -- The numbers of what Prune takes out fit the words for them.
-use Rattle.std.proofs.Common.{◌≡◌, ◌∙◌, ℕ, ◌+◌, ◌<◌, ◌≤◌, ◌^◌, Bool, true, false, ◌==◌, List, [], ◌∷◌, ◌++◌, length, map, reverse, refl, sym, subst, arith, if◌then◌else◌}
+use Rattle.std.proofs.Common.{ℕ, ◌+◌, ◌<◌, ◌≤◌, Bool, true, false, ◌==◌, List, [], ◌∷◌, ◌++◌, length, map, reverse, sym, subst, arith, if◌then◌else◌}
 use Rattle.std.proofs.lemmas.List.{map-append, reverse-append}
 use Rattle.std.specs.List.{AllByRecursion, filter}
 use Rattle.sudoers_text.specs.Fault.{text_limit}
-use Rattle.sudoers_line.specs.declared.node.Node.{Node}
 use Rattle.sudoers_tree.specs.Line.{Line}
 use Rattle.sudoers_tree.specs.Definition.{Definition, definitions_in, definitions_since}
 use Rattle.sudoers_tree.specs.Policy.{IsPolicy, alias_limit}
 use Rattle.sudoers_check.specs.Led.{is_unused}
 use Rattle.sudoers_script.specs.Script.{AreNumbered}
 use Rattle.sudoers_script.specs.declared.edit.Edit.{Edit}
-use Rattle.sudoers_edit.specs.declared.pruning.Removal.{Removal}
 use Rattle.sudoers_edit.specs.declared.pruning.Removal.TheVariants as removal
 use Rattle.sudoers_edit.specs.Pruning.{edit_of, removals_of, removals_in, removals_since, removals}
 use Rattle.sudoers_edit.proofs.PruneLemmas.{all_append, all_filter, def_since}

@@ -5,10 +5,9 @@ use Rattle.sudoers_text.specs.Ended.{ends_in_lf}
 use Rattle.sudoers_script.specs.Physical.{physical_lines}
 use Rattle.sudoers_script.specs.Script.{payload, payload_line, text_lines, spell, spelling, IsSpellable, AreSpellable}
 use Rattle.sudoers_script.specs.ScriptReading.{with_text}
-use Rattle.sudoers_script.specs.declared.draft.Draft.{Draft}
 use Rattle.sudoers_script.specs.declared.edit.Edit.{Edit}
 use Rattle.sudoers_script.specs.declared.edit.Edit.TheVariants.{Insert, Delete, Move, AddMember, DropMember, AddDef, DropDef, Rename, EndLine, OpenEnd, Prune}
-use Rattle.sudoers_script.proofs.PhysicalLemmas.{IsLine, lines-ended}
+use Rattle.sudoers_script.proofs.PhysicalLemmas.{lines-ended}
 use Rattle.sudoers_script.proofs.WordLemmas.{line_of, by_text, texted, spell-line, lines-command}
 use Rattle.sudoers_script.proofs.OneSpelling.{AreParts, parts, parts-each, part_line}
 

@@ -1,8 +1,7 @@
-use Rattle.std.proofs.Common.{◌≡◌, Ok, List, subst}
+use Rattle.std.proofs.Common.{subst}
 use Rattle.sudoers_text.specs.Line.{join}
-use Rattle.sudoers_tree.specs.Line.{Line}
 use Rattle.sudoers_tree.specs.Policy.{texts}
-use Rattle.sudoers_tree.specs.Reading.{read_of, IsOutcome}
+use Rattle.sudoers_tree.specs.Reading.{IsOutcome}
 use Rattle.sudoers_edit.proofs.InverseLemmas.{taken_back, inverses_as_many}
 use Rattle.sudoers_edit.proofs.way_back.inverse_leads_back.Goals as goal
 
