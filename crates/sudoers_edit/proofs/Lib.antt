@@ -4,6 +4,7 @@ mod BackLemmas
 mod DefLemmas
 mod EditLemmas
 mod HistoryLemmas
+mod InverseLemmas
 mod LastLemmas
 mod MemberLemmas
 mod MoreLemmas
@@ -13,12 +14,16 @@ mod PolicyLemmas
 pub mod PruneExamples
 mod PruneLaw
 mod PruneLemmas
+mod PruneNumbers
 pub mod RenameExamples
 mod RenameLemmas
+mod RenameSteps
 mod ReplaceLemmas
 mod ReplacedLemmas
 mod SeamLemmas
 mod StartLemmas
 mod SpliceLemmas
+mod SpliceSteps
+mod StepLemmas
 mod WayBackLemmas
 mod WithinLemmas

@@ -30,7 +30,7 @@ use Rattle.sudoers_edit.proofs.HistoryLemmas.{run-append}
 
 -- LISTS
 
-all_append : {X : Type 0} (P : X → Type 0) (xs ys : List X) → AllByRecursion P xs → AllByRecursion P ys → AllByRecursion P (xs ++ ys)
+pub all_append : {X : Type 0} (P : X → Type 0) (xs ys : List X) → AllByRecursion P xs → AllByRecursion P ys → AllByRecursion P (xs ++ ys)
 all_append P [] ys a b = b
 all_append P (x ∷ xs) ys a b = (a.0, all_append P xs ys a.1 b)
 
@@ -38,7 +38,7 @@ all_weaker : {X : Type 0} (P Q : X → Type 0) (xs : List X) → ((x : X) → P 
 all_weaker P Q [] more a = tt
 all_weaker P Q (x ∷ xs) more a = (more x a.0, all_weaker P Q xs more a.1)
 
-all_filter : {X : Type 0} (P : X → Type 0) (test : X → Bool) (xs : List X) → AllByRecursion P xs → AllByRecursion P (filter test xs)
+pub all_filter : {X : Type 0} (P : X → Type 0) (test : X → Bool) (xs : List X) → AllByRecursion P xs → AllByRecursion P (filter test xs)
 all_filter P test [] a = tt
 all_filter P test (x ∷ xs) a = kept (test x) (all_filter P test xs a.1)
   where

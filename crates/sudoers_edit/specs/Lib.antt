@@ -13,3 +13,4 @@ pub mod LastLine
 pub mod Leading
 pub mod Reread
 pub mod Named
+pub mod WayBack

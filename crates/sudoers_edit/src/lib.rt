@@ -14,6 +14,7 @@ mod renaming;
 mod reread;
 mod splice;
 mod splice_edits;
+mod way_back;
 
 pub use editor::{Editor, Entry};
 pub use fault::EditFault;
@@ -26,3 +27,4 @@ pub use sudoers_script::{
     too_many_is_behind_the_most_edits, word_fault_is_at_the_first_dead_line, write_script,
     written_is_read,
 };
+pub use way_back::inverse_leads_back;

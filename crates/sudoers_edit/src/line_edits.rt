@@ -161,7 +161,7 @@ fn last_line(policy: &Policy) -> Option<&[u8]>
 }
 
 /// A law: the lines of a policy stay its lines where LF is put behind the last or taken from it, if that is a policy.
-fn stays_cut()
+pub fn stays_cut()
     ensures { StaysCut }
 {
     policy_is_cut();

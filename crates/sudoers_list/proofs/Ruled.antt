@@ -12,7 +12,10 @@ use Rattle.sudoers_check.specs.Chain.{Has}
 use Rattle.sudoers_hits.specs.declared.asked.Who.{Who}
 use Rattle.sudoers_match.specs.declared.groups.GroupPlace.{GroupPlace}
 use Rattle.sudoers_hits.specs.declared.request.Request.{Request}
-use Rattle.sudoers_match.specs.Answer.{Answer, IsAnswer, told}
+use Rattle.sudoers_line.specs.declared.node.Kind.TheVariants.{User, Host}
+use Rattle.sudoers_hits.specs.Hits.{user_hits, host_hits}
+use Rattle.sudoers_match.specs.Allows.{Allows}
+use Rattle.sudoers_match.specs.Answer.{Answer, Fits, IsAnswer, told}
 use Rattle.sudoers_match.specs.Groups.{AreHostGroups, GroupPlaces, SpecPlaces, place_of}
 use Rattle.sudoers_match.specs.Heads.{Head, filled, no_head}
 use Rattle.sudoers_match.specs.Last.{IsLast}
@@ -127,15 +130,26 @@ rule_at lines a s g c there here this =
     )
 
 last_row : (P : Row → Type 0) (rows : List Row) (last : Option Row) (a : Answer) → Some a ≡ option_map told last → IsLast P rows last
-    → (row : Row) × Has rows row × (a ≡ told row)
+    → (row : Row) × Has rows row × (a ≡ told row) × P row
 last_row P rows None a says is = absurd cc
 last_row P rows (Some row) a says is =
     let same : a ≡ told row = cc in
-    (row, subst (λ l. Has l row) (sym is.2) (has_middle is.0 is.1 row), same)
+    (row, subst (λ l. Has l row) (sym is.2) (has_middle is.0 is.1 row), same, is.3)
 
-pub rule_of_answer : (lines : List Line) (request : Request) (a : Answer) → IsAnswer lines request (Some a) → (rule : ℕ × CmdSpec) × (deciding_rule lines a ≡ Some rule)
-rule_of_answer lines request a is =
-    let last = last_row _ is.rows is.answers.last a is.answers.says is.answers.is_last in
+-- What stands at the place of an answer: a user specification whose users match, a host group of it whose hosts match, and a command.
+record Stands (lines : List Line) (r : Request) (a : Answer) : Type 0 where
+  pub spec : Spec
+  pub group : HostGroup
+  pub command : Head × Member
+  pub there : slice_get (specs_of lines) a.spec ≡ Some spec
+  pub here : slice_get spec.groups a.host_group ≡ Some group
+  pub this : slice_get (filled no_head group.commands) a.command ≡ Some command
+  pub user : Allows User lines (user_hits r.who.user) spec.users
+  pub host : Allows Host lines (host_hits r.who) group.hosts
+
+stands : (lines : List Line) (r : Request) (a : Answer) → IsAnswer lines r (Some a) → Stands lines r a
+stands lines r a is =
+    let last = last_row (Fits lines r) is.rows is.answers.last a is.answers.says is.answers.is_last in
     let row = last.0 in
     let s = joined_here (SpecRows lines) (specs_of lines) is.rows row is.are_rows last.1 in
     let g = joined_here (GroupRows lines s.number s.thing.users) s.thing.groups s.part row s.is_part s.has in
@@ -145,5 +159,68 @@ rule_of_answer lines request a is =
     let spec : a.spec ≡ s.number = ap (λ (x : Answer). x.spec) last.2 ∙ ap (λ (x : Row). x.spec) (sym atom.1) in
     let group : a.host_group ≡ g.number = ap (λ (x : Answer). x.host_group) last.2 ∙ ap (λ (x : Row). x.host_group) (sym atom.1) in
     let command : a.command ≡ c.number = ap (λ (x : Answer). x.command) last.2 ∙ ap (λ (x : Row). x.command) (sym atom.1) in
-    rule_at lines a s.thing g.thing c.thing (ap (slice_get (specs_of lines)) spec ∙ s.there) (ap (slice_get s.thing.groups) group ∙ g.there)
-    (ap (slice_get (filled no_head g.thing.commands)) command ∙ c.there)
+    record {
+      spec = s.thing;
+      group = g.thing;
+      command = c.thing;
+      there = ap (slice_get (specs_of lines)) spec ∙ s.there;
+      here = ap (slice_get s.thing.groups) group ∙ g.there;
+      this = ap (slice_get (filled no_head g.thing.commands)) command ∙ c.there;
+      user = subst (λ (x : Row). Allows User lines (user_hits r.who.user) x.users) (sym atom.1) last.3.user;
+      host = subst (λ (x : Row). Allows Host lines (host_hits r.who) x.hosts) (sym atom.1) last.3.host;
+    }
+
+pub rule_of_answer : (lines : List Line) (request : Request) (a : Answer) → IsAnswer lines request (Some a) → (rule : ℕ × CmdSpec) × (deciding_rule lines a ≡ Some rule)
+rule_of_answer lines request a is =
+    let w = stands lines request a is in
+    rule_at lines a w.spec w.group w.command w.there w.here w.this
+
+-- ---- the place of an answer among those that are listed
+
+has_front : {Y : Type 0} (xs ys : List Y) (y : Y) → Has xs y → Has (xs ++ ys) y
+has_front [] ys y h = absurd h
+has_front (x ∷ xs) ys y (inl e) = inl e
+has_front (x ∷ xs) ys y (inr h) = inr (has_front xs ys y h)
+
+has_rest : {Y : Type 0} (xs ys : List Y) (y : Y) → Has ys y → Has (xs ++ ys) y
+has_rest [] ys y h = h
+has_rest (x ∷ xs) ys y h = inr (has_rest xs ys y h)
+
+-- What the part of a thing has, all have.
+has_joined : {X Y : Type 0} (Part : ℕ → X → List Y → Type 0) (i n : ℕ) (xs : List X) (ys : List Y) (x : X) (y : Y) → AreJoined Part i xs ys
+    → slice_get xs n ≡ Some x → ((part : List Y) → Part (i + n) x part → Has part y) → Has ys y
+has_joined Part i n [] ys x y joined there has = absurd cc
+has_joined Part i zero (z ∷ xs) ys x y joined there has =
+    let same : z ≡ x = cc in
+    let at : i ≡ i + 0 = omega arith in
+    subst (λ l. Has l y) (sym joined.2)
+    (has_front joined.0 joined.1 y (has joined.0 (subst (λ k. Part k x joined.0) at (subst (λ t. Part i t joined.0) same joined.3))))
+has_joined Part i (suc n) (z ∷ xs) ys x y joined there has =
+    let at : suc i + n ≡ i + suc n = omega arith in
+    subst (λ l. Has l y) (sym joined.2)
+    (has_rest joined.0 joined.1 y (has_joined Part (suc i) n xs joined.1 x y joined.4 there (λ part p. has part (subst (λ k. Part k x part) at p))))
+
+-- with numbers from 0
+has_in : {X Y : Type 0} (Part : ℕ → X → List Y → Type 0) (n : ℕ) (xs : List X) (ys : List Y) (x : X) (y : Y) → AreJoined Part 0 xs ys
+    → slice_get xs n ≡ Some x → ((part : List Y) → Part n x part → Has part y) → Has ys y
+has_in Part n xs ys x y joined there has =
+    let at : 0 + n ≡ n = omega arith in
+    has_joined Part 0 n xs ys x y joined there (λ part p. has part (subst (λ k. Part k x part) at p))
+
+of_group : (lines : List Line) (who : Who) (i j : ℕ) (g : HostGroup) (part : List GroupPlace) → Allows Host lines (host_hits who) g.hosts
+    → GroupPlaces lines who i j g part → Has part (place_of i j)
+of_group lines who i j g part allows (inl a) = subst (λ l. Has l (place_of i j)) (sym a.1) (inl refl)
+of_group lines who i j g part allows (inr b) = absurd (b.0 allows)
+
+of_spec : (lines : List Line) (who : Who) (i n : ℕ) (s : Spec) (g : HostGroup) (part : List GroupPlace) → Allows User lines (user_hits who.user) s.users
+    → slice_get s.groups n ≡ Some g → Allows Host lines (host_hits who) g.hosts → SpecPlaces lines who i s part → Has part (place_of i n)
+of_spec lines who i n s g part user here host (inl a) =
+    has_in (GroupPlaces lines who i) n s.groups part g (place_of i n) a.1 here (λ inner p. of_group lines who i n g inner host p)
+of_spec lines who i n s g part user here host (inr b) = absurd (b.0 user)
+
+pub deciding_is_listed : (lines : List Line) (r : Request) (a : Answer) (places : List GroupPlace) → IsAnswer lines r (Some a)
+    → AreHostGroups lines r.who places → Has places (place_of a.spec a.host_group)
+deciding_is_listed lines r a places is are =
+    let w = stands lines r a is in
+    has_in (SpecPlaces lines r.who) a.spec (specs_of lines) places w.spec (place_of a.spec a.host_group) are w.there
+    (λ part p. of_spec lines r.who a.spec a.host_group w.spec w.group part w.user w.here w.host p)

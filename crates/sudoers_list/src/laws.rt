@@ -9,7 +9,7 @@ ghost use Rattle.sudoers_hits.specs.declared.asked.Who.{Who as WhoOf};
 ghost use Rattle.sudoers_match.specs.declared.groups.GroupPlace.{GroupPlace as GroupPlaceOf};
 ghost use Rattle.sudoers_hits.specs.declared.request.Request.{Request as RequestOf};
 ghost use Rattle.sudoers_match.specs.Answer.{Answer as AnswerOf, IsAnswer};
-ghost use Rattle.sudoers_match.specs.Groups.{AreHostGroups};
+ghost use Rattle.sudoers_match.specs.Groups.{AreHostGroups, place_of};
 ghost use Rattle.sudoers_list.specs.Listing.{IsListing, group_at, groups_in};
 ghost use Rattle.sudoers_list.specs.Reason.{deciding_rule};
 
@@ -33,4 +33,10 @@ pub fn answer_has_rule()
 pub fn places_have_groups()
     ensures { (lines : List LineOf) (who : WhoOf) (places : List GroupPlaceOf) (place : GroupPlaceOf) → AreHostGroups lines who places
         → Has places place → (group : HostGroupOf) × (group_at (groups_in lines) place ≡ Some group) }
+{}
+
+/// The host group of the rule that decides is one of those that are listed for the user.
+pub fn deciding_rule_is_listed()
+    ensures { (lines : List LineOf) (request : RequestOf) (answer : AnswerOf) (places : List GroupPlaceOf) → IsAnswer lines request (Some answer)
+        → AreHostGroups lines request.who places → Has places (place_of answer.spec answer.host_group) }
 {}

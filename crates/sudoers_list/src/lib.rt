@@ -7,6 +7,6 @@ mod lines;
 mod listing;
 mod reason;
 
-pub use laws::{answer_has_rule, one_listing, places_have_groups};
+pub use laws::{answer_has_rule, deciding_rule_is_listed, one_listing, places_have_groups};
 pub use listing::list;
 pub use reason::explain;

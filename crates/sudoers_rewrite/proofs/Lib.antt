@@ -1,6 +1,5 @@
 pub mod FilterTexts
 pub mod Matchers
-pub mod Found
 pub mod Lists
 pub mod Members
 pub mod Uses
@@ -11,3 +10,5 @@ pub mod Whole
 pub mod Kept
 pub mod GroupsLeft
 pub mod Straights
+pub mod Parts
+pub mod Shortened

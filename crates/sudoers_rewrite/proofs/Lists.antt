@@ -1,8 +1,6 @@
--- Lists whose aliases are replaced: how long they are, and lists without aliases.
-use Rattle.std.proofs.Common.{◌≡◌, ℕ, zero, suc, ◌≤◌, Bool, true, false, ◌||◌, List, [], ◌∷◌, ◌++◌, length, Option, Some, None, refl, ap, ◌∙◌, arith, length-append}
+-- Lists whose aliases are replaced: how long they are.
+use Rattle.std.proofs.Common.{◌≡◌, ℕ, zero, suc, ◌≤◌, List, [], ◌∷◌, length, Option, Some, None, refl, arith, length-append}
 use Rattle.std.proofs.lemmas.List.{length-map}
-use Rattle.std.specs.List.{list_any}
-use Rattle.std.specs.Option.{is_some}
 use Rattle.sudoers_line.specs.declared.node.Kind.{Kind}
 use Rattle.sudoers_line.specs.declared.node.Atom.{Atom}
 use Rattle.sudoers_line.specs.declared.node.Member.{Member}
@@ -14,29 +12,7 @@ use Rattle.sudoers_verdict.specs.Flattened.{turned_member, replaced_by, replaced
 abbrev pub HaveMembers : Kind → List Line → Type 0
 HaveMembers k lines = (a : Atom) (ms : List Member) → alias_of k lines a ≡ Some ms → 1 ≤ length ms
 
-or_false : (a b : Bool) → (a || b) ≡ false → (a ≡ false) × (b ≡ false)
-or_false true b e = absurd cc
-or_false false b e = (refl, e)
-
-none_of : (o : Option (List Member)) → is_some o ≡ false → o ≡ None
-none_of None e = refl
-none_of (Some ms) e = absurd cc
-
 module _ (k : Kind) (lines : List Line) where
-  abbrev is_alias : Member → Bool
-  is_alias m = is_some (alias_of k lines m.atom)
-
-  pub without_alias : (ms : List Member) → list_any (λ (m : Member). is_some (alias_of k lines m.atom)) ms ≡ false → replaced_once k lines ms ≡ ms
-  without_alias [] e = refl
-  without_alias (m ∷ ms) e =
-      let both = or_false (is_alias m) (list_any is_alias ms) e in
-      ap (λ o. replaced_by m o ++ replaced_once k lines ms) (none_of (alias_of k lines m.atom) both.0)
-      ∙ ap (λ ns. m ∷ ns) (without_alias ms both.1)
-
-  pub stays : (n : ℕ) (ms : List Member) → replaced_once k lines ms ≡ ms → replaced_times n k lines ms ≡ ms
-  stays zero ms e = refl
-  stays (suc n) ms e = ap (replaced_times n k lines) e ∙ stays n ms e
-
   module _ (have : HaveMembers k lines) where
     some_by : (m : Member) (o : Option (List Member)) → alias_of k lines m.atom ≡ o → 1 ≤ length (replaced_by m o)
     some_by m None e = omega arith

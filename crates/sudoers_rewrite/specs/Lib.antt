@@ -10,3 +10,5 @@ pub mod Pruned
 pub mod Written
 pub mod Changed
 pub mod Selected
+pub mod Parts
+pub mod Shortcuts

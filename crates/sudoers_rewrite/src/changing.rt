@@ -9,13 +9,15 @@ ghost use Rattle.sudoers_rewrite.specs.Rewrite.{has_round, member_count, rewritt
 ghost use Rattle.sudoers_rewrite.specs.Written.{IsRefusal};
 
 use crate::aliases::Aliases;
+use crate::definitions::list_definitions;
 use crate::filter::Filter;
 use crate::listing::Source;
 use crate::rewriting::{NewLines, filter_policy, write_lines};
+use crate::shortcuts::find_shortcuts;
 use crate::used::{check_members, find_round};
 use std::alloc::{AllocError, Global};
 use std::marker::Model;
-use sudoers_check::{chains_are, mark_used};
+use sudoers_check::{Numbers, chains_are, mark_used};
 use sudoers_cvt::{CvtFault, Rules};
 use sudoers_tree::Policy;
 
@@ -88,7 +90,11 @@ fn change_lines(
     ensures fault { IfErr result (IsRefusal changes.now.expand (member_count (rewritten (changes_shown changes.now) policy.now))) }
 {
     chains_are();
-    let aliases = Aliases::new(alloc, policy)?;
+    let numbers = Numbers::new(alloc, policy)?;
+    let lines = policy.lines();
+    let rows = list_definitions(alloc, &lines)?;
+    let shortcuts = find_shortcuts(alloc, &numbers, lines.tables, rows.as_slice())?;
+    let aliases = Aliases::new(&numbers, lines, rows.as_slice(), shortcuts.as_slice());
     let expand = changes.expand;
     let source = Source { aliases, expand };
     match changes.filter {

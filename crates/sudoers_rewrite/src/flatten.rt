@@ -1,18 +1,16 @@
 //! Lists, their aliases replaced.
 
-ghost use Rattle.std.specs.Prelude.{◌≡◌, ◌⊎◌, ◌<◌, ◌++◌, false, length, map, IfOk, IfErr, OnOk};
-ghost use Rattle.std.specs.List.{list_any};
-ghost use Rattle.std.specs.Option.{is_some};
-ghost use Rattle.sudoers_line.specs.declared.node.Member.{Member as MemberOf};
+ghost use Rattle.std.specs.Prelude.{◌≡◌, ◌⊎◌, ◌<◌, ◌≤◌, ◌++◌, ◌∷◌, [], length, map, IfOk, IfErr, OnOk, MatchOption};
 ghost use Rattle.sudoers_reader.specs.declared.rows.Tables.{Tables as TablesOf};
-ghost use Rattle.sudoers_reader.specs.Tables.{atom_in, member_in};
-ghost use Rattle.sudoers_verdict.specs.Flat.{alias_of};
-ghost use Rattle.sudoers_verdict.specs.Flattened.{flattened, replaced_by, replaced_once, turned_member};
+ghost use Rattle.sudoers_reader.specs.Tables.{member_in};
+ghost use Rattle.sudoers_verdict.specs.Flattened.{flattened, replaced_times, turned_member};
 ghost use Rattle.sudoers_cvt.specs.declared.fault.CvtFault.TheVariants.{TooLarge, NoMemory};
 ghost use Rattle.sudoers_rewrite.specs.Count.{member_limit};
+ghost use Rattle.sudoers_rewrite.specs.Parts.{IsReplacement, left_of, steps_left};
 
 use crate::aliases::Aliases;
-use std::alloc::{AllocError, Global};
+use crate::shortcuts::flip;
+use std::alloc::Global;
 use sudoers_cvt::CvtFault;
 use sudoers_reader::MemberRow;
 use sudoers_tree::Kind;
@@ -20,101 +18,115 @@ use sudoers_tree::Kind;
 /// How many members expanded rules may have.
 pub const MEMBER_LIMIT: usize = 65_536;
 
+/// Members that are left to be written. Their signs are turned if `negated`, and their aliases are replaced so many times.
+#[derive(Clone, Copy)]
+struct Part<'a> {
+    rows: &'a [MemberRow],
+    negated: bool,
+    times: usize,
+}
+
 /// Returns the list `rows` of this kind with its aliases replaced by their members, signs turned under an odd number of `!`.
 ///
 /// # Errors
 ///
 /// `TooLarge`: the list has more than 65,536 members then. `NoMemory`: memory ran out.
-pub fn flatten(
+pub fn flatten<'a>(
     alloc: Global,
-    aliases: &Aliases<'_>,
+    aliases: &Aliases<'a>,
     kind: Kind,
-    rows: &[MemberRow],
+    rows: &'a [MemberRow],
 ) -> Result<Vec<MemberRow>, CvtFault>
     ensures rows { IfOk result (λ new. map (member_in aliases.now.lines.tables.now) new.items
         ≡ flattened kind aliases.now.policy.now (map (member_in aliases.now.lines.tables.now) rows.now)) }
     ensures fault { IfErr result (λ fault. (fault ≡ NoMemory) ⊎ ((fault ≡ TooLarge)
         × (member_limit < length (flattened kind aliases.now.policy.now (map (member_in aliases.now.lines.tables.now) rows.now))))) }
 {
-    aliases.policy.is_policy();
-    let mut flat = Vec::from_slice(alloc, rows)?;
-    for round in 0..aliases.count {
-        if !has_alias(aliases, kind, flat.as_slice()) {
-            return Ok(flat);
-        }
-        flat = replace_once(alloc, aliases, kind, flat.as_slice())?;
+    let mut flat = Vec::new(alloc);
+    let mut parts = Vec::new(alloc);
+    parts.push(Part {
+        rows,
+        negated: false,
+        times: aliases.count,
+    })?;
+    while let Some(part) = parts.pop() {
+        write_next(aliases, kind, &part, &mut parts, &mut flat)?;
     }
     Ok(flat)
 }
 
-/// Returns whether a member of the list names a defined alias.
-fn has_alias(aliases: &Aliases<'_>, kind: Kind, rows: &[MemberRow]) -> bool
-    ensures { result ≡ list_any (λ (m : MemberOf). is_some (alias_of kind aliases.now.policy.now m.atom))
-        (map (member_in aliases.now.lines.tables.now) rows.now) }
-{
-    for row in rows {
-        if aliases.find(kind, row.atom).is_some() {
-            return true;
-        }
-    }
-    false
-}
-
-/// Returns the list with each of its aliases replaced by the members of the alias.
-fn replace_once(
-    alloc: Global,
-    aliases: &Aliases<'_>,
+/// Appends the next member of a part to the list `flat`. If it names an alias that is to be replaced, the members of the alias are left
+/// to be written in its place.
+fn write_next<'a>(
+    aliases: &Aliases<'a>,
     kind: Kind,
-    rows: &[MemberRow],
-) -> Result<Vec<MemberRow>, CvtFault>
-    ensures rows { IfOk result (λ new. map (member_in aliases.now.lines.tables.now) new.items
-        ≡ replaced_once kind aliases.now.policy.now (map (member_in aliases.now.lines.tables.now) rows.now)) }
+    part: &Part<'a>,
+    parts: &mut Vec<Part<'a>>,
+    flat: &mut Vec<MemberRow>,
+) -> Result<(), CvtFault>
+    ensures rows { OnOk result (map (member_in aliases.now.lines.tables.now) flat.new.items
+        ++ left_of kind aliases.now.policy.now aliases.now.lines.tables.now parts.new.items
+        ≡ map (member_in aliases.now.lines.tables.now) flat.old.items
+        ++ left_of kind aliases.now.policy.now aliases.now.lines.tables.now (parts.old.items ++ part.now ∷ [])) }
+    ensures fewer { OnOk result (steps_left kind aliases.now.policy.now aliases.now.lines.tables.now parts.new.items
+        < steps_left kind aliases.now.policy.now aliases.now.lines.tables.now (parts.old.items ++ part.now ∷ [])) }
     ensures fault { IfErr result (λ fault. (fault ≡ NoMemory) ⊎ ((fault ≡ TooLarge)
-        × (member_limit < length (replaced_once kind aliases.now.policy.now (map (member_in aliases.now.lines.tables.now) rows.now))))) }
+        × (member_limit < length (map (member_in aliases.now.lines.tables.now) flat.old.items
+        ++ left_of kind aliases.now.policy.now aliases.now.lines.tables.now (parts.old.items ++ part.now ∷ []))))) }
 {
-    let mut new = Vec::new(alloc);
-    for row in rows {
-        append_replaced(&mut new, aliases, kind, row)?;
-        if new.len() > MEMBER_LIMIT {
-            return Err(CvtFault::TooLarge);
-        }
-    }
-    Ok(new)
-}
-
-/// Appends a member, or the members of the alias that it names.
-fn append_replaced(
-    new: &mut Vec<MemberRow>,
-    aliases: &Aliases<'_>,
-    kind: Kind,
-    row: &MemberRow,
-) -> Result<(), AllocError>
-    ensures { OnOk result (map (member_in aliases.now.lines.tables.now) new.new.items
-        ≡ map (member_in aliases.now.lines.tables.now) new.old.items
-        ++ replaced_by (member_in aliases.now.lines.tables.now row.now)
-        (alias_of kind aliases.now.policy.now (atom_in aliases.now.lines.tables.now row.now.atom))) }
-{
-    match aliases.find(kind, row.atom) {
-        None => {
-            new.push(*row)?;
+    let Some((row, rest)) = part.rows.split_first() else {
+        return Ok(());
+    };
+    parts.push(Part {
+        rows: rest,
+        ..*part
+    })?;
+    let row = turn(part.negated, row);
+    match replacement(aliases, kind, &row, part.times) {
+        None => push_member(flat, row),
+        Some(members) => {
+            parts.push(members)?;
             Ok(())
         }
-        Some(members) => append_turned(new, row.negated, members),
     }
 }
 
-/// Appends members, their signs turned if `negated`.
-fn append_turned(
-    new: &mut Vec<MemberRow>,
-    negated: bool,
-    members: &[MemberRow],
-) -> Result<(), AllocError>
-    ensures { OnOk result ((t : TablesOf) → map (member_in t) new.new.items
-        ≡ map (member_in t) new.old.items ++ map (turned_member negated) (map (member_in t) members.now)) }
+/// Returns what comes in the place of a member, if it names an alias and aliases are still replaced, so many times.
+fn replacement<'a>(
+    aliases: &Aliases<'a>,
+    kind: Kind,
+    row: &MemberRow,
+    times: usize,
+) -> Option<Part<'a>>
+    ensures { MatchOption result (replaced_times times kind aliases.now.policy.now (member_in aliases.now.lines.tables.now row.now ∷ [])
+        ≡ member_in aliases.now.lines.tables.now row.now ∷ [])
+        (λ part. IsReplacement kind aliases.now.policy.now aliases.now.lines.tables.now times (member_in aliases.now.lines.tables.now row.now) part) }
 {
-    for row in members {
-        new.push(turn(negated, row))?;
+    let left = times.checked_sub(1)?;
+    let chain = aliases.find(kind, row.atom)?;
+    let Some(times) = left.checked_sub(chain.times) else {
+        return Some(Part {
+            rows: chain.first,
+            negated: row.negated,
+            times: left,
+        });
+    };
+    Some(Part {
+        rows: chain.last,
+        negated: flip(row.negated, chain.negated),
+        times,
+    })
+}
+
+/// Appends a member, if there is room for it.
+fn push_member(flat: &mut Vec<MemberRow>, row: MemberRow) -> Result<(), CvtFault>
+    ensures pushed { OnOk result (flat.new.items ≡ flat.old.items ++ row ∷ []) }
+    ensures fault { IfErr result (λ fault. (fault ≡ NoMemory) ⊎ ((fault ≡ TooLarge) × (member_limit ≤ length flat.old.items))) }
+{
+    if flat.len() >= MEMBER_LIMIT {
+        return Err(CvtFault::TooLarge);
     }
+    flat.push(row)?;
     Ok(())
 }
 
@@ -123,7 +135,7 @@ fn turn(negated: bool, row: &MemberRow) -> MemberRow
     ensures { (t : TablesOf) → member_in t result ≡ turned_member negated (member_in t row.now) }
 {
     MemberRow {
-        negated: if negated { !row.negated } else { row.negated },
+        negated: flip(negated, row.negated),
         ..*row
     }
 }

@@ -21,7 +21,7 @@ use Rattle.sudoers_run.specs.declared.words.ConvertWords.{ConvertWords}
 use Rattle.sudoers_run.specs.declared.fault.LayerFault.{LayerFault}
 use Rattle.sudoers_run.specs.declared.fault.LayerFault.TheVariants as layer
 use Rattle.sudoers_run.specs.declared.fault.ToolFault.{ToolFault}
-use Rattle.sudoers_run.specs.Faults.{DeviceOr}
+use Rattle.sudoers_run.specs.Faults.{DeviceOr, IsPolicyFault}
 use Rattle.sudoers_run.specs.Program.{TellsLayer}
 
 -- rules as the text of a policy, if it is within the limits; or as JSON, if all their texts are UTF-8
@@ -96,16 +96,19 @@ abbrev pub IsRewriteFault : Form → Bool → LayerFault → Type 0
 IsRewriteFault f expand fault =
     (fault ≡ layer.Convert (form_fault f)) ⊎ ((fault ≡ layer.Convert Cycle) ⊎ ((fault ≡ layer.Convert TooLarge) × (expand ≡ true)))
 
--- the faults of the words, and of the rules for which they ask
-abbrev pub IsWordsFault : ConvertWords → LayerFault → Type 0
-IsWordsFault words fault = IsFilterFault fault ⊎ IsRewriteFault words.form words.expand fault
+-- The fault of the form; or, where rules are filtered or aliases replaced, an alias is cyclic; or aliases are replaced, and there are
+-- too many members.
+abbrev pub IsConversionFault : ConvertWords → CvtFault → Type 0
+IsConversionFault words fault =
+    (fault ≡ form_fault words.form)
+    ⊎ (((fault ≡ Cycle) × ((is_some (filter_text words) || words.expand) ≡ true)) ⊎ ((fault ≡ TooLarge) × (words.expand ≡ true)))
 
--- the faults of converting a file
+-- The faults of converting a file. A fault of a filter is that of the words.
 abbrev pub IsRulesFault : ConvertWords → LayerFault → Type 0
-IsRulesFault words (layer.Policy fault) = Unit {0}
+IsRulesFault words (layer.Policy fault) = IsPolicyFault fault
 IsRulesFault words layer.NoMemory = Unit {0}
-IsRulesFault words (layer.Convert fault) = IsWordsFault words (layer.Convert fault)
-IsRulesFault words (layer.Filter fault) = Unit {0}
+IsRulesFault words (layer.Convert fault) = IsConversionFault words fault
+IsRulesFault words (layer.Filter fault) = filter_in (filter_text words) ≡ Err (layer.Filter fault)
 IsRulesFault words (layer.Script fault) = ⊥
 IsRulesFault words (layer.Edit place fault) = ⊥
 IsRulesFault words (layer.People fault) = ⊥

@@ -1,4 +1,17 @@
--- What is said of the faults of a command that reads whole files.
+-- What is said of the faults of a command.
+use Rattle.sudoers_text.specs.declared.fault.TextFault.TheVariants as text
+use Rattle.sudoers_tree.specs.declared.fault.ReadFault.{ReadFault}
+use Rattle.sudoers_tree.specs.declared.fault.ReadFault.TheVariants as read
+use Rattle.sudoers_edit.specs.declared.fault.EditFault.{EditFault}
+use Rattle.sudoers_edit.specs.declared.fault.EditFault.TheVariants as edit
+use Rattle.sudoers_script.specs.declared.script.ScriptFault.{ScriptFault}
+use Rattle.sudoers_script.specs.declared.script.ScriptFault.TheVariants as script
+use Rattle.sudoers_people.specs.declared.fault.PeopleFault.{PeopleFault}
+use Rattle.sudoers_people.specs.declared.fault.PeopleFault.TheVariants as people
+use Rattle.sudoers_people.specs.declared.fault.WhoFault.{WhoFault}
+use Rattle.sudoers_people.specs.declared.fault.WhoFault.TheVariants as who
+use Rattle.sudoers_verdict.specs.declared.verdict.AskFault.{AskFault}
+use Rattle.sudoers_verdict.specs.declared.verdict.AskFault.TheVariants as ask
 use Rattle.sudoers_run.specs.declared.fault.LayerFault.{LayerFault}
 use Rattle.sudoers_run.specs.declared.fault.ToolFault.{ToolFault}
 use Rattle.sudoers_run.specs.declared.fault.ToolFault.TheVariants as tool
@@ -11,3 +24,30 @@ DeviceOr P tool.NoEnd = Unit {0}
 DeviceOr P (tool.Layer fault) = P fault
 DeviceOr P tool.NoMark = ⊥
 DeviceOr P tool.InputTooLarge = ⊥
+
+-- ---- Want of memory is the one fault `NoMemory`: no layer's fault is it.
+
+abbrev pub IsPolicyFault : ReadFault → Type 0
+IsPolicyFault read.NoMemory = ⊥
+IsPolicyFault (read.Text text.NoMemory) = ⊥
+IsPolicyFault fault = Unit {0}
+
+abbrev pub IsScriptFault : ScriptFault → Type 0
+IsScriptFault script.NoMemory = ⊥
+IsScriptFault fault = Unit {0}
+
+abbrev pub IsRefusal : EditFault → Type 0
+IsRefusal edit.NoMemory = ⊥
+IsRefusal fault = Unit {0}
+
+abbrev pub IsPeopleFault : PeopleFault → Type 0
+IsPeopleFault people.NoMemory = ⊥
+IsPeopleFault fault = Unit {0}
+
+abbrev pub IsWhoFault : WhoFault → Type 0
+IsWhoFault who.NoMemory = ⊥
+IsWhoFault fault = Unit {0}
+
+abbrev pub IsQuestionFault : AskFault → Type 0
+IsQuestionFault ask.NoMemory = ⊥
+IsQuestionFault fault = Unit {0}

@@ -23,8 +23,9 @@ use Rattle.sudoers_people.specs.declared.fault.PeopleFault.TheVariants as people
 use Rattle.sudoers_people.specs.declared.fault.WhoFault.{WhoFault}
 use Rattle.sudoers_list.specs.Listing.{IsListing}
 use Rattle.sudoers_list.specs.Reason.{IsReason}
-use Rattle.sudoers_run.specs.Device.{Rose, counted_by}
-use Rattle.sudoers_run.specs.Faults.{DeviceOr}
+use Rattle.sudoers_run.specs.Device.{Rose, TakesAtMost, counted_by}
+use Rattle.sudoers_run.specs.Program.{pull_limit}
+use Rattle.sudoers_run.specs.Faults.{DeviceOr, IsPeopleFault, IsPolicyFault, IsQuestionFault, IsWhoFault}
 use Rattle.sudoers_run.specs.declared.words.ListWords.{ListWords}
 use Rattle.sudoers_run.specs.declared.fault.LayerFault.{LayerFault}
 use Rattle.sudoers_run.specs.declared.fault.LayerFault.TheVariants as layer
@@ -150,10 +151,10 @@ TellsList w fault policy passwd group =
 
 -- the faults of files and words
 abbrev pub IsAskFault : LayerFault → Type 0
-IsAskFault (layer.Policy fault) = Unit {0}
-IsAskFault (layer.People fault) = Unit {0}
-IsAskFault (layer.Who fault) = Unit {0}
-IsAskFault (layer.Ask fault) = Unit {0}
+IsAskFault (layer.Policy fault) = IsPolicyFault fault
+IsAskFault (layer.People fault) = IsPeopleFault fault
+IsAskFault (layer.Who fault) = IsWhoFault fault
+IsAskFault (layer.Ask fault) = IsQuestionFault fault
 IsAskFault layer.NoMemory = Unit {0}
 IsAskFault (layer.Script fault) = ⊥
 IsAskFault (layer.Edit place fault) = ⊥
@@ -170,6 +171,14 @@ AreRead (Err tool.Read) = ⊥
 AreRead (Err tool.NoEnd) = ⊥
 AreRead (Err (tool.Layer layer.NoMemory)) = ⊥
 AreRead outcome = Unit {0}
+
+-- The reader failed, and had given no byte past the limit of a file.
+abbrev pub FailedWithin : ℕ → ℕ → Option (List ℕ) → Option (List ℕ) → Type 0
+FailedWithin failures failures-new old new = Rose failures failures-new × TakesAtMost old new text_limit
+
+-- The reader was given up, and had given no byte past the limit of a file.
+abbrev pub GivenUpWithin : ℕ → ℕ → Option (List ℕ) → Option (List ℕ) → Type 0
+GivenUpWithin offers offers-new old new = (counted_by pull_limit offers ≤ offers-new) × TakesAtMost old new text_limit
 
 -- The reader told its end, or gave a byte past the limit of a file: the counts of ends and of bytes show it.
 abbrev pub Stopped : ℕ → ℕ → ℕ → ℕ → Type 0

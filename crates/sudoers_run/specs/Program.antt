@@ -15,6 +15,7 @@ use Rattle.sudoers_run.specs.declared.fault.LayerFault.TheVariants as layer
 use Rattle.sudoers_run.specs.declared.fault.ToolFault.{ToolFault}
 use Rattle.sudoers_run.specs.declared.fault.ToolFault.TheVariants as tool
 use Rattle.sudoers_run.specs.Device.{TakesAtMost, TakesExactly}
+use Rattle.sudoers_run.specs.Faults.{IsPolicyFault, IsScriptFault, IsRefusal}
 use Rattle.sudoers_script.specs.Physical.{physical_lines}
 use Rattle.sudoers_edit.specs.Editing.{run_all, inv_run}
 use Rattle.sudoers_script.specs.Script.{edit_limit, spelling}
@@ -153,11 +154,32 @@ IsReadFault (tool.Layer fault) = fault ≡ layer.NoMemory
 IsReadFault tool.Write = ⊥
 IsReadFault tool.NoMark = ⊥
 
+-- the faults of the input of `edit`: of its script, of its policy, or of an edit
+abbrev pub IsInputFault : LayerFault → Type 0
+IsInputFault (layer.Script fault) = IsScriptFault fault
+IsInputFault (layer.Policy fault) = IsPolicyFault fault
+IsInputFault (layer.Edit place fault) = IsRefusal fault
+IsInputFault layer.NoMemory = Unit {0}
+IsInputFault (layer.Convert fault) = ⊥
+IsInputFault (layer.Filter fault) = ⊥
+IsInputFault (layer.People fault) = ⊥
+IsInputFault (layer.Who fault) = ⊥
+IsInputFault (layer.Ask fault) = ⊥
+
 -- the faults of an input that was read
 abbrev pub IsAnswerFault : ToolFault → Type 0
-IsAnswerFault (tool.Layer fault) = Unit {0}
+IsAnswerFault (tool.Layer fault) = IsInputFault fault
 IsAnswerFault tool.NoMark = Unit {0}
 IsAnswerFault tool.Read = ⊥
 IsAnswerFault tool.Write = ⊥
 IsAnswerFault tool.NoEnd = ⊥
 IsAnswerFault tool.InputTooLarge = ⊥
+
+-- the faults of `edit`
+abbrev pub IsEditFault : ToolFault → Type 0
+IsEditFault (tool.Layer fault) = IsInputFault fault
+IsEditFault tool.Read = Unit {0}
+IsEditFault tool.NoEnd = Unit {0}
+IsEditFault tool.InputTooLarge = Unit {0}
+IsEditFault tool.NoMark = Unit {0}
+IsEditFault tool.Write = Unit {0}

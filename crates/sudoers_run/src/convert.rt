@@ -8,7 +8,7 @@ ghost use Rattle.sudoers_run.specs.Show.{StopsShow, NeedsShowEnd};
 ghost use Rattle.std.specs.Borrow.{Bor};
 ghost use Rattle.std.specs.Option.{option_map};
 ghost use Rattle.sudoers_rewrite.specs.Changed.{changes_shown};
-ghost use Rattle.sudoers_run.specs.Convert.{convert_lines, convert_output, converted, filter_in, form_fault, rewritten_rules, TellsConvert, IsConvertFault, IsFilterFault, IsRewriteFault, IsRulesFault, IsWordsFault};
+ghost use Rattle.sudoers_run.specs.Convert.{convert_lines, convert_output, converted, filter_in, form_fault, rewritten_rules, TellsConvert, IsConvertFault, IsFilterFault, IsRewriteFault, IsRulesFault};
 
 use crate::device::{Sink, Source};
 use crate::fault::{LayerFault, ToolFault};
@@ -102,7 +102,7 @@ fn convert_policy(
     words: &ConvertWords<'_>,
 ) -> Result<Vec<u8>, LayerFault>
     ensures { MatchResult result (λ out. convert_lines words.now policy.now ≡ Ok out.items)
-        (λ fault. (fault ≡ LayerFault.NoMemory) ⊎ ((convert_lines words.now policy.now ≡ Err fault) × IsWordsFault words.now fault)) }
+        (λ fault. (fault ≡ LayerFault.NoMemory) ⊎ ((convert_lines words.now policy.now ≡ Err fault) × IsRulesFault words.now fault)) }
 {
     let filter = read_words(alloc, words.filter)?;
     let changes = Changes {

@@ -11,7 +11,7 @@ ghost use Rattle.sudoers_people.specs.Person.{who_told};
 ghost use Rattle.sudoers_people.specs.Asked.{request_told};
 ghost use Rattle.sudoers_run.specs.Device.{Rose, Writes, AppendsFront, TakesAtMost, counted_by};
 ghost use Rattle.sudoers_run.specs.Program.{pull_limit};
-ghost use Rattle.sudoers_run.specs.List.{AreRead, AreWhole, IfKnown, IsAnswered, IsAnswerText, IsAsked, IsListOutcome, IsListFault, IsAskFault, Outcome, Stopped, TellsList, TellsWho, allowed_status, allowed_text, text_shown};
+ghost use Rattle.sudoers_run.specs.List.{AreRead, AreWhole, FailedWithin, GivenUpWithin, IfKnown, IsAnswered, IsAnswerText, IsAsked, IsListOutcome, IsListFault, IsAskFault, Outcome, Stopped, TellsList, TellsWho, allowed_status, allowed_text, text_shown};
 
 use crate::device::{Sink, Source};
 use crate::fault::{LayerFault, ToolFault};
@@ -53,18 +53,23 @@ pub fn run_list<P: Source, U: Source, G: Source, W: Sink>(
     // After `Write`, what was written is a beginning of the output.
     ensures front { result ≡ Err ToolFault.Write → IfKnown (P.remaining policy.old) (U.remaining passwd.old) (G.remaining group.old) (λ p u g.
         (text : List ℕ) × ((status : ℕ) × IsListOutcome words.now p u g (Ok (text, status))) × AppendsFront (W.contents writer.old) (W.contents writer.new) text) }
-    // `Read` means that a reader failed, and `Write` that the writer failed, as their counts show.
-    ensures told { result ≡ Err ToolFault.Read → Rose (P.Source.failures policy.old) (P.Source.failures policy.new)
-        ⊎ (Rose (U.Source.failures passwd.old) (U.Source.failures passwd.new) ⊎ Rose (G.Source.failures group.old) (G.Source.failures group.new)) }
+    // `Read` means that a reader failed before it gave a byte past the limit, and `Write` that the writer failed, as their counts show.
+    ensures told { result ≡ Err ToolFault.Read
+        → FailedWithin (P.Source.failures policy.old) (P.Source.failures policy.new) (P.remaining policy.old) (P.remaining policy.new)
+        ⊎ (FailedWithin (U.Source.failures passwd.old) (U.Source.failures passwd.new) (U.remaining passwd.old) (U.remaining passwd.new)
+        ⊎ FailedWithin (G.Source.failures group.old) (G.Source.failures group.new) (G.remaining group.old) (G.remaining group.new)) }
     ensures well { result ≢ Err ToolFault.Read → (P.Source.failures policy.new ≡ P.Source.failures policy.old)
         × (U.Source.failures passwd.new ≡ U.Source.failures passwd.old) × (G.Source.failures group.new ≡ G.Source.failures group.old) }
     ensures writes { Writes result (W.Sink.failures writer.old) (W.Sink.failures writer.new)
         (W.contents writer.old) (W.contents writer.new) }
-    // Each reader is asked at most `pull_limit` times. `NoEnd` comes only after so many calls of one with room for a byte.
+    // Each reader is asked at most `pull_limit` times. `NoEnd` comes only after so many calls of one with room for a byte, which
+    // gave no byte past the limit.
     ensures asked { (P.Source.pulls policy.new ≤ P.Source.pulls policy.old + pull_limit)
         × (U.Source.pulls passwd.new ≤ U.Source.pulls passwd.old + pull_limit) × (G.Source.pulls group.new ≤ G.Source.pulls group.old + pull_limit) }
-    ensures no_end { result ≡ Err ToolFault.NoEnd → (counted_by pull_limit (P.offers policy.old) ≤ P.offers policy.new)
-        ⊎ ((counted_by pull_limit (U.offers passwd.old) ≤ U.offers passwd.new) ⊎ (counted_by pull_limit (G.offers group.old) ≤ G.offers group.new)) }
+    ensures no_end { result ≡ Err ToolFault.NoEnd
+        → GivenUpWithin (P.offers policy.old) (P.offers policy.new) (P.remaining policy.old) (P.remaining policy.new)
+        ⊎ (GivenUpWithin (U.offers passwd.old) (U.offers passwd.new) (U.remaining passwd.old) (U.remaining passwd.new)
+        ⊎ GivenUpWithin (G.offers group.old) (G.offers group.new) (G.remaining group.old) (G.remaining group.new)) }
     // Of each file at most one byte past the limit is taken.
     ensures most { TakesAtMost (P.remaining policy.old) (P.remaining policy.new) (text_limit + 1)
         × TakesAtMost (U.remaining passwd.old) (U.remaining passwd.new) (text_limit + 1)

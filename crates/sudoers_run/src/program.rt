@@ -5,7 +5,7 @@ ghost use Rattle.std.specs.Io.KnownBytes.{Keeps, Appends};
 ghost use Rattle.sudoers_tree.specs.Policy.{texts};
 ghost use Rattle.sudoers_edit.specs.Named.{AreNamed};
 ghost use Rattle.sudoers_run.specs.Device.{Rose, Reads, Writes, AppendsFront, TakesAtMost, TakesExactly, counted_up, counted_by};
-ghost use Rattle.sudoers_run.specs.Program.{is_mark as is_mark_text, split_text, edit_output as output_of_edit, edited_output, output_of, output_text, input_limit, TellsLayer, TellsTool, NeedsEnd, StopsReading, IsFront, IsFrontFault, IsReadFault, IsAnswerFault, pull_limit};
+ghost use Rattle.sudoers_run.specs.Program.{is_mark as is_mark_text, split_text, edit_output as output_of_edit, edited_output, output_of, output_text, input_limit, TellsLayer, TellsTool, NeedsEnd, StopsReading, IsFront, IsFrontFault, IsReadFault, IsAnswerFault, IsEditFault, IsInputFault, pull_limit};
 
 use crate::device::{DeviceFailed, Pulled, Sink, Source};
 use crate::fault::{LayerFault, ToolFault};
@@ -42,6 +42,8 @@ pub fn run_edit<R: Source, W: Sink>(
         IsOkAnd (output_of input) (Appends (W.contents writer.old) (W.contents writer.new)))) }
     // A fault of the input is the stated one.
     ensures fault { IfErr result (λ fault. IfSome (R.remaining reader.old) (TellsTool fault)) }
+    // There are no other faults.
+    ensures named { IfErr result IsEditFault }
     // After `Write`, what was written is a beginning of the output.
     ensures front { result ≡ Err ToolFault.Write → IfSome (R.remaining reader.old) (λ input.
         IsOkAnd (output_of input) (AppendsFront (W.contents writer.old) (W.contents writer.new))) }
@@ -187,8 +189,9 @@ fn is_mark(line: &[u8]) -> bool
 
 /// The inverse script, the mark and the edited policy.
 fn edit_output(alloc: Global, script: &[u8], policy: &[u8]) -> Result<Vec<u8>, LayerFault>
-    ensures { MatchResult result (λ out. output_of_edit script.now policy.now ≡ Ok out.items)
+    ensures output { MatchResult result (λ out. output_of_edit script.now policy.now ≡ Ok out.items)
         (λ fault. TellsLayer fault (output_of_edit script.now policy.now)) }
+    ensures named { IfErr result IsInputFault }
 {
     named_are_written();
     let edits = read_script(alloc, script)?;
@@ -199,8 +202,9 @@ fn edit_output(alloc: Global, script: &[u8], policy: &[u8]) -> Result<Vec<u8>, L
 /// What comes of edits of a policy.
 fn edited(alloc: Global, edits: &[Edit], policy: Policy) -> Result<Vec<u8>, LayerFault>
     requires { AreNamed edits.now }
-    ensures { MatchResult result (λ out. edited_output edits.now (texts policy) ≡ Ok out.items)
+    ensures output { MatchResult result (λ out. edited_output edits.now (texts policy) ≡ Ok out.items)
         (λ fault. TellsLayer fault (edited_output edits.now (texts policy))) }
+    ensures named { IfErr result IsInputFault }
 {
     let mut editor = Editor::new(policy);
     editor.apply_all(edits)?;
@@ -212,8 +216,9 @@ fn edited(alloc: Global, edits: &[Edit], policy: Policy) -> Result<Vec<u8>, Laye
 /// A script, the mark and a policy.
 fn output(alloc: Global, inverse: &Edits, policy: &Policy) -> Result<Vec<u8>, LayerFault>
     requires { AreNamed inverse.now }
-    ensures { MatchResult result (λ out. output_text inverse.now (texts policy.now) ≡ Ok out.items)
+    ensures output { MatchResult result (λ out. output_text inverse.now (texts policy.now) ≡ Ok out.items)
         (λ fault. TellsLayer fault (output_text inverse.now (texts policy.now))) }
+    ensures named { IfErr result IsInputFault }
 {
     named_are_written();
     let mut out = write_script(alloc, inverse.as_slice())?;

@@ -1,1 +1,3 @@
+mod EditLeadsBack
 mod ListOutcome
+mod MarkLemmas

@@ -1,1 +1,2 @@
 pub mod Converted
+pub mod WayBack

@@ -6,5 +6,6 @@ mod PhysicalLemmas
 mod ReadingLemmas
 mod ScriptLemmas
 mod SpellingLemmas
+mod WholeLines
 mod WordLemmas
 mod WritingLemmas

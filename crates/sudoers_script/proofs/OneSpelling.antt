@@ -27,11 +27,11 @@ same_lines k l a b ks ls e f h =
 -- PARTS OF A TEXT
 
 -- A line; or an empty one.
-abbrev IsPart : List ℕ → Type 0
+abbrev pub IsPart : List ℕ → Type 0
 IsPart k = (ends_in_lf k ≡ true → IsLine k) × (ends_in_lf k ≡ false → list_any (λ y. y == 10) k ≡ false)
 
 -- Each is a line, or empty.
-abbrev AreParts : List (List ℕ) → Type 0
+abbrev pub AreParts : List (List ℕ) → Type 0
 AreParts [] = Unit {0}
 AreParts (k ∷ ks) = IsPart k × AreParts ks
 
@@ -41,12 +41,12 @@ parts_lines [] each = tt
 parts_lines (k ∷ ks) each = ((λ _. each.0, λ h. unended_lacks k each.0 h), parts_lines ks each.1)
 
 -- the lines of a text, or one empty line
-abbrev parts : List ℕ → List (List ℕ)
+abbrev pub parts : List ℕ → List (List ℕ)
 parts [] = [] ∷ []
 parts (b ∷ bs) = physical_lines (b ∷ bs)
 
 -- what the parts of a text are
-parts-each : (text : List ℕ) → AreParts (parts text) × (payload text ≡ flat_map payload_line (parts text)) × (join (parts text) ≡ text)
+pub parts-each : (text : List ℕ) → AreParts (parts text) × (payload text ≡ flat_map payload_line (parts text)) × (join (parts text) ≡ text)
 parts-each [] = (((λ h. absurd (false≢true h), λ _. refl), tt), refl, refl)
 parts-each (b ∷ bs) = let p = lines-each (b ∷ bs) in (parts_lines (physical_lines (b ∷ bs)) p.0, refl, p.2)
 
@@ -56,7 +56,7 @@ behind_bar [] is h = absurd is
 behind_bar (b ∷ bs) is h = ((refl, is), h)
 
 -- a line of a payload is a line that ends in LF
-part_line : (k : List ℕ) → IsPart k → IsLine (payload_line k) × (ends_in_lf (payload_line k) ≡ true)
+pub part_line : (k : List ℕ) → IsPart k → IsLine (payload_line k) × (ends_in_lf (payload_line k) ≡ true)
 part_line k part =
     elim (cases_Bool (ends_in_lf k)) [
       | inl t ↦ subst (λ (z : List ℕ). IsLine z × (ends_in_lf z ≡ true)) (let e : 124 ∷ k ≡ payload_line k = sym (rw t refl) in e) (behind_bar k (part.0 t) t)

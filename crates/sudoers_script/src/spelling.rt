@@ -1,5 +1,6 @@
 //! The spelling of a list of edits, and the laws between spelling and reading.
-ghost use Rattle.std.specs.Prelude.{◌≡◌, ◌⊎◌, ◌+◌, ◌≤◌, ◌<◌, ◌++◌, ◌∷◌, [], ℕ, List, true, length, take, MatchResult, OnOk, Ok, Err};
+ghost use Rattle.std.specs.Prelude.{◌≡◌, ◌⊎◌, ◌+◌, ◌≤◌, ◌<◌, ◌++◌, ◌∷◌, [], ◌≢◌, ℕ, List, true, length, take, slice_index, MatchResult, OnOk, Ok, Err};
+ghost use Rattle.std.specs.List.{AllByRecursion};
 ghost use Rattle.sudoers_text.specs.Ended.{ends_in_lf as has_lf};
 ghost use Rattle.sudoers_text.specs.Line.{join};
 ghost use Rattle.sudoers_script.specs.Physical.{physical_lines};
@@ -253,6 +254,14 @@ pub fn written_is_read()
 pub fn one_spelling()
     ensures { (edits others : List AnEdit) → AreSpellable edits → AreSpellable others → spelling edits
         ≡ spelling others → edits ≡ others }
+{}
+
+/// The lines of a spelling stand before those of what follows it, and none of them begins with `%`.
+pub fn spelling_is_whole_lines()
+    ensures before { (edits : List AnEdit) (rest : List ℕ) → AreSpellable edits
+        → physical_lines (spelling edits ++ rest) ≡ physical_lines (spelling edits) ++ physical_lines rest }
+    ensures plain { (edits : List AnEdit) → AreSpellable edits
+        → AllByRecursion (λ line. slice_index line 0 ≢ 37) (physical_lines (spelling edits)) }
 {}
 
 /// A line that is no command and no text, and a command with a bad number, is the first line with which the lines of

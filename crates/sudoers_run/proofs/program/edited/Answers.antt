@@ -6,8 +6,8 @@ use Rattle.sudoers_edit.specs.Editing.{run_all, inv_run, edits_of, first_of, fir
 use Rattle.sudoers_run.specs.Program.{edited_output, output_text, by_edit, ◌>>=◌, TellsLayer}
 use Rattle.sudoers_run.proofs.program.edited.Goals as goal
 
-pub returns : goal.returns
-returns c =
+pub returns-clause-output : goal.returns-clause-output
+returns-clause-output c =
     let edits : List Edit = c.args.edits.now in
     let lines : List (List ℕ) = texts c.args.policy in
     let new : List (List ℕ) = c.apply_all.new.self.lines in
@@ -21,4 +21,4 @@ returns c =
     let same : output_text c.in_ok-inverse.inverse (texts c.policy.result.now) ≡ edited_output edits lines =
     ap (λ es. output_text es (texts c.policy.result.now)) inverse ∙ ap (output_text (inv_run edits lines)) c.policy.ensures.lines
     ∙ sym (ap (λ r. by_edit r >>= (λ after. output_text (inv_run edits lines) after)) run) in
-    subst (λ (z : Result (List ℕ) LayerFault). MatchResult c.output.result (λ out. z ≡ Ok out.items) (λ fault. TellsLayer fault z)) same c.output.ensures
+    subst (λ (z : Result (List ℕ) LayerFault). MatchResult c.output.result (λ out. z ≡ Ok out.items) (λ fault. TellsLayer fault z)) same c.output.ensures.output

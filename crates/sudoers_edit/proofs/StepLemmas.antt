@@ -1,0 +1,195 @@
+-- An edit that is accepted leads to a policy, and its inverse leads back: edits of whole lines, and of the end of the last.
+use Rattle.std.proofs.Common.{◌≡◌, ◌∙◌, ℕ, ◌-◌, ◌<◌, ◌≤◌, Bool, true, false, ◌&&◌, List, [], ◌∷◌, ◌++◌, length, take, insert, remove, slice_index_or, Option, Some, None, Result, Ok, Err, inl, inr, refl, sym, ap, if◌then◌else◌}
+use Rattle.std.proofs.lemmas.Bool.{and_parts, ltb-true, ltb-false}
+use Rattle.std.proofs.lemmas.Bool.Decides.{leb_tells}
+use Rattle.std.specs.Prelude.{slice_get, nat_lt}
+use Rattle.sudoers_text.specs.Line.{join}
+use Rattle.sudoers_text.specs.Ended.{ends_in_lf, has_unended_inside}
+use Rattle.sudoers_text.specs.Fault.{line_limit}
+use Rattle.sudoers_text.specs.Cut.{cut_of}
+use Rattle.sudoers_text.specs.declared.fault.TextFault.{TextFault}
+use Rattle.sudoers_tree.specs.Line.{Line}
+use Rattle.sudoers_tree.specs.Policy.{texts, IsPolicy}
+use Rattle.sudoers_tree.specs.Reading.{read_of}
+use Rattle.sudoers_script.specs.Script.{IsNumbered, AreNumbered}
+use Rattle.sudoers_script.specs.declared.edit.Edit.{Edit}
+use Rattle.sudoers_script.specs.declared.edit.Edit.TheVariants.{Insert, Delete, Move, EndLine, OpenEnd}
+use Rattle.sudoers_edit.specs.declared.fault.EditFault.{EditFault}
+use Rattle.sudoers_edit.specs.declared.fault.EditFault.TheVariants.{OpenLine, NoLine, NotOneLine, EndAsIs, TooLarge}
+use Rattle.sudoers_edit.specs.OneLine.{is_one_line, gives_one, IsAlone, IsSound}
+use Rattle.sudoers_edit.specs.LineEdits.{moved}
+use Rattle.sudoers_edit.specs.LastLine.{StaysCut}
+use Rattle.sudoers_edit.specs.Landing.{lines_or_refusal, policy_or_refusal, where_policy}
+use Rattle.sudoers_edit.specs.Editing.{Lines, step, inv, run}
+use Rattle.sudoers_edit.specs.Leading.{Leads, IsKnown}
+use Rattle.sudoers_edit.proofs.EditLemmas.{ReadsLaw, insert_leads, delete_leads, move_leads}
+use Rattle.sudoers_edit.proofs.LastLemmas.{no_end, end_as_is, end_too_long, open_short, open_lacks, end_leads, open_leads}
+use Rattle.sudoers_edit.proofs.PolicyLemmas.{StandAloneLaw, CutLaw, sound_of, alone_of, read_so}
+use Rattle.sudoers_edit.proofs.ReplaceLemmas.{AloneLaw}
+use Rattle.sudoers_edit.proofs.ReplacedLemmas.{SaidLaw}
+use Rattle.sudoers_edit.proofs.WithinLemmas.{AscendLaw, known_ascend}
+
+-- The laws of the lines of policies.
+pub record Laws : Type 0 where
+  pub alone : StandAloneLaw
+  pub cuts : CutLaw
+  pub reads : ReadsLaw
+  pub whole : AloneLaw
+  pub says : SaidLaw
+  pub ascend : AscendLaw
+  pub size : (line : List ℕ) → IsAlone line → (0 < length line) × (length line ≤ line_limit)
+  pub stays : StaysCut
+  pub policy : (policy : List Line) → read_of (join (texts policy)) ≡ Ok policy → IsPolicy policy
+
+pub known : Laws → (policy : List Line) → read_of (join (texts policy)) ≡ Ok policy → IsKnown policy
+known l policy read = record {
+  sound = sound_of l.alone l.cuts policy read;
+  read = read;
+  says = l.says;
+  ascend = known_ascend policy l.ascend (l.policy policy read);
+  size = l.size;
+}
+
+-- The edit leads from the lines to those of a policy, and its inverse leads back.
+pub record Steps (edit : Edit) (ls new : Lines) : Type 0 where
+  pub after : List Line
+  pub lines_are : texts after ≡ new
+  pub read : read_of (join (texts after)) ≡ Ok after
+  pub back : run (inv edit ls) new ≡ Some ls
+  pub numbered : IsNumbered edit → AreNumbered (inv edit ls)
+
+-- Where the edit of a policy is accepted, it leads so.
+abbrev pub Takes : Edit → Type 0
+Takes edit = (policy : List Line) (new : Lines) → read_of (join (texts policy)) ≡ Ok policy → step edit (texts policy) ≡ Ok new → Steps edit (texts policy) new
+
+-- OUTCOMES
+
+pub clash : {A : Type 0} (f : EditFault) (new : Lines) (r : Result Lines EditFault) → r ≡ Err f → r ≡ Ok new → A
+clash f new (Ok m) a b = absurd (cc)
+clash f new (Err g) a b = absurd (cc)
+
+-- These lines were accepted.
+pub record Accepted (ls new : Lines) : Type 0 where
+  pub policy : List Line
+  pub told : policy_or_refusal (join ls) ≡ Ok policy
+  pub ended : has_unended_inside ls ≡ false
+  pub same : ls ≡ new
+
+accepted_by : (b : Bool) (r : Result (List Line) EditFault) (ls new : Lines) → (if b then Err OpenLine else where_policy ls r) ≡ Ok new
+    → (policy : List Line) × (r ≡ Ok policy) × (b ≡ false) × (ls ≡ new)
+accepted_by true r ls new e = absurd (cc)
+accepted_by false (Ok policy) ls new e = (policy, refl, refl, cc)
+accepted_by false (Err f) ls new e = absurd (cc)
+
+pub accepted : (ls new : Lines) → lines_or_refusal ls ≡ Ok new → Accepted ls new
+accepted ls new e =
+    let p = accepted_by (has_unended_inside ls) (policy_or_refusal (join ls)) ls new e in
+    record { policy = p.0; told = p.1; ended = p.2; same = p.3 }
+
+-- an edit that leads to lines and is accepted
+pub leads_steps : Laws → (edit : Edit) (inverse : List Edit) (ls new : Lines) (text : List ℕ) → Leads edit inverse ls text → (IsNumbered edit → AreNumbered (inv edit ls))
+    → step edit ls ≡ Ok new → Steps edit ls new
+leads_steps l edit inverse ls new text leads numbered is =
+    let a = accepted leads.new new (sym leads.forth ∙ is) in
+    let same : texts a.policy ≡ leads.new = l.reads leads.new a.policy (leads.each a.policy a.told) leads.ended a.told in
+    record {
+      after = a.policy;
+      lines_are = same ∙ a.same;
+      read = ap (λ (z : Lines). read_of (join z)) same ∙ read_so (join leads.new) a.policy a.told;
+      back = ap (λ (z : Lines). run (inv edit ls) z) (sym a.same) ∙ ap (λ (es : List Edit). run es leads.new) (sym leads.inverse_is) ∙ leads.back a.policy a.told;
+      numbered = numbered;
+    }
+
+-- WHOLE LINES
+
+insert_parts : (b c : Bool) (r : Result Lines EditFault) (new : Lines) → (if b then Err NoLine else (if c then r else Err NotOneLine)) ≡ Ok new
+    → (b ≡ false) × (c ≡ true) × (r ≡ Ok new)
+insert_parts true c r new e = absurd (cc)
+insert_parts false true r new e = (refl, refl, e)
+insert_parts false false r new e = absurd (cc)
+
+if_parts : (b : Bool) (f : EditFault) (r : Result Lines EditFault) (new : Lines) → (if b then r else Err f) ≡ Ok new → (b ≡ true) × (r ≡ Ok new)
+if_parts true f r new e = (refl, e)
+if_parts false f r new e = absurd (cc)
+
+-- a text that is one line is one
+one_alone : Laws → (t : List ℕ) → is_one_line t ≡ true → IsAlone t
+one_alone l t one = by (cut_of t) refl one
+  where
+    by : (o : Result (List (List ℕ)) TextFault) → cut_of t ≡ o → gives_one o ≡ true → IsAlone t
+    by (Ok []) is h = absurd (cc)
+    by (Ok (line ∷ [])) is h = alone_of l.alone t (line ∷ []) is refl
+    by (Ok (line ∷ next ∷ lines)) is h = absurd (cc)
+    by (Err fault) is h = absurd (cc)
+
+pub insert_takes : Laws → (at : ℕ) (t : List ℕ) → Takes (Insert at t)
+insert_takes l at t policy new read is =
+    let ls : Lines = texts policy in
+    let p = insert_parts (nat_lt (length ls) at) (is_one_line t) (lines_or_refusal (insert ls at t)) new is in
+    let a = accepted (insert ls at t) new p.2 in
+    leads_steps l (Insert at t) (Delete at ∷ []) ls new (join (insert ls at t))
+    (insert_leads ls at t (join (insert ls at t)) (sound_of l.alone l.cuts policy read) (ltb-false (length ls) at p.0) p.1 (one_alone l t p.1) a.ended refl)
+    (λ n. (n, tt)) is
+
+pub delete_takes : Laws → (at : ℕ) → Takes (Delete at)
+delete_takes l at policy new read is =
+    let ls : Lines = texts policy in
+    let p = if_parts (nat_lt at (length ls)) NoLine (lines_or_refusal (remove ls at)) new is in
+    leads_steps l (Delete at) (Insert at (slice_index_or ls at []) ∷ []) ls new (join (remove ls at))
+    (delete_leads ls at (join (remove ls at)) (sound_of l.alone l.cuts policy read) (ltb-true at (length ls) p.0) refl)
+    (λ n. (n, tt)) is
+
+pub move_takes : Laws → (from to : ℕ) → Takes (Move from to)
+move_takes l from to policy new read is =
+    let ls : Lines = texts policy in
+    let p = if_parts (nat_lt from (length ls) && nat_lt to (length ls)) NoLine (lines_or_refusal (moved from to ls)) new is in
+    let both = and_parts (nat_lt from (length ls)) (nat_lt to (length ls)) p.0 in
+    let a = accepted (moved from to ls) new p.1 in
+    leads_steps l (Move from to) (Move to from ∷ []) ls new (join (moved from to ls))
+    (move_leads ls from to (join (moved from to ls)) (sound_of l.alone l.cuts policy read) (ltb-true from (length ls) both.0) (ltb-true to (length ls) both.1) a.ended refl)
+    (λ n. ((n.1, n.0), tt)) is
+
+-- THE END OF THE LAST LINE
+
+pub end_takes : Laws → Takes EndLine
+end_takes l policy new read is = by (slice_get (texts policy) (length (texts policy) - 1)) refl
+  where
+    sound : IsSound (texts policy)
+    sound = sound_of l.alone l.cuts policy read
+
+    lacks : (line : List ℕ) → slice_get (texts policy) (length (texts policy) - 1) ≡ Some line → ends_in_lf line ≡ false → Steps EndLine (texts policy) new
+    lacks line here h =
+        elim (leb_tells line_limit (length line)) [
+          | inl more ↦ clash TooLarge new (step EndLine (texts policy)) (end_too_long (texts policy) line here h more.1) is
+          | inr less ↦
+              leads_steps l EndLine (OpenEnd ∷ []) (texts policy) new (join (texts policy) ++ 10 ∷ [])
+              (end_leads l.stays (texts policy) line (join (texts policy) ++ 10 ∷ []) sound here h less.1 refl) (λ n. (tt, tt)) is
+        ]
+
+    by_end : (line : List ℕ) → slice_get (texts policy) (length (texts policy) - 1) ≡ Some line → (b : Bool) → ends_in_lf line ≡ b → Steps EndLine (texts policy) new
+    by_end line here true h = clash EndAsIs new (step EndLine (texts policy)) (end_as_is (texts policy) line here h) is
+    by_end line here false h = lacks line here h
+
+    by : (o : Option (List ℕ)) → slice_get (texts policy) (length (texts policy) - 1) ≡ o → Steps EndLine (texts policy) new
+    by None none = clash EndAsIs new (step EndLine (texts policy)) (no_end (texts policy) none).0 is
+    by (Some line) here = by_end line here (ends_in_lf line) refl
+
+pub open_takes : Laws → Takes OpenEnd
+open_takes l policy new read is = by (slice_get (texts policy) (length (texts policy) - 1)) refl
+  where
+    sound : IsSound (texts policy)
+    sound = sound_of l.alone l.cuts policy read
+
+    long : (line : List ℕ) → slice_get (texts policy) (length (texts policy) - 1) ≡ Some line → 2 ≤ length line → (b : Bool) → ends_in_lf line ≡ b → Steps OpenEnd (texts policy) new
+    long line here size true h =
+        leads_steps l OpenEnd (EndLine ∷ []) (texts policy) new (take (length (join (texts policy)) - 1) (join (texts policy)))
+        (open_leads l.stays (texts policy) line (take (length (join (texts policy)) - 1) (join (texts policy))) sound here h size refl) (λ n. (tt, tt)) is
+    long line here size false h = clash EndAsIs new (step OpenEnd (texts policy)) (open_lacks (texts policy) line here h) is
+
+    by : (o : Option (List ℕ)) → slice_get (texts policy) (length (texts policy) - 1) ≡ o → Steps OpenEnd (texts policy) new
+    by None none = clash EndAsIs new (step OpenEnd (texts policy)) (no_end (texts policy) none).1 is
+    by (Some line) here =
+        elim (leb_tells 2 (length line)) [
+          | inl more ↦ long line here more.1 (ends_in_lf line) refl
+          | inr less ↦ clash EndAsIs new (step OpenEnd (texts policy)) (open_short (texts policy) line here less.1) is
+        ]

@@ -1,0 +1,28 @@
+//! What `list` writes.
+
+ghost use Rattle.std.specs.Io.KnownBytes.{Appends};
+ghost use Rattle.std.specs.Prelude.{ℕ, List, Ok, IfOk, IfErr};
+ghost use Rattle.sudoers_run.specs.List.{IfKnown, IsListOutcome, TellsList};
+
+use std::alloc::Global;
+use sudoers_run::{ListWords, Sink, Source, ToolFault, run_list};
+
+/// Reads a policy, passwd and group, and writes what a user may run, or whether he may run a command.
+///
+/// # Errors
+///
+/// Those of `run_list`.
+pub fn list_rules<P: Source, U: Source, G: Source, W: Sink>(
+    alloc: Global,
+    policy: &mut P,
+    passwd: &mut U,
+    group: &mut G,
+    words: &ListWords<'_>,
+    writer: &mut W,
+) -> Result<u8, ToolFault>
+    ensures ok { IfOk result (λ status. IfKnown (P.remaining policy.old) (U.remaining passwd.old) (G.remaining group.old) (λ p u g.
+        (text : List ℕ) × IsListOutcome words.now p u g (Ok (text, status)) × Appends (W.contents writer.old) (W.contents writer.new) text)) }
+    ensures fault { IfErr result (λ fault. IfKnown (P.remaining policy.old) (U.remaining passwd.old) (G.remaining group.old) (TellsList words.now fault)) }
+{
+    run_list(alloc, policy, passwd, group, words, writer)
+}

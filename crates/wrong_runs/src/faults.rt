@@ -1,0 +1,18 @@
+//! The text of a fault.
+
+ghost use Rattle.std.specs.Prelude.{◌≡◌, IfOk};
+ghost use Rattle.sudoers_run.specs.FaultText.{text_of_tool};
+
+use std::alloc::{AllocError, Global};
+use sudoers_run::{ToolFault, fault_text};
+
+/// Returns the text of `fault`. The policy has the name `file` in it.
+///
+/// # Errors
+///
+/// Memory ran out.
+pub fn text_of_fault(alloc: Global, fault: &ToolFault, file: &[u8]) -> Result<Vec<u8>, AllocError>
+    ensures { IfOk result (λ text. text.items ≡ text_of_tool fault.now file.now) }
+{
+    fault_text(alloc, fault, file)
+}

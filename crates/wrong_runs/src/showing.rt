@@ -1,0 +1,27 @@
+//! What `show` writes.
+
+ghost use Rattle.std.specs.Io.KnownBytes.{Appends};
+ghost use Rattle.std.specs.Prelude.{◌≡◌, IfOk, IfSome, IsOkAnd};
+ghost use Rattle.sudoers_run.specs.Device.{Writes};
+ghost use Rattle.sudoers_run.specs.Show.{show_output};
+
+use std::alloc::Global;
+use sudoers_run::{Sink, Source, ToolFault, run_show};
+
+/// Reads a policy file, and writes its lines with their numbers and kinds. Before an error it writes nothing.
+///
+/// # Errors
+///
+/// Those of `run_show`.
+pub fn show_policy<R: Source, W: Sink>(
+    alloc: Global,
+    reader: &mut R,
+    writer: &mut W,
+) -> Result<u8, ToolFault>
+    ensures ok { IfOk result (λ status. (status ≡ 0) × IfSome (R.remaining reader.old) (λ input.
+        IsOkAnd (show_output input) (Appends (W.contents writer.old) (W.contents writer.new)))) }
+    ensures writes { Writes result (W.Sink.failures writer.old) (W.Sink.failures writer.new)
+        (W.contents writer.old) (W.contents writer.new) }
+{
+    run_show(alloc, reader, writer)
+}
