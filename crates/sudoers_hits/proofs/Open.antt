@@ -1,10 +1,9 @@
 -- Patterns of which no set ends behind a place.
-use Rattle.std.proofs.Common.{◌≡◌, ◌≢◌, ℕ, zero, suc, ◌+◌, ◌-◌, ◌<◌, ◌≤◌, Bool, true, false, List, [], ◌∷◌, length, drop, take, get_or, refl, sym, ap, subst, ◌∙◌, Option, Some, None, arith}
+use Rattle.std.proofs.Common.{◌≡◌, ◌≢◌, ℕ, zero, suc, ◌+◌, ◌-◌, ◌<◌, ◌≤◌, Bool, true, false, List, [], ◌∷◌, length, drop, take, get_or, refl, sym, ap, subst, ◌∙◌, None, arith}
 use Rattle.std.specs.Prelude.{◌==◌, if◌then◌else◌}
 use Rattle.std.proofs.lemmas.Bool.{ne_eqb}
 use Rattle.std.proofs.lemmas.Bool.Decides.{nat_tests}
 use Rattle.std.proofs.lemmas.List.{length-drop, get_or-drop, take_rest}
-use Rattle.sudoers_hits.specs.declared.set.SetItem.{SetItem}
 use Rattle.sudoers_hits.specs.Class.{is_upper}
 use Rattle.sudoers_hits.specs.Folded.{folded, read}
 use Rattle.sudoers_hits.specs.Sets.{set_item, one_longer, with_item, set_from, set_at}

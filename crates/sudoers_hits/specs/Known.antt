@@ -1,5 +1,5 @@
 -- A device of the proof, which no public contract cites: what is known of the sets of a pattern.
-use Rattle.std.specs.Prelude.{◌≡◌, ◌≢◌, ◌<◌, ◌≤◌, ◌+◌, ℕ, Bool, List, length, drop, get_or, Option, Some, None}
+use Rattle.std.specs.Prelude.{◌≡◌, ◌≢◌, ◌<◌, ◌≤◌, ◌+◌, ℕ, Bool, List, length, drop, get_or, Some, None}
 use Rattle.sudoers_hits.specs.declared.wildcards.GlobMode.{GlobMode}
 use Rattle.sudoers_hits.specs.declared.wildcards.Run.{Run}
 use Rattle.sudoers_hits.specs.declared.wildcards.Run.TheVariants as run

@@ -1,4 +1,4 @@
-use Rattle.std.proofs.Common.{◌≡◌, ◌==◌, ℕ, ◌+◌, ◌<◌, ◌≤◌, Bool, true, List, ◌∷◌, length, drop, take, get_or, sym, ap, subst, ◌∙◌, ◌-◌, add-zero, arith}
+use Rattle.std.proofs.Common.{◌≡◌, ◌==◌, ℕ, ◌+◌, ◌<◌, ◌≤◌, Bool, List, length, drop, take, get_or, sym, ap, subst, ◌∙◌, ◌-◌, add-zero, arith}
 use Rattle.std.proofs.lemmas.List.{drop_more, length-drop, get_or-drop, take_rest}
 use Rattle.sudoers_hits.specs.declared.wildcards.GlobMode.{GlobMode}
 use Rattle.sudoers_hits.specs.declared.front.Front.{Front}

@@ -6,7 +6,6 @@ use Rattle.sudoers_reader.specs.Tables.{member_in}
 use Rattle.sudoers_hits.specs.Hits.{is_same_name, user_hits}
 use Rattle.sudoers_match.specs.Allows.{Permits}
 use Rattle.sudoers_match.specs.Question.{RunasPermits}
-use Rattle.sudoers_match.specs.Runas.{is_among}
 use Rattle.sudoers_match.proofs.Runases.{default_permits, target_with_group, if_ok, not_empty}
 use Rattle.sudoers_match.proofs.question.Question.allows_runas.Goals as goal
 

@@ -1,0 +1,116 @@
+"""Policies that cost much if the program goes over something again and again, each with the words of a command, and an ordinary policy.
+
+Each is a legal policy within the limits, as people never write it.
+"""
+
+import os
+from dataclasses import dataclass
+
+import people
+import policies
+
+LINE = 65_536
+POLICY = 1_048_576
+KIND_LIMIT = 4_096
+KINDS = ("User_Alias", "Host_Alias", "Runas_Alias", "Cmnd_Alias")
+ASKED = ("--host", "h", "--moment", "2026013112Z")
+PASSWD = b"root:x:0:0::/:/bin/sh\nu:x:1000:1000::/:/bin/sh\nt:x:1001:1001::/:/bin/sh\n"
+
+
+@dataclass(frozen=True)
+class Hostile:
+    """A command on a hostile policy, and the same on an ordinary one."""
+
+    name: str
+    words: list  # of the command, the policy's file among them
+    status: int
+    size: int
+    ordinary: list
+
+
+def full(line, count):
+    """The line so many times, or as often as a policy has room for it."""
+    return line * min(count, POLICY // len(line))
+
+
+def filled(begin, piece, end):
+    """A line of at most LINE bytes: its middle is the piece, again and again."""
+    return begin + piece * ((LINE - len(begin) - len(end)) // len(piece)) + end
+
+
+def long_chain():
+    """A chain of aliases, and three lines that mention its first so often that the result is just small enough."""
+    links = b"".join(b"User_Alias A%d = A%d\n" % (n, n + 1) for n in range(1, KIND_LIMIT))
+    return links + b"User_Alias A%d = x\n" % KIND_LIMIT + (b"A1," * 21_799 + b"A1 h=/b\n") * 3
+
+
+def many_definitions():
+    """As many aliases as there may be, of each kind, and a rule."""
+    lines = (f"{kind} A{n} = x{n}\n" if kind != "Cmnd_Alias" else f"{kind} A{n} = /x{n}\n" for kind in KINDS for n in range(1, KIND_LIMIT + 1))
+    return "".join(lines).encode() + b"A1 A1 = (A1) A1\n"
+
+
+def long_runas():
+    """Lines with one Runas_Spec of many members and many commands that inherit it."""
+    runas = b"a," * 16_350 + b"a"
+    return full(filled(b"u ALL=(" + runas + b") /b", b",/b", b"\n"), 16)
+
+
+def many_commands():
+    """Lines of many commands."""
+    return full(filled(b"u ALL=/b", b",/b", b"\n"), 16)
+
+
+def many_groups():
+    """A file of groups, to each of which t belongs."""
+    return b"other:x:99999:\n" + b"".join(b"g%05d:x:%05d:t\n" % (n, n) for n in range(1, 65_000))
+
+
+def one_pattern(pattern):
+    """A rule whose arguments are a pattern."""
+    return b"u ALL=/b *" + pattern + b"\n"
+
+
+def file_in(folder, name, content):
+    """Puts bytes into a file of the folder and returns its path."""
+    path = os.path.join(folder, name)
+    with open(path, "wb") as file:
+        file.write(content)
+    return path
+
+
+def listing(folder, name, policy, group, asked, command):
+    """The question whether u may run a command."""
+    files = ("--passwd", file_in(folder, "hostile-passwd", PASSWD), "--group-file", file_in(folder, f"{name}-group", group))
+    path = file_in(folder, f"{name}-policy", policy)
+    lines = policies.policy(len(policy))
+    plain = file_in(folder, f"{name}-plain", b"".join(lines))
+    return (
+        ["list", *files, *ASKED, "-U", "u", *asked, path, "--", *command],
+        ["list", *files, *ASKED, "-U", "u", plain, "--", "/b"],
+    )
+
+
+def converting(folder, name, policy, words, plain_words, plain_size):
+    """A conversion."""
+    path = file_in(folder, f"{name}-policy", policy)
+    plain = file_in(folder, f"{name}-plain", b"".join(policies.policy(plain_size)))
+    return ["convert", "-f", "sudoers", *words, path], ["convert", "-f", "sudoers", *plain_words, plain]
+
+
+def commands(folder):
+    """The hostile commands."""
+    chain, many = long_chain(), many_definitions()
+    runas, few = long_runas(), many_commands()
+    closed, unclosed = one_pattern(b"[" + b"a" * 60_000 + b"]"), one_pattern(b"[" * 30_000)
+    values = ",".join(f"user=x{n}" for n in range(1, 65))
+    made = (
+        ("`convert -e`, a chain of 4,096 and 65,400 mentions", 0, chain, converting(folder, "chain", chain, ("-e",), ("-e",), len(chain))),
+        ("`convert -m`, 64 values and 16,384 aliases", 0, many, converting(folder, "values", many, ("-m", values), ("-m", "user=x1"), len(many))),
+        ("`list`, lists of 16,351 runas users", 1, runas, listing(folder, "runas", runas, b"", ("-u", "t"), ("/c",))),
+        ("`list`, 64,999 groups and 349,000 commands", 1, few, listing(folder, "groups", few, many_groups(), ("-u", "t", "-g", "other"), ("/c",))),
+        ("`list`, `*` and a set of 60,000 bytes", 1, closed, listing(folder, "closed", closed, b"", (), ("/b", "b" * 60_000))),
+        ("`list`, `*` and 30,000 `[`", 1, unclosed, listing(folder, "unclosed", unclosed, b"", (), ("/b", "[" * 60_000))),
+    )
+    for name, status, policy, (words, ordinary) in made:
+        yield Hostile(name, words, status, len(policy), ordinary)
