@@ -103,7 +103,8 @@ texts_again lines read same =
     (map-append printed_line o.defaults o.defs ∙ ap₂ (λ (x y : List (List ℕ)). x ++ y) d a ∙ sym (map-append printed_line r.defaults r.defs)) s
     ∙ sym (map-append printed_line (r.defaults ++ r.defs) r.specs)
 
-again : (lines read : List Line) → AllSame IsSame (lines_of (rules_of lines)) (said_by read) → printed (rules_of read) ≡ printed (rules_of lines)
+-- Rules that were printed are printed so again.
+pub again : (lines read : List Line) → AllSame IsSame (lines_of (rules_of lines)) (said_by read) → printed (rules_of read) ≡ printed (rules_of lines)
 again lines read same = lines_are (lines_of (rules_of read)) ∙ ap join (texts_again lines read same) ∙ sym (lines_are (lines_of (rules_of lines)))
 
 -- whether each line is within the limit
@@ -111,7 +112,7 @@ each_within : (ns : List Node) → list_all (λ n. nat_le (length (printed_line 
 each_within [] = refl
 each_within (n ∷ ns) = ap (λ t. nat_le (length (printed_line n)) line_limit && t) (each_within ns)
 
-fits_again : (lines read : List Line) → AllSame IsSame (lines_of (rules_of lines)) (said_by read) → fits (rules_of read) ≡ fits (rules_of lines)
+pub fits_again : (lines read : List Line) → AllSame IsSame (lines_of (rules_of lines)) (said_by read) → fits (rules_of read) ≡ fits (rules_of lines)
 fits_again lines read same =
     ap₂ (λ text t. nat_le (length text) text_limit && t) (again lines read same)
     (each_within (lines_of (rules_of read)) ∙ ap (list_all (λ text. nat_le (length text) line_limit)) (texts_again lines read same)

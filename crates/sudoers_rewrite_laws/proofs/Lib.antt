@@ -12,3 +12,4 @@ mod Printed
 mod Reached
 mod Cycles
 mod Defined
+mod SecondExpansion

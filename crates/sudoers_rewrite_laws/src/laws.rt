@@ -1,11 +1,12 @@
 //! Laws of rewritten rules that are printed. Each is the contract of a function that does nothing.
 
-ghost use Rattle.std.specs.Prelude.{◌≡◌, true, List};
+ghost use Rattle.std.specs.Prelude.{◌≡◌, true, List, Ok};
 ghost use Rattle.std.specs.List.{AllByRecursion};
 ghost use Rattle.sudoers_tree.specs.Line.{Line as LineOf};
 ghost use Rattle.sudoers_tree.specs.Policy.{IsPolicy};
+ghost use Rattle.sudoers_tree.specs.Reading.{read_of};
 ghost use Rattle.sudoers_print_laws.specs.Writable.{IsWritable};
-ghost use Rattle.sudoers_cvt.specs.Rules.{lines_of, printed, fits};
+ghost use Rattle.sudoers_cvt.specs.Rules.{lines_of, rules_of, printed, fits};
 ghost use Rattle.sudoers_cvt_laws.specs.ReadAs.{IsReadAs};
 ghost use Rattle.sudoers_rewrite.specs.Rewrite.{used_rules};
 ghost use Rattle.sudoers_rewrite_laws.specs.Expanded.{expanded};
@@ -36,4 +37,15 @@ pub fn expanded_rules_are_read()
     printed_lines_are_cut();
     read_is();
     one_outcome();
+}
+
+/// What is read of the printed rules of a policy with its aliases replaced gives rules that are printed as the same text, which is within
+/// the limits again.
+pub fn second_printing_of_expansion_is_same()
+    ensures text { (lines read : List LineOf) → IsPolicy lines → fits (used_rules (expanded lines)) ≡ true
+        → read_of (printed (used_rules (expanded lines))) ≡ Ok read → printed (rules_of read) ≡ printed (used_rules (expanded lines)) }
+    ensures size { (lines read : List LineOf) → IsPolicy lines → fits (used_rules (expanded lines)) ≡ true
+        → read_of (printed (used_rules (expanded lines))) ≡ Ok read → fits (rules_of read) ≡ true }
+{
+    expanded_rules_are_read();
 }

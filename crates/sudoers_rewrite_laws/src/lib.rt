@@ -5,4 +5,6 @@ mod answers;
 mod laws;
 
 pub use answers::{expanded_policy_answers, printed_expansion_answers};
-pub use laws::{expanded_rules_are_read, expanded_rules_can_be_written};
+pub use laws::{
+    expanded_rules_are_read, expanded_rules_can_be_written, second_printing_of_expansion_is_same,
+};

@@ -45,7 +45,8 @@ expanding_words prune = record { form = Sudoers; filter = None; prune = prune; e
 
 -- What is printed is a policy. Its lines say what the rules say whose aliases are replaced. Each request has an answer there with the
 -- same sign, tags and options as in the policy that was read, and the other way round. No reachable alias is cyclic, neither there nor
--- in what was read. Each user has the same runas_default, and rules at the same places.
+-- in what was read. Each user has the same runas_default, and rules at the same places. What is printed stays as it is when it is
+-- converted again without `-e`.
 pub record IsExpanded (input out : List ℕ) : Type 0 where
   pub lines : List Line
   pub printed : List Line
@@ -58,3 +59,4 @@ pub record IsExpanded (input out : List ℕ) : Type 0 where
   pub is_straight : HasReachableCycle printed → ⊥
   pub default : (who : Who) (name : List ℕ) → IsRunasDefault lines who name ↔ IsRunasDefault printed who name
   pub groups : (who : Who) (places : List GroupPlace) → AreHostGroups lines who places ↔ AreHostGroups printed who places
+  pub again : (prune : Bool) → convert_output (plain_words prune) out ≡ Ok out

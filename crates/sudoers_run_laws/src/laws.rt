@@ -10,7 +10,9 @@ use sudoers_check::chains_are;
 use sudoers_cvt_laws::{printed_rules_answer, printed_rules_are_read, second_printing_is_same};
 use sudoers_list::one_listing;
 use sudoers_match::{one_answer, one_runas_default};
-use sudoers_rewrite_laws::{expanded_rules_are_read, printed_expansion_answers};
+use sudoers_rewrite_laws::{
+    expanded_rules_are_read, printed_expansion_answers, second_printing_of_expansion_is_same,
+};
 use sudoers_tree::{one_outcome, read_is};
 
 /// What `convert -f sudoers` prints is a policy, which answers each request as the policy that was read, and no request otherwise. Each
@@ -27,7 +29,8 @@ pub fn converted_policy_answers()
 }
 
 /// What `convert -f sudoers -e` prints is a policy, which answers each request as the policy that was read, numbers aside. Each user has
-/// the same runas_default, and rules at the same places. No reachable alias is cyclic, neither there nor in what was read.
+/// the same runas_default, and rules at the same places. No reachable alias is cyclic, neither there nor in what was read. Converted
+/// again without `-e`, it stays as it is.
 pub fn expanded_policy_is_printed()
     ensures { (prune : Bool) (input out : List ℕ) → convert_output (expanding_words prune) input ≡ Ok out → IsExpanded input out }
 {
@@ -36,6 +39,7 @@ pub fn expanded_policy_is_printed()
     chains_are();
     expanded_rules_are_read();
     printed_expansion_answers();
+    second_printing_of_expansion_is_same();
 }
 
 /// The three files and the words determine what `list` writes and its status, or its fault.

@@ -5,7 +5,7 @@ use Rattle.sudoers_tree.specs.declared.fault.ReadFault.{ReadFault}
 use Rattle.sudoers_tree.specs.Policy.{IsPolicy}
 use Rattle.sudoers_tree.specs.Reading.{read_of, IsOutcome}
 use Rattle.sudoers_check.specs.Chains.{HasReachableCycle}
-use Rattle.sudoers_cvt.specs.Rules.{Rules, printed, fits}
+use Rattle.sudoers_cvt.specs.Rules.{Rules, rules_of, printed, fits}
 use Rattle.sudoers_cvt.specs.declared.fault.CvtFault.TheVariants.{Cycle, TooLarge}
 use Rattle.sudoers_rewrite.specs.Count.{member_limit}
 use Rattle.sudoers_rewrite.specs.Rewrite.{has_round, member_count, used_rules}
@@ -15,12 +15,15 @@ use Rattle.sudoers_run.specs.declared.fault.LayerFault.{LayerFault}
 use Rattle.sudoers_run.specs.declared.fault.LayerFault.TheVariants as layer
 use Rattle.sudoers_run.specs.declared.words.ConvertWords.{ConvertWords}
 use Rattle.sudoers_run.specs.Convert.{convert_read}
-use Rattle.sudoers_run_laws.specs.Converted.{IsExpanded, expanding_words}
+use Rattle.sudoers_run_laws.specs.Converted.{IsExpanded, expanding_words, plain_words}
 use Rattle.sudoers_run_laws.proofs.laws.expanded_policy_is_printed.Goals as goal
 
 -- by whether an alias is cyclic, whether there are too many members, and whether the text is within the limits
 abbrev by_three : Bool → Bool → Bool → List ℕ → Result (List ℕ) LayerFault
 by_three round many b text = if round then Err (layer.Convert Cycle) else if many then Err (layer.Convert TooLarge) else if b then Ok text else Err (layer.Convert TooLarge)
+
+abbrev if_fits : Bool → List ℕ → Result (List ℕ) LayerFault
+if_fits b text = if b then Ok text else Err (layer.Convert TooLarge)
 
 opened : (round many b : Bool) (text out : List ℕ) → by_three round many b text ≡ Ok out → (round ≡ false) × (b ≡ true) × (out ≡ text)
 opened true many b text out e = absurd cc
@@ -45,6 +48,8 @@ returns c prune input out e = by (read_of input) refl
         let clash : true ≡ false = round ∙ found.0 in absurd cc in
         let read = c.expanded_rules_are_read.ensures lines policy found.1 in
         let is_read : read_of out ≡ Ok read.read = ap read_of found.2 ∙ read.is in
+        let size = c.second_printing_of_expansion_is_same.ensures.size lines read.read policy found.1 read.is in
+        let text = c.second_printing_of_expansion_is_same.ensures.text lines read.read policy found.1 read.is in
         record {
           lines = lines;
           printed = read.read;
@@ -57,4 +62,5 @@ returns c prune input out e = by (read_of input) refl
           is_straight = c.printed_expansion_answers.ensures.straight lines read.read policy straight found.1 read.is;
           default = c.printed_expansion_answers.ensures.default lines read.read policy straight found.1 read.is;
           groups = c.printed_expansion_answers.ensures.groups lines read.read policy straight found.1 read.is;
+          again = λ p. ap (convert_read (plain_words p)) is_read ∙ ap (λ b. if_fits b (printed (rules_of read.read))) size ∙ ap Ok text ∙ ap Ok (sym found.2);
         }
