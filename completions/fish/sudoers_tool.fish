@@ -76,7 +76,7 @@ complete -c sudoers_tool -f
 complete -c sudoers_tool -n __sudoers_tool_help -s h -l help -d 'Print help'
 complete -c sudoers_tool -n __fish_use_subcommand -s V -l version -d 'Print the version'
 complete -c sudoers_tool -n __fish_use_subcommand -a check -d 'Check a policy'
-complete -c sudoers_tool -n __fish_use_subcommand -a convert -d 'Print the rules of a policy anew, as a policy or as JSON, without comments'
+complete -c sudoers_tool -n __fish_use_subcommand -a convert -d 'Print the rules of a policy anew, as a policy or as JSON, without comments and includes'
 complete -c sudoers_tool -n __fish_use_subcommand -a edit -d 'Apply an edit script to a policy'
 complete -c sudoers_tool -n __fish_use_subcommand -a help -d 'Print help'
 complete -c sudoers_tool -n __fish_use_subcommand -a list -d 'Print what a user may run on a host, or whether a command is allowed'

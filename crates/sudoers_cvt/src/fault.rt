@@ -9,7 +9,7 @@ pub enum CvtFault {
     /// A reachable alias is joined to itself by a chain of mentions.
     #[error("Cycle")]
     Cycle,
-    /// The result, or a line of it, passes its limit.
+    /// The text, a line of it, or with aliases replaced the number of members passes its limit.
     #[error("TooLarge")]
     TooLarge,
     /// A text is no UTF-8.

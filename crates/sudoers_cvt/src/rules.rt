@@ -117,7 +117,7 @@ impl<'a> Rules<'a> {
         self.specs.as_slice()
     }
 
-    /// Returns the rules, of definitions only those with a mark. There is a mark for each definition.
+    /// Returns the rules, of definitions only those with a mark. A definition without a mark is left out.
     ///
     /// # Errors
     ///

@@ -124,7 +124,7 @@ fn definitions_of(node: &Node<'_>) -> usize
     }
 }
 
-/// Adds what goes of a line with so many definitions, of which those at these places are unused.
+/// Appends the removals of one line: the line if all its definitions are unused, or else each of those at these places.
 fn append_removals(
     line: usize,
     count: usize,

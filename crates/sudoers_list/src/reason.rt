@@ -102,8 +102,8 @@ fn rule_text(
     Ok(text)
 }
 
-/// Returns why a request of `who` has this answer, as a text: `file`, the first physical line of the user specification, whether it
-/// allows or denies, and the command as it is listed. Without an answer no rule matches.
+/// Returns why a request of `who` has this answer, as a text: `file`, the first physical line that belongs to the user
+/// specification, whether it allows or denies, and the command as it is listed. Without an answer no rule matches.
 ///
 /// # Errors
 ///

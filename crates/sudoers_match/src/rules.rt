@@ -1,4 +1,4 @@
-//! What a rule says of a command.
+//! The answer of a row, and where its command stands.
 
 ghost use Rattle.std.specs.Prelude.{◌≡◌};
 ghost use Rattle.sudoers_match.specs.Answer.{answer_shown};

@@ -1,4 +1,4 @@
--- What a search for members that match the values of a filter remembers.
+-- A device of the proof, which no public contract cites: what a search for members that match the values of a filter remembers.
 use Rattle.std.specs.Prelude.{◌≡◌, ◌||◌, ℕ, Bool, true, false, List, length, Option, Some, slice_get}
 use Rattle.std.specs.List.{list_any}
 use Rattle.std.specs.Option.{is_some}

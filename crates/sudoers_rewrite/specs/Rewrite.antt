@@ -1,4 +1,4 @@
--- The rules of a policy, filtered and with their aliases replaced (cvtsudoers(1), -m, -p, -e).
+-- The lines of a policy, filtered and with their aliases replaced, and the rules taken from them (cvtsudoers(1), -m, -p, -e).
 use Rattle.std.specs.Prelude.{◌+◌, ◌&&◌, ℕ, Bool, true, false, List, [], map, Option, Some, None}
 use Rattle.std.specs.List.{filter, list_any}
 use Rattle.sudoers_line.specs.declared.node.Node.{Node}

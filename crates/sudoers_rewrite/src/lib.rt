@@ -1,4 +1,4 @@
-//! Rules of a policy, filtered and with their aliases replaced.
+//! Lines of a policy, filtered and with their aliases replaced.
 #![tactic(auto)]
 
 mod aliases;

@@ -17,7 +17,7 @@ use sudoers_cvt::CvtFault;
 use sudoers_reader::{MemberRow, Range, RunasRow, ScopeRow, Tables, rows_in};
 use sudoers_tree::Kind;
 
-/// Rules that are written anew, and whether their aliases are replaced.
+/// A policy whose lines are written anew, with its aliases, and whether these are replaced.
 #[derive(Clone, Copy)]
 pub struct Source<'a> {
     pub aliases: Aliases<'a>,

@@ -53,7 +53,7 @@ pub enum ToolFault {
     /// The input has no end within the reads that are allowed.
     #[error("NoEnd")]
     NoEnd,
-    /// The policy, the script or an edit is at fault, or memory ran out.
+    /// A file, the script, an edit, the words or the result is at fault, or memory ran out.
     #[error("{0}")]
     Layer(LayerFault),
     /// No line of the input is the mark.

@@ -1,4 +1,4 @@
-//! `edit`: a script and a policy in, the inverse script and the edited policy out.
+//! `edit`; and how each command reads an input whole and writes an output whole.
 ghost use Rattle.std.specs.Prelude.{◌≡◌, ◌≢◌, ◌+◌, ◌<◌, ◌≤◌, ◌++◌, length, Ok, Err, IfOk, IfErr, OnOk, OnErr, IfSome, IsOkAnd, MatchResult, min, ◌-◌, ◌^◌};
 ghost use Rattle.std.specs.Option.{option_map};
 ghost use Rattle.std.specs.Io.KnownBytes.{Keeps, Appends};

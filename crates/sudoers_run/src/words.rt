@@ -7,9 +7,9 @@ use sudoers_line::Items;
 #[derive(Clone, Copy)]
 pub struct ConvertWords<'a> {
     pub form: Form,
-    /// The text of a filter. Only rules that match it are written.
+    /// The text of a filter. Rules for other users, groups and hosts are left out.
     pub filter: Option<&'a [u8]>,
-    /// Only members that match the filter are written.
+    /// Users and hosts that do not match the filter are left out of lists.
     pub prune: bool,
     /// Aliases are replaced by their members.
     pub expand: bool,

@@ -273,7 +273,7 @@ pub fn word_fault_is_at_the_first_dead_line()
         → IsDeadLine line (physical_lines text) }
 {}
 
-/// A command that wants its text ends a front of a script that is none itself, and no line that may follow stands behind.
+/// `NoPayload` names a command that needs a text which does not follow.
 pub fn payload_fault_is_at_a_command_without_text()
     ensures { (text : List ℕ) (line : ℕ) → reading text ≡ Err (ScriptFault.NoPayload line)
         → WantsText line (physical_lines text) }

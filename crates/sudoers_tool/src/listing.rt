@@ -38,7 +38,9 @@ fn add_question<'a>(
     file: Arg<'a>,
 ) -> Result<Command<'a>, AllocError> {
     command
-        .arg(needed(alloc, "STAMP", "moment").help("Moment in UTC, as 20300131120000Z"))?
+        .arg(needed(alloc, "STAMP", "moment").help(
+            "Moment in UTC, as 20300131120000Z; now is $(date -u +%Y%m%d%H%M%SZ)",
+        ))?
         .arg(interfaces_word(alloc))?
         .arg(target_word(alloc))?
         .arg(group_word(alloc))?
@@ -64,7 +66,9 @@ fn interfaces_word<'a>(alloc: Global) -> Arg<'a> {
     Arg::new(alloc, "INTERFACES")
         .long("interfaces")
         .value_name("LIST")
-        .help("Addresses of the host with their bits, as 10.1.2.9/24,192.168.0.1/16")
+        .help(
+            "Addresses of the host with their bits, as 10.1.2.9/24,192.168.0.1/16; without it no network matches",
+        )
 }
 
 /// Returns the option with the user as whom a command is to run.

@@ -91,7 +91,7 @@ fn obey(rt: &HostRuntime, matches: &ArgMatches<'_>) -> ExitCode {
 /// Returns the command line that is understood.
 fn command_words<'a>(alloc: Global) -> Result<Command<'a>, AllocError> {
     let edit = Command::new(alloc, "edit").about(
-        "Apply an edit script to a policy. Read SCRIPT, `%%`, POLICY on standard input; write UNDO, `%%`, POLICY",
+        "Apply an edit script to a policy. Read SCRIPT, `%%`, POLICY on standard input; write UNDO, `%%`, POLICY. UNDO fits that POLICY only. EDIT SCRIPTS of sudoers_tool(8) has the commands",
     );
     let show = Command::new(alloc, "show")
         .about("Print the logical lines of a policy and its alias definitions, with their numbers")
@@ -120,7 +120,9 @@ fn check_words<'a>(alloc: Global) -> Result<Command<'a>, AllocError> {
         .action(ArgAction::SetTrue)
         .help("Treat undefined and cyclic aliases as errors");
     Command::new(alloc, "check")
-        .about("Check the syntax of a policy, and report undefined, cyclic and unused aliases")
+        .about(
+            "Check the syntax of a policy, and report undefined, cyclic and unused aliases; names of Defaults and included files are not checked",
+        )
         .arg(quiet)?
         .arg(strict)?
         .arg(file_word(alloc))
@@ -141,7 +143,9 @@ fn convert_words<'a>(alloc: Global) -> Result<Command<'a>, AllocError> {
         .action(ArgAction::SetTrue)
         .help("Replace aliases by their members");
     Command::new(alloc, "convert")
-        .about("Print the rules of a policy anew, as a policy or as JSON, without comments")
+        .about(
+            "Print the rules of a policy anew, as a policy or as JSON, without comments and includes",
+        )
         .arg(form)?
         .arg(expand)?
         .arg(filter_word(alloc))?
@@ -152,7 +156,7 @@ fn convert_words<'a>(alloc: Global) -> Result<Command<'a>, AllocError> {
 /// Returns the option with the text of a filter.
 fn filter_word<'a>(alloc: Global) -> Arg<'a> {
     Arg::new(alloc, "FILTER").short('m').long("match").help(
-        "Print only rules for some users, groups and hosts, as user=bob,group=adm,host=www1",
+        "Print only rules for users, groups and hosts of these names, as user=bob,group=adm,host=www1; for review only",
     )
 }
 

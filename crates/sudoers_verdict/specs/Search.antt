@@ -1,4 +1,5 @@
--- A walk through aliases that decides each of them once, by the number of its definition. Only the contracts of `Verdicts` cite it.
+-- A walk through aliases that decides each of them once, by the number of its definition. Contracts of `Verdicts`
+-- and of its callers cite it.
 use Rattle.std.specs.Prelude.{◌≡◌, ◌≢◌, ◌<◌, ◌≤◌, ◌+◌, ◌-◌, ℕ, Bool, List, [], ◌∷◌, ◌++◌, length, take, Option, Some, None, slice_get, slice_set}
 use Rattle.sudoers_line.specs.declared.node.Kind.{Kind}
 use Rattle.sudoers_line.specs.declared.node.Atom.{Atom}
