@@ -21,12 +21,13 @@ use Rattle.sudoers_people.specs.Asked.{request_told}
 use Rattle.sudoers_people.specs.People.{People, file_fault, people_of, people_told, unless}
 use Rattle.sudoers_run.specs.declared.fault.LayerFault.{LayerFault}
 use Rattle.sudoers_run.specs.declared.fault.LayerFault.TheVariants as layer
+use Rattle.sudoers_run.specs.declared.fault.ToolFault.{ToolFault}
 use Rattle.sudoers_run.specs.declared.fault.ToolFault.TheVariants as tool
 use Rattle.sudoers_run.specs.Device.{Rose, counted_by}
 use Rattle.sudoers_run.specs.declared.words.ListWords.{ListWords}
-use Rattle.sudoers_run.specs.Program.{IsFront}
+use Rattle.sudoers_run.specs.Program.{IsFront, IsFrontFault}
 use Rattle.sudoers_run.specs.declared.list.Listed.{Listed}
-use Rattle.sudoers_run.specs.List.{AsUser, IfKnown, IsAnswered, IsAsked, IsListOutcome, OfFirst, OfPeople, OfPolicy, OfRequest, OfWho, OfWords, Outcome, Stopped, TellsList, TellsWho, text_shown}
+use Rattle.sudoers_run.specs.List.{AsUser, IsAnswered, IsAsked, IsListOutcome, IsTextOf, OfFirst, OfPeople, OfPolicy, OfRequest, OfTexts, OfWho, OfWords, Outcome, Stopped, TellsList, TellsWho, text_shown}
 use Rattle.sudoers_run.proofs.ShowLemmas.{read_large}
 
 -- It says what the file says: it is all of it, or both are too large.
@@ -80,13 +81,52 @@ pub moved : (w : ListWords) (p u g p' u' g' : List ℕ) (o : Outcome) → Stands
 moved w p u g p' u' g' o sp su sg is =
     subst (λ r. OfPolicy w (people_told u' g') r o) (same_policy p p' sp) (subst (λ r. OfPolicy w r (read_of p) o) (same_people u u' g g' su sg) is)
 
--- What holds of all that stands for fronts holds of what is known.
-pub if_known : (po uo go : Option (List ℕ)) (p u g : List ℕ) (Q : List ℕ → List ℕ → List ℕ → Type 0) → IfSome po (Stands p) → IfSome uo (Stands u) → IfSome go (Stands g)
-    → ((p' u' g' : List ℕ) → Stands p p' → Stands u u' → Stands g g' → Q p' u' g') → IfKnown po uo go Q
-if_known None uo go p u g Q sp su sg all = tt
-if_known (Some p') None go p u g Q sp su sg all = tt
-if_known (Some p') (Some u') None p u g Q sp su sg all = tt
-if_known (Some p') (Some u') (Some g') p u g Q sp su sg all = all p' u' g' sp su sg
+-- The text of a reader, of which a front was read.
+abbrev text_of : Option (List ℕ) → List ℕ → List ℕ
+text_of None front = front
+text_of (Some known) front = known
+
+is_text : (o : Option (List ℕ)) (front : List ℕ) → IsTextOf o (text_of o front)
+is_text None front = tt
+is_text (Some known) front = refl
+
+stands_for : (o : Option (List ℕ)) (front : List ℕ) → IfSome o (Stands front) → Stands front (text_of o front)
+stands_for None front is = inl refl
+stands_for (Some known) front is = is
+
+-- What holds of all that stands for fronts holds of the texts.
+pub of_texts : (po uo go : Option (List ℕ)) (p u g : List ℕ) (Q : List ℕ → List ℕ → List ℕ → Type 0) → IfSome po (Stands p) → IfSome uo (Stands u) → IfSome go (Stands g)
+    → ((p' u' g' : List ℕ) → Stands p p' → Stands u u' → Stands g g' → Q p' u' g') → OfTexts po uo go Q
+of_texts po uo go p u g Q sp su sg all = record {
+  policy_text = text_of po p;
+  passwd_text = text_of uo u;
+  group_text = text_of go g;
+  is_policy = is_text po p;
+  is_passwd = is_text uo u;
+  is_group = is_text go g;
+  holds = all (text_of po p) (text_of uo u) (text_of go g) (stands_for po p sp) (stands_for uo u su) (stands_for go g sg);
+}
+
+-- What holds of all texts holds of those of the readers.
+pub of_any : (po uo go : Option (List ℕ)) (Q : List ℕ → List ℕ → List ℕ → Type 0) → ((p u g : List ℕ) → Q p u g) → OfTexts po uo go Q
+of_any po uo go Q all = record {
+  policy_text = text_of po [];
+  passwd_text = text_of uo [];
+  group_text = text_of go [];
+  is_policy = is_text po [];
+  is_passwd = is_text uo [];
+  is_group = is_text go [];
+  holds = all (text_of po []) (text_of uo []) (text_of go []);
+}
+
+-- A fault of reading says nothing of the texts.
+pub front_tells : (w : ListWords) (fault : ToolFault) → IsFrontFault fault → (p u g : List ℕ) → TellsList w fault p u g
+front_tells w tool.Read is p u g = tt
+front_tells w tool.NoEnd is p u g = tt
+front_tells w (tool.Layer fault) is p u g = inl is
+front_tells w tool.Write is p u g = tt
+front_tells w tool.NoMark is p u g = absurd is
+front_tells w tool.InputTooLarge is p u g = absurd is
 
 -- ---- words
 

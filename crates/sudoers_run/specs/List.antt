@@ -140,9 +140,19 @@ IsListOutcome w policy passwd group outcome = OfPolicy w (people_told passwd gro
 
 -- ---- faults
 
--- Something holds of three inputs, if all are known.
-abbrev pub IfKnown : Option (List ℕ) → Option (List ℕ) → Option (List ℕ) → (List ℕ → List ℕ → List ℕ → Type 0) → Type 0
-IfKnown policy passwd group P = IfSome policy (λ p. IfSome passwd (λ u. IfSome group (λ g. P p u g)))
+-- The text of a reader: what is known of it, if that is known.
+abbrev pub IsTextOf : Option (List ℕ) → List ℕ → Type 0
+IsTextOf known text = IfSome known (λ bytes. text ≡ bytes)
+
+-- Something holds of a policy, of passwd and of group, which are the texts of three readers.
+pub record OfTexts (policy passwd group : Option (List ℕ)) (P : List ℕ → List ℕ → List ℕ → Type 0) : Type 0 where
+  pub policy_text : List ℕ
+  pub passwd_text : List ℕ
+  pub group_text : List ℕ
+  pub is_policy : IsTextOf policy policy_text
+  pub is_passwd : IsTextOf passwd passwd_text
+  pub is_group : IsTextOf group group_text
+  pub holds : P policy_text passwd_text group_text
 
 -- a fault that the files or the words have; those of the devices and of memory say nothing of them
 abbrev pub TellsList : ListWords → ToolFault → List ℕ → List ℕ → List ℕ → Type 0

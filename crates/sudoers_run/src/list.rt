@@ -11,7 +11,7 @@ ghost use Rattle.sudoers_people.specs.Person.{who_told};
 ghost use Rattle.sudoers_people.specs.Asked.{request_told};
 ghost use Rattle.sudoers_run.specs.Device.{Rose, Writes, AppendsFront, TakesAtMost, counted_by};
 ghost use Rattle.sudoers_run.specs.Program.{pull_limit};
-ghost use Rattle.sudoers_run.specs.List.{AreRead, AreWhole, FailedWithin, GivenUpWithin, IfKnown, IsAnswered, IsAnswerText, IsAsked, IsListOutcome, IsListFault, IsAskFault, Outcome, Stopped, TellsList, TellsWho, allowed_status, allowed_text, text_shown};
+ghost use Rattle.sudoers_run.specs.List.{AreRead, AreWhole, FailedWithin, GivenUpWithin, OfTexts, IsAnswered, IsAnswerText, IsAsked, IsListOutcome, IsListFault, IsAskFault, Outcome, Stopped, TellsList, TellsWho, allowed_status, allowed_text, text_shown};
 
 use crate::device::{Sink, Source};
 use crate::fault::{LayerFault, ToolFault};
@@ -43,15 +43,15 @@ pub fn run_list<P: Source, U: Source, G: Source, W: Sink>(
     writer: &mut W,
 ) -> Result<u8, ToolFault>
     // The status and what is written are an outcome of what is read.
-    ensures ok { IfOk result (λ status. IfKnown (P.remaining policy.old) (U.remaining passwd.old) (G.remaining group.old) (λ p u g.
+    ensures ok { IfOk result (λ status. OfTexts (P.remaining policy.old) (U.remaining passwd.old) (G.remaining group.old) (λ p u g.
         (text : List ℕ) × IsListOutcome words.now p u g (Ok (text, status)) × Appends (W.contents writer.old) (W.contents writer.new) text)) }
     ensures statuses { IfOk result (λ status. status ≤ 1) }
     // A fault of the files or of the words is their outcome.
-    ensures fault { IfErr result (λ fault. IfKnown (P.remaining policy.old) (U.remaining passwd.old) (G.remaining group.old) (TellsList words.now fault)) }
+    ensures fault { IfErr result (λ fault. OfTexts (P.remaining policy.old) (U.remaining passwd.old) (G.remaining group.old) (TellsList words.now fault)) }
     // There are no other faults.
     ensures named { IfErr result IsListFault }
     // After `Write`, what was written is a beginning of the output.
-    ensures front { result ≡ Err ToolFault.Write → IfKnown (P.remaining policy.old) (U.remaining passwd.old) (G.remaining group.old) (λ p u g.
+    ensures front { result ≡ Err ToolFault.Write → OfTexts (P.remaining policy.old) (U.remaining passwd.old) (G.remaining group.old) (λ p u g.
         (text : List ℕ) × ((status : ℕ) × IsListOutcome words.now p u g (Ok (text, status))) × AppendsFront (W.contents writer.old) (W.contents writer.new) text) }
     // `Read` means that a reader failed before it gave a byte past the limit, and `Write` that the writer failed, as their counts show.
     ensures told { result ≡ Err ToolFault.Read

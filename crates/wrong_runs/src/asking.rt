@@ -2,7 +2,7 @@
 
 ghost use Rattle.std.specs.Io.KnownBytes.{Appends};
 ghost use Rattle.std.specs.Prelude.{ℕ, List, Ok, IfOk, IfErr};
-ghost use Rattle.sudoers_run.specs.List.{IfKnown, IsListOutcome, TellsList};
+ghost use Rattle.sudoers_run.specs.List.{OfTexts, IsListOutcome, TellsList};
 
 use std::alloc::Global;
 use sudoers_run::{ListWords, Sink, Source, ToolFault, run_list};
@@ -20,9 +20,9 @@ pub fn list_rules<P: Source, U: Source, G: Source, W: Sink>(
     words: &ListWords<'_>,
     writer: &mut W,
 ) -> Result<u8, ToolFault>
-    ensures ok { IfOk result (λ status. IfKnown (P.remaining policy.old) (U.remaining passwd.old) (G.remaining group.old) (λ p u g.
+    ensures ok { IfOk result (λ status. OfTexts (P.remaining policy.old) (U.remaining passwd.old) (G.remaining group.old) (λ p u g.
         (text : List ℕ) × IsListOutcome words.now p u g (Ok (text, status)) × Appends (W.contents writer.old) (W.contents writer.new) text)) }
-    ensures fault { IfErr result (λ fault. IfKnown (P.remaining policy.old) (U.remaining passwd.old) (G.remaining group.old) (TellsList words.now fault)) }
+    ensures fault { IfErr result (λ fault. OfTexts (P.remaining policy.old) (U.remaining passwd.old) (G.remaining group.old) (TellsList words.now fault)) }
 {
     run_list(alloc, policy, passwd, group, words, writer)
 }

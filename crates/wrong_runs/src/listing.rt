@@ -2,7 +2,7 @@
 
 ghost use Rattle.std.specs.Io.KnownBytes.{Appends};
 ghost use Rattle.std.specs.Prelude.{ℕ, List, Ok, IfOk};
-ghost use Rattle.sudoers_run.specs.List.{IfKnown, IsListOutcome};
+ghost use Rattle.sudoers_run.specs.List.{OfTexts, IsListOutcome};
 
 use std::alloc::Global;
 use sudoers_run::{ListWords, Sink, Source, ToolFault, run_list};
@@ -20,7 +20,7 @@ pub fn list_status<P: Source, U: Source, G: Source, W: Sink>(
     words: &ListWords<'_>,
     writer: &mut W,
 ) -> Result<u8, ToolFault>
-    ensures ok { IfOk result (λ status. IfKnown (P.remaining policy.old) (U.remaining passwd.old) (G.remaining group.old) (λ p u g.
+    ensures ok { IfOk result (λ status. OfTexts (P.remaining policy.old) (U.remaining passwd.old) (G.remaining group.old) (λ p u g.
         (text : List ℕ) × IsListOutcome words.now p u g (Ok (text, status)) × Appends (W.contents writer.old) (W.contents writer.new) text)) }
 {
     run_list(alloc, policy, passwd, group, words, writer)

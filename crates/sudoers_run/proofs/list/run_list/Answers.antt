@@ -5,9 +5,9 @@ use Rattle.sudoers_run.specs.declared.fault.ToolFault.TheVariants as tool
 use Rattle.std.specs.Io.KnownBytes.{Appends}
 use Rattle.sudoers_run.specs.Device.{AppendsFront}
 use Rattle.sudoers_run.specs.Program.{IsFront}
-use Rattle.sudoers_run.specs.List.{IfKnown, TellsList}
+use Rattle.sudoers_run.specs.List.{OfTexts, TellsList}
 use Rattle.sudoers_run.proofs.ListLarge.{ended_listed, ended_written, people_are_large, policy_is_large, layer_is, whole_ok}
-use Rattle.sudoers_run.proofs.ListLemmas.{if_known, moved, stands, stopped, tells}
+use Rattle.sudoers_run.proofs.ListLemmas.{front_tells, moved, of_any, of_texts, stands, stopped, tells}
 use Rattle.sudoers_run.proofs.list.run_list.Goals as goal
 
 pub returns-in_err-passwd-clause-order : goal.returns-in_err-passwd-clause-order
@@ -34,6 +34,30 @@ returns-in_err-write_all-clause-stopped g c = λ read. (stopped _ _ _ _ (length 
 pub returns-clause-stopped : goal.returns-clause-stopped
 returns-clause-stopped g c = λ read. (stopped _ _ _ _ (length c.in_ok-policy.policy.items) c.in_ok-policy.ensures.ended c.in_ok-policy.ensures.given, stopped _ _ _ _ (length c.in_ok-passwd.passwd.items) c.in_ok-passwd.ensures.ended c.in_ok-passwd.ensures.given, stopped _ _ _ _ (length c.in_ok-group.group.items) c.in_ok-group.ensures.ended c.in_ok-group.ensures.given)
 
+pub returns-in_err-policy-clause-fault : goal.returns-in_err-policy-clause-fault
+returns-in_err-policy-clause-fault g c =
+    let w = c.args.words.now in
+    let fault : ToolFault = c.in_err-policy.field-0.0 in
+    let same : c.from_residual.result ≡ Err fault = search rules in
+    subst (λ r. IfErr r (λ (x : ToolFault). OfTexts (g.P.Read.remaining c.args.policy.now) (g.U.Read.remaining c.args.passwd.now) (g.G.Read.remaining c.args.group.now) (TellsList w x))) (sym same)
+    (of_any _ _ _ (TellsList w fault) (front_tells w fault c.in_err-policy.ensures.faults))
+
+pub returns-in_err-passwd-clause-fault : goal.returns-in_err-passwd-clause-fault
+returns-in_err-passwd-clause-fault g c =
+    let w = c.args.words.now in
+    let fault : ToolFault = c.in_err-passwd.field-0.0 in
+    let same : c.from_residual-in_err-passwd.result ≡ Err fault = search rules in
+    subst (λ r. IfErr r (λ (x : ToolFault). OfTexts (g.P.Read.remaining c.args.policy.now) (g.U.Read.remaining c.args.passwd.now) (g.G.Read.remaining c.args.group.now) (TellsList w x))) (sym same)
+    (of_any _ _ _ (TellsList w fault) (front_tells w fault c.in_err-passwd.ensures.faults))
+
+pub returns-in_err-group-clause-fault : goal.returns-in_err-group-clause-fault
+returns-in_err-group-clause-fault g c =
+    let w = c.args.words.now in
+    let fault : ToolFault = c.in_err-group.field-0.0 in
+    let same : c.from_residual-in_err-group.result ≡ Err fault = search rules in
+    subst (λ r. IfErr r (λ (x : ToolFault). OfTexts (g.P.Read.remaining c.args.policy.now) (g.U.Read.remaining c.args.passwd.now) (g.G.Read.remaining c.args.group.now) (TellsList w x))) (sym same)
+    (of_any _ _ _ (TellsList w fault) (front_tells w fault c.in_err-group.ensures.faults))
+
 pub returns-in_err-listed-clause-fault : goal.returns-in_err-listed-clause-fault
 returns-in_err-listed-clause-fault g c =
     let w = c.args.words.now in
@@ -42,8 +66,8 @@ returns-in_err-listed-clause-fault g c =
     let sp = stands _ _ _ (subst (λ x. IsFront 1048576 (g.P.Read.remaining c.args.policy.now) (g.P.Read.remaining c.read_front.new.reader) x) (sym c.as_slice.ensures.value) c.in_ok-policy.ensures.front) in
     let su = stands _ _ _ (subst (λ x. IsFront 1048576 (g.U.Read.remaining c.args.passwd.now) (g.U.Read.remaining c.read_front-2.new.reader) x) (sym c.as_slice-2.ensures.value) c.in_ok-passwd.ensures.front) in
     let sg = stands _ _ _ (subst (λ x. IsFront 1048576 (g.G.Read.remaining c.args.group.now) (g.G.Read.remaining c.read_front-3.new.reader) x) (sym c.as_slice-3.ensures.value) c.in_ok-group.ensures.front) in
-    subst (λ r. IfErr r (λ (x : ToolFault). IfKnown (g.P.Read.remaining c.args.policy.now) (g.U.Read.remaining c.args.passwd.now) (g.G.Read.remaining c.args.group.now) (TellsList w x))) (sym same)
-    (if_known _ _ _ _ _ _ _ sp su sg (tells w c.as_slice.result.now c.as_slice-2.result.now c.as_slice-3.result.now fault c.in_err-listed.ensures.outcome))
+    subst (λ r. IfErr r (λ (x : ToolFault). OfTexts (g.P.Read.remaining c.args.policy.now) (g.U.Read.remaining c.args.passwd.now) (g.G.Read.remaining c.args.group.now) (TellsList w x))) (sym same)
+    (of_texts _ _ _ _ _ _ _ sp su sg (tells w c.as_slice.result.now c.as_slice-2.result.now c.as_slice-3.result.now fault c.in_err-listed.ensures.outcome))
 
 pub returns-in_err-write_all-clause-front : goal.returns-in_err-write_all-clause-front
 returns-in_err-write_all-clause-front g c = λ wrote.
@@ -54,7 +78,7 @@ returns-in_err-write_all-clause-front g c = λ wrote.
     let su = stands _ _ _ (subst (λ x. IsFront 1048576 (g.U.Read.remaining c.args.passwd.now) (g.U.Read.remaining c.read_front-2.new.reader) x) (sym c.as_slice-2.ensures.value) c.in_ok-passwd.ensures.front) in
     let sg = stands _ _ _ (subst (λ x. IsFront 1048576 (g.G.Read.remaining c.args.group.now) (g.G.Read.remaining c.read_front-3.new.reader) x) (sym c.as_slice-3.ensures.value) c.in_ok-group.ensures.front) in
     let part = subst (AppendsFront (g.W.Write.contents c.args.writer.now) (g.W.Write.contents c.write_all.new.writer)) c.as_slice-4.ensures.value c.in_err-write_all.ensures.part in
-    if_known _ _ _ _ _ _ _ sp su sg (λ p u h a b d.
+    of_texts _ _ _ _ _ _ _ sp su sg (λ p u h a b d.
     (text, (status, moved w c.as_slice.result.now c.as_slice-2.result.now c.as_slice-3.result.now p u h (Ok (text, status)) a b d c.in_ok-listed.ensures.outcome), part))
 
 pub returns-clause-ok : goal.returns-clause-ok
@@ -66,7 +90,7 @@ returns-clause-ok g c =
     let su = stands _ _ _ (subst (λ x. IsFront 1048576 (g.U.Read.remaining c.args.passwd.now) (g.U.Read.remaining c.read_front-2.new.reader) x) (sym c.as_slice-2.ensures.value) c.in_ok-passwd.ensures.front) in
     let sg = stands _ _ _ (subst (λ x. IsFront 1048576 (g.G.Read.remaining c.args.group.now) (g.G.Read.remaining c.read_front-3.new.reader) x) (sym c.as_slice-3.ensures.value) c.in_ok-group.ensures.front) in
     let all = subst (Appends (g.W.Write.contents c.args.writer.now) (g.W.Write.contents c.write_all.new.writer)) c.as_slice-4.ensures.value c.in_ok-write_all.ensures.all in
-    if_known _ _ _ _ _ _ _ sp su sg (λ p u h a b d.
+    of_texts _ _ _ _ _ _ _ sp su sg (λ p u h a b d.
     (text, moved w c.as_slice.result.now c.as_slice-2.result.now c.as_slice-3.result.now p u h (Ok (text, status)) a b d c.in_ok-listed.ensures.outcome, all))
 
 pub returns-in_err-listed-clause-ended : goal.returns-in_err-listed-clause-ended
