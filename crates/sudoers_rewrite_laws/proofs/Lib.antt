@@ -13,3 +13,6 @@ mod Reached
 mod Cycles
 mod Defined
 mod SecondExpansion
+mod Matching
+mod Left
+mod FilteredRules

@@ -146,7 +146,7 @@ module _ (sign : SignLaw) (lines : List Line) (policy : IsPolicy lines) (readabl
 
   -- ---- lines
 
-  node_may : (n : Node) → IsReadable n → IsReadable (expanded_node lines n)
+  pub node_may : (n : Node) → IsReadable n → IsReadable (expanded_node lines n)
   node_may (node.Defaults scope params) is = (scope_may scope is.0, is.1)
   node_may (node.Spec users groups) is = (some_may User users is.0, groups_may groups is.1)
   node_may (node.Alias k defs) is = is

@@ -51,7 +51,7 @@ bare_readable : (ns : List Node) → AllByRecursion IsReadable ns → AreReadabl
 bare_readable [] all = tt
 bare_readable (n ∷ ns) all = (all.0, bare_readable ns all.1)
 
-kept_readable : (lines : List Line) → AreReadable lines → AreReadable (kept lines)
+pub kept_readable : (lines : List Line) → AreReadable lines → AreReadable (kept lines)
 kept_readable lines all =
     let defaults = flat_map (λ (line : Line). defaults_in line.node) lines in
     let defs = map def_of (used_definitions lines) in

@@ -8,7 +8,7 @@ ghost use Rattle.sudoers_tree.specs.Reading.{read_of};
 ghost use Rattle.sudoers_print_laws.specs.Writable.{IsWritable};
 ghost use Rattle.sudoers_cvt.specs.Rules.{lines_of, rules_of, printed, fits};
 ghost use Rattle.sudoers_cvt_laws.specs.ReadAs.{IsReadAs};
-ghost use Rattle.sudoers_rewrite.specs.Rewrite.{used_rules};
+ghost use Rattle.sudoers_rewrite.specs.Rewrite.{rewritten, used_rules, Changes as ChangesOf};
 ghost use Rattle.sudoers_rewrite_laws.specs.Expanded.{expanded};
 
 use sudoers_print_laws::{
@@ -32,6 +32,21 @@ pub fn expanded_rules_are_read()
         → IsReadAs (printed (used_rules (expanded lines))) (lines_of (used_rules (expanded lines))) }
 {
     expanded_rules_can_be_written();
+    printed_line_is_read();
+    printed_line_is_line();
+    printed_lines_are_cut();
+    read_is();
+    one_outcome();
+}
+
+/// The text that is printed of the rules that a filter leaves, if it is within the limits, is a policy. Its lines say the same as those
+/// of the rules, one by one.
+pub fn filtered_rules_are_read()
+    ensures { (changes : ChangesOf) (lines : List LineOf) → IsPolicy lines → fits (used_rules (rewritten changes lines)) ≡ true
+        → IsReadAs (printed (used_rules (rewritten changes lines))) (lines_of (used_rules (rewritten changes lines))) }
+{
+    read_can_be_written();
+    writable_is_kept();
     printed_line_is_read();
     printed_line_is_line();
     printed_lines_are_cut();

@@ -1,5 +1,6 @@
 -- Policies that `convert -f sudoers` prints.
-use Rattle.std.specs.Prelude.{◌≡◌, ◌↔◌, ℕ, Bool, true, false, List, Option, None, Ok}
+use Rattle.std.specs.Prelude.{◌≡◌, ◌↔◌, ℕ, Bool, true, false, List, Option, Some, None, Ok}
+use Rattle.std.specs.Borrow.{Bor}
 use Rattle.sudoers_tree.specs.Line.{Line}
 use Rattle.sudoers_tree.specs.Reading.{read_of}
 use Rattle.sudoers_check.specs.Chains.{HasReachableCycle}
@@ -13,7 +14,9 @@ use Rattle.sudoers_match.specs.Groups.{AreHostGroups}
 use Rattle.sudoers_print_laws.specs.Same.{AllSame, IsSame}
 use Rattle.sudoers_cvt.specs.Rules.{rules_of, lines_of}
 use Rattle.sudoers_cvt_laws.specs.ReadAs.{said_by}
-use Rattle.sudoers_rewrite.specs.Rewrite.{used_rules}
+use Rattle.sudoers_rewrite.specs.declared.filter.Filter.{Filter}
+use Rattle.sudoers_rewrite.specs.FilterText.{filter_of}
+use Rattle.sudoers_rewrite.specs.Rewrite.{Changes, rewritten, used_rules}
 use Rattle.sudoers_rewrite_laws.specs.Expanded.{expanded}
 use Rattle.sudoers_run.specs.declared.form.Form.TheVariants.{Sudoers}
 use Rattle.sudoers_run.specs.declared.words.ConvertWords.{ConvertWords}
@@ -60,3 +63,22 @@ pub record IsExpanded (input out : List ℕ) : Type 0 where
   pub default : (who : Who) (name : List ℕ) → IsRunasDefault lines who name ↔ IsRunasDefault printed who name
   pub groups : (who : Who) (places : List GroupPlace) → AreHostGroups lines who places ↔ AreHostGroups printed who places
   pub again : (prune : Bool) → convert_output (plain_words prune) out ≡ Ok out
+
+-- `-f sudoers -m`, with the text of the filter
+abbrev pub filtering_words : Bor (List ℕ) → Bool → Bool → ConvertWords
+filtering_words text prune expand = record { form = Sudoers; filter = Some text; prune = prune; expand = expand }
+
+abbrev pub filtering : Filter → Bool → Bool → Changes
+filtering f prune expand = record { filter = Some f; prune = prune; expand = expand }
+
+-- The text of the filter is one. What is printed is a policy. Its lines say what the rules say that the filter leaves, of definitions
+-- only those that are used.
+pub record IsFiltered (text : List ℕ) (prune expand : Bool) (input out : List ℕ) : Type 0 where
+  pub lines : List Line
+  pub filter : Filter
+  pub printed : List Line
+  pub was_read : read_of input ≡ Ok lines
+  pub is_filter : filter_of text ≡ Ok filter
+  pub is_read : read_of out ≡ Ok printed
+  pub was_straight : HasReachableCycle lines → ⊥
+  pub same : AllSame IsSame (lines_of (used_rules (rewritten (filtering filter prune expand) lines))) (said_by printed)

@@ -1,17 +1,19 @@
 //! Laws of what the program writes. Each is the contract of a function that does nothing.
 
 ghost use Rattle.std.specs.Prelude.{◌≡◌, ℕ, Bool, List, Ok};
+ghost use Rattle.std.specs.Borrow.{Bor};
 ghost use Rattle.sudoers_run.specs.declared.words.ListWords.{ListWords as WordsOf};
 ghost use Rattle.sudoers_run.specs.Convert.{convert_output};
 ghost use Rattle.sudoers_run.specs.List.{IsListOutcome, Outcome};
-ghost use Rattle.sudoers_run_laws.specs.Converted.{IsConverted, IsExpanded, expanding_words, plain_words};
+ghost use Rattle.sudoers_run_laws.specs.Converted.{IsConverted, IsExpanded, IsFiltered, expanding_words, filtering_words, plain_words};
 
 use sudoers_check::chains_are;
 use sudoers_cvt_laws::{printed_rules_answer, printed_rules_are_read, second_printing_is_same};
 use sudoers_list::one_listing;
 use sudoers_match::{one_answer, one_runas_default};
 use sudoers_rewrite_laws::{
-    expanded_rules_are_read, printed_expansion_answers, second_printing_of_expansion_is_same,
+    expanded_rules_are_read, filtered_rules_are_read, printed_expansion_answers,
+    second_printing_of_expansion_is_same,
 };
 use sudoers_tree::{one_outcome, read_is};
 
@@ -40,6 +42,17 @@ pub fn expanded_policy_is_printed()
     expanded_rules_are_read();
     printed_expansion_answers();
     second_printing_of_expansion_is_same();
+}
+
+/// What `convert -f sudoers -m` prints, with or without `-p` and `-e`, is a policy. Its lines say what the rules say that the filter
+/// leaves. No reachable alias of what was read is cyclic.
+pub fn filtered_policy_is_printed()
+    ensures { (text : Bor (List ℕ)) (prune expand : Bool) (input out : List ℕ) → convert_output (filtering_words text prune expand) input ≡ Ok out
+        → IsFiltered text.now prune expand input out }
+{
+    read_is();
+    chains_are();
+    filtered_rules_are_read();
 }
 
 /// The three files and the words determine what `list` writes and its status, or its fault.

@@ -5,5 +5,8 @@
 mod laws;
 mod way_back;
 
-pub use laws::{converted_policy_answers, expanded_policy_is_printed, one_list_outcome};
+pub use laws::{
+    converted_policy_answers, expanded_policy_is_printed, filtered_policy_is_printed,
+    one_list_outcome,
+};
 pub use way_back::edit_leads_back;
