@@ -3,7 +3,8 @@
 The modules large_*.py enter their cases. Each function returns the input of one
 case, what is wanted and the words of `show`, `check` or `convert`, if there are
 any; or a case, if it has files. Its name is the case's name. Every accepted edit is also run back: to the
-input, or, if it prunes, to the policy alone, since other edits undo a `prune`.
+input, or, if it prunes, to the policy alone, since other edits undo a `prune`; or its output is refused, if it is too
+large an input.
 """
 
 import glob
@@ -28,6 +29,7 @@ KINDS = (b"User_Alias", b"Runas_Alias", b"Host_Alias", b"Cmnd_Alias")
 
 CASES = []
 PRUNES = set()
+LONG_WAYS = set()
 
 
 def case(make):
@@ -41,6 +43,12 @@ def case(make):
 def case_of_prune(make):
     """Enters a function whose edits prune, so that its way back leads to the policy alone."""
     PRUNES.add(make)
+    return case(make)
+
+
+def case_of_long_way_back(make):
+    """Enters a function whose edits are accepted, with an output that is too large an input."""
+    LONG_WAYS.add(make)
     return case(make)
 
 
@@ -107,5 +115,12 @@ def run_large(program, tally, make):
     words, wanted = made.words, made.wanted
     problems = wanted.problems(run(program, words, made.stdin, files=made.files)) or converting.problems(program, words, wanted)
     if way_back.is_accepted(words, wanted) and not problems:
-        problems = way_back.problems(program, words, made.stdin, wanted.stdout, whole=make not in PRUNES)
+        problems = problems_of_way_back(program, make, made)
     tally.note(make.__name__, problems)
+
+
+def problems_of_way_back(program, make, made):
+    """What is wrong when the output of an accepted edit is given as input again."""
+    if make in LONG_WAYS:
+        return fault("InputTooLarge").problems(run(program, made.words, made.wanted.stdout))
+    return way_back.problems(program, made.words, made.stdin, made.wanted.stdout, whole=make not in PRUNES)

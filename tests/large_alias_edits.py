@@ -3,11 +3,13 @@
 from large import (
     ALIAS_LIMIT,
     EDIT_LIMIT,
+    KINDS,
     LINE_LIMIT,
     POLICY_LIMIT,
     SMALL,
     accepted,
     case,
+    case_of_long_way_back,
     case_of_prune,
     chain,
     comment,
@@ -259,6 +261,13 @@ UNUSED = (b"User_Alias A = x\n", b"Host_Alias B = h\n", b"Cmnd_Alias C = /c\n")
 def prune_that_more_edits_than_allowed_take_back():
     script = many_edits(EDIT_LIMIT - 2) + b"move 1 1\nprune\n"
     return refused(script, b"".join(UNUSED[:2]), "TooMany")
+
+
+@case_of_long_way_back
+def undo_that_is_too_large_is_written():
+    policy = b"".join(definitions(kind, ALIAS_LIMIT) for kind in KINDS[:3])
+    before = (b"insert 1\n|" + comment(LINE_LIMIT) + b"delete 1\n") * 56
+    return accepted(before + b"prune\n", policy, put_in_again(policy) + before, b"")
 
 
 @case_of_prune
