@@ -110,7 +110,7 @@ def commands(folder):
         ("`list`, lists of 16,351 runas users", 1, runas, listing(folder, "runas", runas, b"", ("-u", "t"), ("/c",))),
         ("`list`, 64,999 groups and 349,000 commands", 1, few, listing(folder, "groups", few, many_groups(), ("-u", "t", "-g", "other"), ("/c",))),
         ("`list`, `*` and a set of 60,000 bytes", 1, closed, listing(folder, "closed", closed, b"", (), ("/b", "b" * 60_000))),
-        ("`list`, `*` and 30,000 `[`", 1, unclosed, listing(folder, "unclosed", unclosed, b"", (), ("/b", "[" * 60_000))),
+        ("`list`, `*` and 30,000 `[`", 0, unclosed, listing(folder, "unclosed", unclosed, b"", (), ("/b", "[" * 60_000))),
     )
     for name, status, policy, (words, ordinary) in made:
         yield Hostile(name, words, status, len(policy), ordinary)
