@@ -8,7 +8,7 @@ use Rattle.sudoers_line.specs.declared.node.Atom.TheVariants as atom
 use Rattle.sudoers_line.specs.declared.node.Node.{Node}
 use Rattle.sudoers_line.specs.declared.node.Node.TheVariants as node
 use Rattle.sudoers_line.specs.Listed.{Listed, listed, listed_as}
-use Rattle.sudoers_reader.specs.View.{members_shown}
+use Rattle.sudoers_rows.specs.View.{members_shown}
 use Rattle.sudoers_tree.specs.Line.{Line}
 use Rattle.sudoers_tree.specs.Definition.{Definition, definitions}
 use Rattle.sudoers_check.specs.Graph.{edges_of, IsReached, IsOnCycle}

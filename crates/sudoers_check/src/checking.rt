@@ -1,7 +1,7 @@
 //! The checks.
 
 ghost use Rattle.std.specs.Prelude.{◌≡◌, ◌++◌, ◌↔◌, IsTrue, true, false, length, map, IfOk, OnOk};
-ghost use Rattle.sudoers_reader.specs.View.{node_shown};
+ghost use Rattle.sudoers_rows.specs.View.{node_shown};
 ghost use Rattle.sudoers_tree.specs.Line.{lines_shown};
 ghost use Rattle.sudoers_tree.specs.Definition.{definitions, Definition};
 ghost use Rattle.sudoers_check.specs.Chains.{HasReachableCycle};

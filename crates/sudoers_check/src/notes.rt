@@ -2,7 +2,7 @@
 
 ghost use Rattle.std.specs.Prelude.{◌≡◌, ◌++◌, ◌∷◌, [], ◌+◌, ◌<◌, ◌^◌, List, ℕ, length, map, IfOk, OnOk};
 ghost use Rattle.sudoers_line.specs.declared.node.Kind.{Kind as KindOf};
-ghost use Rattle.sudoers_reader.specs.View.{defs_shown, node_shown};
+ghost use Rattle.sudoers_rows.specs.View.{defs_shown, node_shown};
 ghost use Rattle.sudoers_tree.specs.Definition.{definitions};
 ghost use Rattle.sudoers_check.specs.Report.{note_of_mention, note_of_definition, undefined_of, undefined_behind, is_first_undefined};
 ghost use Rattle.sudoers_check.specs.Mentioned.{Mention as MentionOf};

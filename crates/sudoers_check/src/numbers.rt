@@ -2,7 +2,7 @@
 
 ghost use Rattle.std.specs.Prelude.{◌≡◌, ◌≢◌, ◌<◌, ◌≤◌, ◌++◌, ℕ, List, length, map, slice_index_or, None, IfOk, IfSome, OnOk};
 ghost use Rattle.sudoers_line.specs.declared.node.Def.{Def as DefOf};
-ghost use Rattle.sudoers_reader.specs.View.{defs_shown, members_shown, node_shown};
+ghost use Rattle.sudoers_rows.specs.View.{defs_shown, members_shown, node_shown};
 ghost use Rattle.sudoers_tree.specs.Definition.{definitions, definitions_in};
 ghost use Rattle.sudoers_tree.specs.Line.{lines_shown};
 ghost use Rattle.sudoers_check.specs.Chains.{names_in};

@@ -5,13 +5,13 @@ ghost use Rattle.std.specs.List.{flat_map};
 ghost use Rattle.std.specs.Option.{option_map};
 ghost use Rattle.sudoers_line.specs.declared.node.Kind.TheVariants.{User as OfUsers};
 ghost use Rattle.sudoers_line.specs.Listed.{listed_as, listed_runas, listed_command, listed_group};
-ghost use Rattle.sudoers_reader.specs.View.{command_shown, group_shown, groups_shown, members_shown, node_shown, runas_shown};
+ghost use Rattle.sudoers_rows.specs.View.{command_shown, group_shown, groups_shown, members_shown, node_shown, runas_shown};
 ghost use Rattle.sudoers_check.specs.Walk.{rooted, IsIdle, Tells};
 
 use crate::numbers::Numbers;
 use crate::walk::Walk;
 use std::alloc::AllocError;
-use sudoers_reader::{CmdSpec, HostGroup, RunasSpec};
+use sudoers_rows::{CmdSpec, HostGroup, RunasSpec};
 use sudoers_tree::{GroupRow, Kind, MemberRow, Node, Rows};
 
 impl<'a> Walk<'a> {

@@ -3,7 +3,7 @@
 ghost use Rattle.std.specs.Prelude.{◌≡◌, ◌<◌, ◌+◌, ◌^◌, ◌++◌, ◌∷◌, [], true, false, length, IfOk, OnOk, IfSome};
 ghost use Rattle.std.specs.Option.{option_map};
 ghost use Rattle.sudoers_line.specs.Listed.{listed_as};
-ghost use Rattle.sudoers_reader.specs.View.{atom_shown, member_shown, members_shown};
+ghost use Rattle.sudoers_rows.specs.View.{atom_shown, member_shown, members_shown};
 ghost use Rattle.sudoers_tree.specs.Definition.{definitions};
 ghost use Rattle.sudoers_check.specs.Graph.{IsOnCycle};
 ghost use Rattle.sudoers_check.specs.Numbers.{graph_of};

@@ -3,7 +3,7 @@
 ghost use Rattle.std.specs.Prelude.{◌≡◌, ◌++◌, OnOk};
 ghost use Rattle.std.specs.Option.{option_map};
 ghost use Rattle.sudoers_line.specs.declared.node.Kind.TheVariants.{Cmnd};
-ghost use Rattle.sudoers_reader.specs.View.{member_shown, runas_shown};
+ghost use Rattle.sudoers_rows.specs.View.{member_shown, runas_shown};
 ghost use Rattle.sudoers_match.specs.Heads.{Head as HeadOf};
 ghost use Rattle.sudoers_match.specs.IsHead.{IsHead};
 ghost use Rattle.sudoers_match.specs.Values.{values_shown, value_shown};
@@ -15,7 +15,7 @@ use std::alloc::{AllocError, Global};
 use sudoers_line::{Kind, OptionName, Tag};
 use sudoers_match::{Head, Options, Tags};
 use sudoers_print::{append_member, append_option, append_runas, append_tag};
-use sudoers_reader::{Member, RunasSpec};
+use sudoers_rows::{Member, RunasSpec};
 
 /// Appends an option, if it is set, and a blank.
 fn append_value(

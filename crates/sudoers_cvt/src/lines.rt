@@ -5,7 +5,7 @@ ghost use Rattle.std.specs.List.{join_by};
 ghost use Rattle.sudoers_text.specs.Fault.{line_limit};
 ghost use Rattle.sudoers_line.specs.declared.node.Kind.TheVariants.{User as OfUsers, Host as OfHosts};
 ghost use Rattle.std.specs.Option.{option_map};
-ghost use Rattle.sudoers_reader.specs.View.{commands_shown, def_shown, group_shown, groups_shown, members_shown, params_shown, scope_shown};
+ghost use Rattle.sudoers_rows.specs.View.{commands_shown, def_shown, group_shown, groups_shown, members_shown, params_shown, scope_shown};
 ghost use Rattle.sudoers_print.specs.Parameters.{printed_defaults};
 ghost use Rattle.sudoers_print.specs.Commands.{printed_command};
 ghost use Rattle.sudoers_print.specs.Lines.{printed_def, printed_group, printed_line, printed_spec};
@@ -21,7 +21,7 @@ use std::alloc::{AllocError, Global};
 use sudoers_line::{Kind, kind_name};
 use sudoers_match::Head;
 use sudoers_print::{append_defaults, append_list};
-use sudoers_reader::{CommandRow, Def, GroupRow, HostGroup, MemberRow, ParamRow, Rows, Scope};
+use sudoers_rows::{CommandRow, Def, GroupRow, HostGroup, MemberRow, ParamRow, Rows, Scope};
 use sudoers_text::LINE_LIMIT;
 
 /// Appends the commands of a host group, each with all that holds of it.

@@ -3,7 +3,7 @@
 ghost use Rattle.std.specs.Prelude.{◌≡◌, ◌⊎◌, true, false, ◌≤◌, ◌<◌, ◌++◌, length, map, IfOk, OnOk, IfErr};
 ghost use Rattle.std.specs.List.{AllByRecursion};
 ghost use Rattle.sudoers_text.specs.Fault.{text_limit, line_limit};
-ghost use Rattle.sudoers_reader.specs.View.{member_shown};
+ghost use Rattle.sudoers_rows.specs.View.{member_shown};
 ghost use Rattle.sudoers_match.specs.Heads.{Head as HeadOf};
 ghost use Rattle.sudoers_match.specs.IsHead.{IsHead};
 ghost use Rattle.sudoers_print.specs.Commands.{printed_command};
@@ -21,7 +21,7 @@ use crate::rule::Rule;
 use crate::rules::Rules;
 use std::alloc::{AllocError, Global};
 use sudoers_match::Head;
-use sudoers_reader::Member;
+use sudoers_rows::Member;
 use sudoers_text::TEXT_LIMIT;
 
 /// Appends rules, a line each.

@@ -1,7 +1,7 @@
 //! The rules of a policy.
 
 ghost use Rattle.std.specs.Prelude.{◌≡◌, ◌++◌, map, IfOk, IfErr, OnOk};
-ghost use Rattle.sudoers_reader.specs.View.{defs_shown, node_shown};
+ghost use Rattle.sudoers_rows.specs.View.{defs_shown, node_shown};
 ghost use Rattle.sudoers_cvt.specs.declared.fault.CvtFault.TheVariants.{NoMemory};
 ghost use Rattle.sudoers_cvt.specs.Rule.{rule_shown};
 ghost use Rattle.sudoers_cvt.specs.Rules.{defaults_in, defs_in, one_def, rules_of, specs_in, marked, with_marked};
@@ -12,7 +12,7 @@ use crate::rule::Rule;
 use std::alloc::{AllocError, Global};
 use std::marker::Model;
 use sudoers_line::Kind;
-use sudoers_reader::{DefRow, Node, Rows};
+use sudoers_rows::{DefRow, Node, Rows};
 use sudoers_tree::LineRow;
 
 /// The rules of a policy: its Defaults lines, its definitions of aliases and its user specifications, each in file order. Contracts

@@ -3,9 +3,9 @@ ghost use Rattle.std.specs.Prelude.{◌≡◌, Bool, map};
 ghost use Rattle.sudoers_line.specs.declared.node.Def.{Def as DefOf};
 ghost use Rattle.sudoers_line.specs.declared.node.Digest.{Digest as DigestOf};
 ghost use Rattle.sudoers_line.specs.declared.node.Member.{Member as MemberOf};
-ghost use Rattle.sudoers_reader.specs.declared.rows.Tables.{Tables as TablesOf};
-ghost use Rattle.sudoers_reader.specs.Tables.{def_in, digest_in, member_in};
-ghost use Rattle.sudoers_reader.specs.View.{args_shown, atom_shown};
+ghost use Rattle.sudoers_rows.specs.declared.rows.Tables.{Tables as TablesOf};
+ghost use Rattle.sudoers_rows.specs.Tables.{def_in, digest_in, member_in};
+ghost use Rattle.sudoers_rows.specs.View.{args_shown, atom_shown};
 ghost use Rattle.sudoers_edit.specs.Alike.{are_alike as alike_lists, is_same_digest as same_digest, is_same_mask as same_mask, is_same_args as same_args, is_same_atom as same_atom, is_same_member as same_member, is_same_def as same_def};
 
 use sudoers_tree::{Args, Atom, DefRow, DigestRow, Mask, MemberRow, Rows, Tables};

@@ -1,7 +1,7 @@
 //! Where the name of an alias stands in a line.
 ghost use Rattle.std.specs.Prelude.{◌≡◌, ◌++◌, IfOk, OnOk};
 ghost use Rattle.std.specs.List.{flat_map};
-ghost use Rattle.sudoers_reader.specs.View.{def_shown, defs_shown, members_shown, node_shown};
+ghost use Rattle.sudoers_rows.specs.View.{def_shown, defs_shown, members_shown, node_shown};
 ghost use Rattle.sudoers_edit.specs.Renaming.{start_if, starts_among, starts_in_def, starts_in};
 
 use std::alloc::{AllocError, Global};

@@ -8,7 +8,7 @@ ghost use Rattle.sudoers_edit.specs.Landing.{changed_or_refusal};
 ghost use Rattle.sudoers_tree.specs.Changed.{replaced};
 ghost use Rattle.sudoers_edit.specs.Leading.{Lands, Replaces, PutIn, CutOut, IsKnown, IsDefAt};
 ghost use Rattle.sudoers_edit.specs.SpliceEdits.{Lines, put_in as with_more, cut_out as with_less, with_defs, with_def, defs_of};
-ghost use Rattle.sudoers_reader.specs.View.{def_shown, defs_shown};
+ghost use Rattle.sudoers_rows.specs.View.{def_shown, defs_shown};
 ghost use Rattle.sudoers_tree.specs.Line.{Line as LineOf, line_shown};
 ghost use Rattle.sudoers_line.specs.declared.node.Def.{Def as DefOf};
 ghost use Rattle.sudoers_tree.specs.declared.place.Place.{Place as PlaceOf};

@@ -1,14 +1,14 @@
 //! What matches a member of a list.
 
 ghost use Rattle.std.specs.Prelude.{◌≡◌};
-ghost use Rattle.sudoers_reader.specs.View.{args_shown, atom_shown};
+ghost use Rattle.sudoers_rows.specs.View.{args_shown, atom_shown};
 ghost use Rattle.sudoers_hits.specs.Hits.{is_same_name, belongs_to, belongs_to_number, user_hits, group_hits, has_dot, name_hits, host_hits, directory_of, path_hits, args_hit, command_hits};
 
 use crate::asked::{CommandLine, Group, Person, Who};
 use crate::network::network_hits;
 use crate::wildcards::{GlobMode, glob, glob_as_read};
 use sudoers_line::ends_with;
-use sudoers_reader::{Args, Atom};
+use sudoers_rows::{Args, Atom};
 
 /// Returns whether the names are one, letter case ignored.
 #[tactic(auto, using(crate::proofs::Names::same_names))]

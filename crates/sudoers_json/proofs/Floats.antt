@@ -11,8 +11,8 @@ use Rattle.sudoers_line.specs.declared.node.Scope.{Scope}
 use Rattle.sudoers_line.specs.declared.node.Param.{Param}
 use Rattle.sudoers_line.specs.declared.node.Def.{Def}
 use Rattle.sudoers_print.specs.Parameters.{printed_param}
-use Rattle.sudoers_reader.specs.declared.view.Member.{Member as MemberView}
-use Rattle.sudoers_reader.specs.View.{runas_shown}
+use Rattle.sudoers_rows.specs.declared.view.Member.{Member as MemberView}
+use Rattle.sudoers_rows.specs.View.{runas_shown}
 use Rattle.sudoers_match.specs.declared.head.Head.{Head as HeadHeld}
 use Rattle.std.specs.Option.{option_map}
 use Rattle.sudoers_json.specs.Value.{texts_value, member_texts, members_value, part_value, runas_value, def_value, scope_value, defaults_value}

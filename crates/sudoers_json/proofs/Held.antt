@@ -9,8 +9,8 @@ use Rattle.sudoers_line.specs.declared.node.RunasSpec.{RunasSpec}
 use Rattle.sudoers_line.specs.declared.node.OptionName.{OptionName}
 use Rattle.sudoers_line.specs.declared.node.OptionName.TheVariants as option
 use Rattle.sudoers_line.specs.declared.node.Tag.{Tag}
-use Rattle.sudoers_reader.specs.declared.view.Member.{Member as MemberView}
-use Rattle.sudoers_reader.specs.View.{member_shown}
+use Rattle.sudoers_rows.specs.declared.view.Member.{Member as MemberView}
+use Rattle.sudoers_rows.specs.View.{member_shown}
 use Rattle.sudoers_match.specs.declared.head.Head.{Head as HeadHeld}
 use Rattle.sudoers_match.specs.declared.options.Options.{Options}
 use Rattle.sudoers_match.specs.declared.tags.Tags.{Tags}

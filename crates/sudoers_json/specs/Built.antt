@@ -13,8 +13,8 @@ use Rattle.sudoers_line.specs.declared.node.OptionName.{OptionName}
 use Rattle.sudoers_line.specs.declared.node.OptionName.TheVariants as option
 use Rattle.sudoers_line.specs.declared.node.Tag.{Tag}
 use Rattle.sudoers_line.specs.declared.node.Tag.TheVariants as tag
-use Rattle.sudoers_reader.specs.declared.view.Member.{Member as MemberView}
-use Rattle.sudoers_reader.specs.View.{def_shown, groups_shown, member_shown, members_shown, params_shown, runas_shown, scope_shown}
+use Rattle.sudoers_rows.specs.declared.view.Member.{Member as MemberView}
+use Rattle.sudoers_rows.specs.View.{def_shown, groups_shown, member_shown, members_shown, params_shown, runas_shown, scope_shown}
 use Rattle.sudoers_match.specs.declared.head.Head.{Head as HeadHeld}
 use Rattle.sudoers_match.specs.declared.options.Options.{Options}
 use Rattle.sudoers_match.specs.declared.tags.Tags.{Tags}

@@ -3,7 +3,7 @@
 ghost use Rattle.std.specs.Prelude.{◌≡◌, ◌++◌, false, true, map, OnOk, IfErr};
 ghost use Rattle.serde_json.specs.Written.{compact_text};
 ghost use Rattle.sudoers_line.specs.declared.node.Kind.TheVariants.{User as OfUsers, Host as OfHosts};
-ghost use Rattle.sudoers_reader.specs.View.{commands_shown, group_shown, groups_shown, members_shown};
+ghost use Rattle.sudoers_rows.specs.View.{commands_shown, group_shown, groups_shown, members_shown};
 ghost use Rattle.sudoers_cvt.specs.Effective.{effective_commands, effective_group};
 ghost use Rattle.sudoers_json.specs.Value.{members_value, command_value, group_value, spec_value};
 ghost use Rattle.sudoers_json.specs.Unicode.{is_unicode};
@@ -15,7 +15,7 @@ use std::alloc::Global;
 use sudoers_cvt::{CvtFault, Rule};
 use sudoers_line::Kind;
 use sudoers_match::Head;
-use sudoers_reader::{CommandRow, GroupRow, HostGroup, Member, MemberRow, Rows};
+use sudoers_rows::{CommandRow, GroupRow, HostGroup, Member, MemberRow, Rows};
 
 /// Appends the command `member`, of which `head` holds.
 fn append_command(

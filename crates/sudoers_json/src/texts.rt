@@ -2,7 +2,7 @@
 
 ghost use Rattle.std.specs.Prelude.{◌≡◌, map, IfOk};
 ghost use Rattle.std.specs.List.{filter_map};
-ghost use Rattle.sudoers_reader.specs.View.{member_shown, members_shown, param_shown, params_shown};
+ghost use Rattle.sudoers_rows.specs.View.{member_shown, members_shown, param_shown, params_shown};
 ghost use Rattle.sudoers_print.specs.Members.{printed_member};
 ghost use Rattle.sudoers_print.specs.Commands.{printed_option, printed_tag};
 ghost use Rattle.sudoers_print.specs.Parameters.{printed_param};
@@ -13,7 +13,7 @@ use std::alloc::{AllocError, Global};
 use sudoers_line::{Kind, OptionName, Tag};
 use sudoers_match::{Options, Tags};
 use sudoers_print::{append_member, append_option, append_param, append_tag};
-use sudoers_reader::{Member, MemberRow, Param, ParamRow, Rows};
+use sudoers_rows::{Member, MemberRow, Param, ParamRow, Rows};
 
 /// Returns a member of a list of `kind`. With `first`, a line begins with it.
 pub fn member_text(

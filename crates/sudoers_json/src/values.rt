@@ -4,7 +4,7 @@ ghost use Rattle.std.specs.Prelude.{◌≡◌, true, codes, IfOk, IfErr, OnOk};
 ghost use Rattle.std.specs.Option.{option_map};
 ghost use Rattle.serde_json.specs.Data.{object, member, no_members};
 ghost use Rattle.serde_json.specs.View.{view};
-ghost use Rattle.sudoers_reader.specs.View.{def_shown, members_shown, params_shown, runas_shown, scope_shown};
+ghost use Rattle.sudoers_rows.specs.View.{def_shown, members_shown, params_shown, runas_shown, scope_shown};
 ghost use Rattle.sudoers_line.specs.declared.node.Kind.TheVariants.{Runas};
 ghost use Rattle.sudoers_json.specs.Value.{members_value, part_value, runas_value, def_value, scope_value, defaults_value};
 ghost use Rattle.sudoers_json.specs.Unicode.{is_unicode};
@@ -18,7 +18,7 @@ use sudoers_cvt::CvtFault;
 use sudoers_line::{Kind, kind_name};
 use sudoers_match::Head;
 use sudoers_print::scope_mark;
-use sudoers_reader::{Def, Member, MemberRow, ParamRow, Rows, RunasSpec, Scope};
+use sudoers_rows::{Def, Member, MemberRow, ParamRow, Rows, RunasSpec, Scope};
 
 /// Returns a list of `kind` as a value. With `first`, a line begins with it.
 pub fn members_value(

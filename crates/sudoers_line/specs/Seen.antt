@@ -1,4 +1,4 @@
--- A device of the proof, which no public contract cites: what the code hands on without where it lies in memory.
+-- What a part of a line says, without where its text lies in memory.
 use Rattle.std.specs.Prelude.{ℕ, List, Option, Some, None}
 use Rattle.std.specs.Borrow.{Bor}
 use Rattle.sudoers_line.specs.declared.part.Part.{Part}

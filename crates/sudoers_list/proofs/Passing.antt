@@ -7,12 +7,12 @@ use Rattle.sudoers_line.specs.declared.node.Kind.TheVariants.{Runas}
 use Rattle.sudoers_line.specs.declared.node.CmdSpec.{CmdSpec}
 use Rattle.sudoers_line.specs.declared.node.HostGroup.{HostGroup}
 use Rattle.sudoers_line.specs.declared.node.Member.{Member}
-use Rattle.sudoers_reader.specs.declared.list.Rows.{Rows}
-use Rattle.sudoers_reader.specs.declared.rows.GroupRow.{GroupRow}
-use Rattle.sudoers_reader.specs.declared.rows.MemberRow.{MemberRow}
-use Rattle.sudoers_reader.specs.declared.view.Node.{Node as NodeView}
-use Rattle.sudoers_reader.specs.declared.view.Node.TheVariants as view
-use Rattle.sudoers_reader.specs.View.{node_shown}
+use Rattle.sudoers_rows.specs.declared.list.Rows.{Rows}
+use Rattle.sudoers_rows.specs.declared.rows.GroupRow.{GroupRow}
+use Rattle.sudoers_rows.specs.declared.rows.MemberRow.{MemberRow}
+use Rattle.sudoers_rows.specs.declared.view.Node.{Node as NodeView}
+use Rattle.sudoers_rows.specs.declared.view.Node.TheVariants as view
+use Rattle.sudoers_rows.specs.View.{node_shown}
 use Rattle.sudoers_tree.specs.Line.{Line}
 use Rattle.sudoers_tree.specs.Policy.{texts}
 use Rattle.sudoers_match.specs.declared.head.Head.{Head as HeadHeld}

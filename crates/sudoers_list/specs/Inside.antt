@@ -4,7 +4,7 @@ use Rattle.sudoers_line.specs.declared.node.CmdSpec.{CmdSpec}
 use Rattle.sudoers_line.specs.declared.node.HostGroup.{HostGroup}
 use Rattle.sudoers_line.specs.declared.node.Kind.TheVariants.{Runas}
 use Rattle.sudoers_line.specs.declared.node.Member.{Member}
-use Rattle.sudoers_reader.specs.View.{groups_shown}
+use Rattle.sudoers_rows.specs.View.{groups_shown}
 use Rattle.sudoers_match.specs.declared.head.Head.{Head as HeadHeld}
 use Rattle.sudoers_match.specs.Heads.{Head, filled}
 use Rattle.sudoers_match.specs.IsHead.{IsHead}

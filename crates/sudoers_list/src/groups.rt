@@ -2,12 +2,12 @@
 
 ghost use Rattle.std.specs.Prelude.{◌≡◌, map, IfOk};
 ghost use Rattle.std.specs.Option.{option_map};
-ghost use Rattle.sudoers_reader.specs.View.{group_shown, groups_shown};
+ghost use Rattle.sudoers_rows.specs.View.{group_shown, groups_shown};
 ghost use Rattle.sudoers_list.specs.Listing.{group_at, groups_at, groups_in};
 
 use std::alloc::{AllocError, Global};
 use sudoers_match::GroupPlace;
-use sudoers_reader::{GroupRow, HostGroup, Node, Rows};
+use sudoers_rows::{GroupRow, HostGroup, Node, Rows};
 use sudoers_tree::Policy;
 
 /// Returns the host groups of each user specification.

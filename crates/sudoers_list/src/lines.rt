@@ -4,7 +4,7 @@ ghost use Rattle.std.specs.Prelude.{◌≡◌, ◌++◌, codes, false, map, slic
 ghost use Rattle.std.specs.List.{flat_map};
 ghost use Rattle.std.specs.Option.{option_map};
 ghost use Rattle.sudoers_line.specs.declared.node.Kind.TheVariants.{Runas as RunasKind};
-ghost use Rattle.sudoers_reader.specs.View.{commands_shown, group_shown, member_shown, members_shown, runas_shown};
+ghost use Rattle.sudoers_rows.specs.View.{commands_shown, group_shown, member_shown, members_shown, runas_shown};
 ghost use Rattle.sudoers_match.specs.Heads.{Head as HeadOf};
 ghost use Rattle.sudoers_match.specs.IsHead.{IsHead};
 ghost use Rattle.sudoers_print.specs.Members.{printed_list};
@@ -18,7 +18,7 @@ use sudoers_cvt::print_command;
 use sudoers_line::{Items, Kind};
 use sudoers_match::Head;
 use sudoers_print::{append_list, append_member};
-use sudoers_reader::{Atom, CommandRow, HostGroup, Member, MemberRow, Rows, RunasSpec, Tables};
+use sudoers_rows::{Atom, CommandRow, HostGroup, Member, MemberRow, Rows, RunasSpec, Tables};
 
 /// A user who may run something, and the user as whom he runs it where nothing else is said.
 #[derive(Clone, Copy)]

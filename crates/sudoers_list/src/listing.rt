@@ -1,7 +1,7 @@
 //! The listing of a user.
 
 ghost use Rattle.std.specs.Prelude.{◌≡◌, ◌⊎◌, ◌++◌, map, OnOk, IfOk, IfErr};
-ghost use Rattle.sudoers_reader.specs.View.{group_shown};
+ghost use Rattle.sudoers_rows.specs.View.{group_shown};
 ghost use Rattle.sudoers_check.specs.Chains.{HasReachableCycle};
 ghost use Rattle.sudoers_verdict.specs.declared.verdict.AskFault.TheVariants.{Cycle, NoMemory};
 ghost use Rattle.sudoers_list.specs.Listing.{IsListing, heading, stop, verb};
@@ -11,7 +11,7 @@ use crate::lines::{Names, append_groups, append_plain};
 use std::alloc::{AllocError, Global};
 use sudoers_hits::Who;
 use sudoers_match::{host_groups, runas_default};
-use sudoers_reader::{HostGroup, Tables};
+use sudoers_rows::{HostGroup, Tables};
 use sudoers_tree::Policy;
 use sudoers_verdict::AskFault;
 

@@ -2,7 +2,7 @@
 
 ghost use Rattle.std.specs.Prelude.{◌≡◌, ◌⊎◌, ◌++◌, slice_get, IfOk, IfErr, OnOk};
 ghost use Rattle.std.specs.Option.{option_map};
-ghost use Rattle.sudoers_reader.specs.View.{group_shown};
+ghost use Rattle.sudoers_rows.specs.View.{group_shown};
 ghost use Rattle.sudoers_check.specs.Chains.{HasReachableCycle};
 ghost use Rattle.sudoers_verdict.specs.declared.verdict.AskFault.TheVariants.{Cycle, NoMemory};
 ghost use Rattle.sudoers_match.specs.Answer.{answer_shown};
@@ -14,7 +14,7 @@ use std::alloc::{AllocError, Global};
 use sudoers_hits::Who;
 use sudoers_match::{Answer, runas_default};
 use sudoers_print::append_number;
-use sudoers_reader::{GroupRow, HostGroup, Node, Rows};
+use sudoers_rows::{GroupRow, HostGroup, Node, Rows};
 use sudoers_tree::{Line, Policy, lf_count};
 use sudoers_verdict::AskFault;
 

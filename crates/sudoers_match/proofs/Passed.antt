@@ -3,18 +3,18 @@ use Rattle.std.proofs.Common.{◌≡◌, ℕ, ◌+◌, ◌<◌, ◌≤◌, List,
 use Rattle.std.specs.List.{cons_option}
 use Rattle.std.proofs.lemmas.List.{drop_more, drop_all}
 use Rattle.sudoers_line.specs.declared.node.Node.TheVariants as node
-use Rattle.sudoers_reader.specs.declared.list.Rows.{Rows}
-use Rattle.sudoers_reader.specs.declared.rows.MemberRow.{MemberRow}
-use Rattle.sudoers_reader.specs.declared.rows.GroupRow.{GroupRow}
-use Rattle.sudoers_reader.specs.declared.rows.Tables.{Tables}
+use Rattle.sudoers_rows.specs.declared.list.Rows.{Rows}
+use Rattle.sudoers_rows.specs.declared.rows.MemberRow.{MemberRow}
+use Rattle.sudoers_rows.specs.declared.rows.GroupRow.{GroupRow}
+use Rattle.sudoers_rows.specs.declared.rows.Tables.{Tables}
 use Rattle.std.specs.Option.{option_map}
-use Rattle.sudoers_reader.specs.declared.rows.ParamRow.{ParamRow}
-use Rattle.sudoers_reader.specs.declared.view.Scope.{Scope as ScopeView}
+use Rattle.sudoers_rows.specs.declared.rows.ParamRow.{ParamRow}
+use Rattle.sudoers_rows.specs.declared.view.Scope.{Scope as ScopeView}
 use Rattle.sudoers_match.specs.Default.{defaults_in}
-use Rattle.sudoers_reader.specs.declared.view.Node.{Node as NodeView}
-use Rattle.sudoers_reader.specs.declared.view.Node.TheVariants as view
-use Rattle.sudoers_reader.specs.Tables.{node_in}
-use Rattle.sudoers_reader.specs.View.{members_shown, groups_shown, params_shown, scope_shown, node_shown}
+use Rattle.sudoers_rows.specs.declared.view.Node.{Node as NodeView}
+use Rattle.sudoers_rows.specs.declared.view.Node.TheVariants as view
+use Rattle.sudoers_rows.specs.Tables.{node_in}
+use Rattle.sudoers_rows.specs.View.{members_shown, groups_shown, params_shown, scope_shown, node_shown}
 use Rattle.sudoers_tree.specs.Line.{Line, line_in}
 use Rattle.sudoers_tree.specs.declared.line.LineRow.{LineRow}
 use Rattle.sudoers_hits.specs.declared.asked.Who.{Who}

@@ -1,7 +1,7 @@
 //! Lists that allow what is asked.
 
 ghost use Rattle.std.specs.Prelude.{◌≡◌, IfOk};
-ghost use Rattle.sudoers_reader.specs.View.{members_shown};
+ghost use Rattle.sudoers_rows.specs.View.{members_shown};
 ghost use Rattle.sudoers_verdict.specs.Flat.{IsLatest, IsVerdict};
 ghost use Rattle.sudoers_verdict.specs.Search.{Remembers};
 ghost use Rattle.sudoers_match.specs.Allows.{Permits};

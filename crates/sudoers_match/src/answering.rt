@@ -4,7 +4,7 @@ ghost use Rattle.std.specs.Prelude.{◌≡◌, ◌⊎◌, ◌<◌, ◌≤◌, �
 ghost use Rattle.std.specs.Option.{option_map};
 ghost use Rattle.sudoers_line.specs.declared.node.Kind.TheVariants.{User as OfUsers, Host as OfHosts, Cmnd as OfCommands};
 ghost use Rattle.sudoers_line.specs.declared.node.Member.{Member as MemberOf};
-ghost use Rattle.sudoers_reader.specs.View.{group_shown, groups_shown, members_shown, runas_shown};
+ghost use Rattle.sudoers_rows.specs.View.{group_shown, groups_shown, members_shown, runas_shown};
 ghost use Rattle.sudoers_hits.specs.Hits.{user_hits, host_hits};
 ghost use Rattle.sudoers_check.specs.Chains.{HasReachableCycle};
 ghost use Rattle.sudoers_verdict.specs.declared.verdict.AskFault.TheVariants.{Cycle, TooLong, NoMemory};
@@ -28,7 +28,7 @@ use crate::straight::number_straight;
 use std::alloc::{AllocError, Global};
 use sudoers_hits::{CommandLine, Request};
 use sudoers_line::Items;
-use sudoers_reader::HostGroup;
+use sudoers_rows::HostGroup;
 use sudoers_tree::{GroupRow, Kind, MemberRow, Node, Policy, Rows};
 use sudoers_verdict::{AskFault, Commands, Hosts, Users, Verdicts, flat_or_cycle, one_flat};
 

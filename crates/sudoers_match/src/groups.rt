@@ -2,7 +2,7 @@
 
 ghost use Rattle.std.specs.Prelude.{◌≡◌, ◌⊎◌, ◌++◌, ◌∷◌, [], IfOk, IfErr, OnOk};
 ghost use Rattle.sudoers_line.specs.declared.node.Kind.TheVariants.{Host as OfHosts};
-ghost use Rattle.sudoers_reader.specs.View.{groups_shown};
+ghost use Rattle.sudoers_rows.specs.View.{groups_shown};
 ghost use Rattle.sudoers_hits.specs.Hits.{host_hits};
 ghost use Rattle.sudoers_check.specs.Chains.{HasReachableCycle};
 ghost use Rattle.sudoers_verdict.specs.declared.verdict.AskFault.TheVariants.{Cycle, NoMemory};

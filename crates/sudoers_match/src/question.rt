@@ -2,7 +2,7 @@
 
 ghost use Rattle.std.specs.Prelude.{◌≡◌, IfOk};
 ghost use Rattle.sudoers_line.specs.declared.node.Kind.TheVariants.{User as OfUsers, Runas as OfRunas, Host as OfHosts};
-ghost use Rattle.sudoers_reader.specs.View.{members_shown, runas_shown};
+ghost use Rattle.sudoers_rows.specs.View.{members_shown, runas_shown};
 ghost use Rattle.std.specs.Option.{option_map};
 ghost use Rattle.sudoers_hits.specs.Hits.{user_hits, host_hits};
 ghost use Rattle.sudoers_verdict.specs.Search.{Remembers};
@@ -17,7 +17,7 @@ use crate::allowing::{allows, find_hit};
 use std::alloc::{AllocError, Global};
 use sudoers_check::Numbers;
 use sudoers_hits::{CommandLine, Group, Request, belongs_to_number, is_same_name};
-use sudoers_reader::RunasSpec;
+use sudoers_rows::RunasSpec;
 use sudoers_tree::{Kind, MemberRow, Rows};
 use sudoers_verdict::{Groups, Users, Verdict, Verdicts, one_verdict};
 

@@ -1,7 +1,7 @@
 //! Parts of policies, appended to a text. Where memory runs out, the text stays as it was.
 
 ghost use Rattle.std.specs.Prelude.{◌≡◌, ◌++◌, OnErr, OnOk, option_map};
-ghost use Rattle.sudoers_reader.specs.View.{member_shown, members_shown, param_shown, params_shown, runas_shown, scope_shown};
+ghost use Rattle.sudoers_rows.specs.View.{member_shown, members_shown, param_shown, params_shown, runas_shown, scope_shown};
 ghost use Rattle.sudoers_print.specs.Commands.{printed_option, printed_runas};
 ghost use Rattle.sudoers_print.specs.Members.{printed_list, printed_member};
 ghost use Rattle.sudoers_print.specs.Parameters.{printed_defaults, printed_param};
@@ -13,7 +13,7 @@ use crate::runas::add_runas;
 use crate::words::add_option;
 use std::alloc::{AllocError, Global};
 use sudoers_line::{Kind, OptionName};
-use sudoers_reader::{Member, MemberRow, Param, ParamRow, Rows, RunasSpec, Scope};
+use sudoers_rows::{Member, MemberRow, Param, ParamRow, Rows, RunasSpec, Scope};
 
 /// Appends a list of `kind`. With `first`, the line begins with it.
 ///

@@ -1,13 +1,13 @@
 //! Lists of members as they are printed (sudoers(5), Aliases).
 
 ghost use Rattle.std.specs.Prelude.{◌≡◌, ◌++◌, codes, false, OnOk};
-ghost use Rattle.sudoers_reader.specs.View.{members_shown};
+ghost use Rattle.sudoers_rows.specs.View.{members_shown};
 ghost use Rattle.sudoers_print.specs.Members.{printed_list};
 
 use crate::members::add_member;
 use std::alloc::{AllocError, Global};
 use sudoers_line::Kind;
-use sudoers_reader::{MemberRow, Rows};
+use sudoers_rows::{MemberRow, Rows};
 
 /// Appends a list of `kind`. With `first`, the line begins with it.
 ///

@@ -1,7 +1,7 @@
 //! Members of lists as they are printed (sudoers(5), Aliases).
 
 ghost use Rattle.std.specs.Prelude.{◌≡◌, ◌++◌, codes, false, OnOk};
-ghost use Rattle.sudoers_reader.specs.View.{args_shown, atom_shown, digest_shown, digests_shown, member_shown};
+ghost use Rattle.sudoers_rows.specs.View.{args_shown, atom_shown, digest_shown, digests_shown, member_shown};
 ghost use Rattle.sudoers_text.specs.Word.{is_among};
 ghost use Rattle.sudoers_print.specs.Members.{other_words, begins_other, reads_else, printed_name, spelled_args, printed_args, printed_netgroup, printed_atom, digest_word, printed_digest, printed_digests, sign, printed_member};
 ghost use Rattle.std.specs.Fmt.{decimal};
@@ -12,7 +12,7 @@ use crate::numbers::{append_address, append_mask, append_number};
 use crate::spelling::{append_escaped, append_escaped_byte, append_spelled, guard};
 use std::alloc::{AllocError, Global};
 use sudoers_line::{DigestKind, Kind, Spelling, begins_with};
-use sudoers_reader::{Args, Atom, Digest, DigestRow, Member, Rows};
+use sudoers_rows::{Args, Atom, Digest, DigestRow, Member, Rows};
 use sudoers_text::is_name;
 
 /// Returns whether `text` is a word with which a line begins that is no user specification.

@@ -1,7 +1,7 @@
 //! Defaults lines as they are printed (sudoers(5), Defaults).
 
 ghost use Rattle.std.specs.Prelude.{◌≡◌, ◌++◌, codes, OnOk, option_map};
-ghost use Rattle.sudoers_reader.specs.View.{param_shown, params_shown, scope_shown, setting_shown};
+ghost use Rattle.sudoers_rows.specs.View.{param_shown, params_shown, scope_shown, setting_shown};
 ghost use Rattle.std.specs.List.{list_all};
 ghost use Rattle.sudoers_print.specs.Parameters.{operator_mark, is_plain, is_plain_value, fits_quotes, printed_value, printed_setting, printed_param, printed_params, scope_mark, printed_scope, printed_defaults};
 
@@ -9,7 +9,7 @@ use crate::lists::add_list;
 use crate::spelling::{append_spelled, is_control};
 use std::alloc::{AllocError, Global};
 use sudoers_line::{Kind, Operator};
-use sudoers_reader::{Param, ParamRow, Rows, Scope};
+use sudoers_rows::{Param, ParamRow, Rows, Scope};
 
 /// Returns the mark of an operator.
 fn operator_mark(operator: Operator) -> &'static [u8]

@@ -1,13 +1,13 @@
 //! Runas_Specs as they are printed (sudoers(5), Runas_Spec).
 
 ghost use Rattle.std.specs.Prelude.{◌≡◌, ◌++◌, codes, OnOk};
-ghost use Rattle.sudoers_reader.specs.View.{runas_shown, members_shown};
+ghost use Rattle.sudoers_rows.specs.View.{runas_shown, members_shown};
 ghost use Rattle.sudoers_print.specs.Commands.{printed_inside, printed_runas};
 
 use crate::lists::add_list;
 use std::alloc::{AllocError, Global};
 use sudoers_line::Kind;
-use sudoers_reader::RunasSpec;
+use sudoers_rows::RunasSpec;
 
 /// Appends what stands in the parentheses.
 fn append_inside(alloc: Global, out: &mut Vec<u8>, runas: &RunasSpec<'_>) -> Result<(), AllocError>

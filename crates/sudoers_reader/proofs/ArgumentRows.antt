@@ -4,13 +4,13 @@ use Rattle.sudoers_line.specs.declared.node.Args.{Args}
 use Rattle.sudoers_line.specs.declared.node.Member.{Member}
 use Rattle.sudoers_line.specs.declared.arguments.Program.{Program}
 use Rattle.sudoers_line.specs.Arguments.{program_of, program_atom}
-use Rattle.sudoers_reader.specs.declared.rows.ArgsRow.{ArgsRow}
-use Rattle.sudoers_reader.specs.declared.rows.AtomRow.{AtomRow}
-use Rattle.sudoers_reader.specs.declared.rows.MemberRow.{MemberRow}
-use Rattle.sudoers_reader.specs.declared.rows.Tables.{Tables}
+use Rattle.sudoers_rows.specs.declared.rows.ArgsRow.{ArgsRow}
+use Rattle.sudoers_rows.specs.declared.rows.AtomRow.{AtomRow}
+use Rattle.sudoers_rows.specs.declared.rows.MemberRow.{MemberRow}
+use Rattle.sudoers_rows.specs.declared.rows.Tables.{Tables}
 use Rattle.sudoers_reader.specs.Descent.{with_args}
-use Rattle.sudoers_reader.specs.Tables.{Grown, Keeps, Lasts, args_in, atom_in, digests_in, member_in}
-use Rattle.sudoers_reader.proofs.Growth.{grown_self, grown_on}
+use Rattle.sudoers_rows.specs.Tables.{Grown, Keeps, Lasts, args_in, atom_in, digests_in, member_in}
+use Rattle.sudoers_rows.proofs.Growth.{grown_self, grown_on}
 
 -- the row with another atom, that ends elsewhere
 abbrev pub argued_row : MemberRow → ℕ → AtomRow → MemberRow

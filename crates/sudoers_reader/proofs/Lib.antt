@@ -9,7 +9,6 @@ pub mod AliasLaws
 pub mod DefaultsLaws
 pub mod LineLaws
 pub mod First
-pub mod Growth
 pub mod Loops
 pub mod TokenRows
 pub mod Tokens
@@ -18,7 +17,4 @@ pub mod SoFar
 pub mod ManySoFar
 pub mod WordRows
 pub mod ArgumentRows
-pub mod CutBack
-pub mod LastRow
-pub mod WalkLaws
 pub mod Contract

@@ -4,12 +4,13 @@ use Rattle.std.proofs.lemmas.List.{map-append}
 use Rattle.sudoers_line.specs.Piece.{Piece}
 use Rattle.sudoers_reader.specs.declared.cursor.Halted.{Halted}
 use Rattle.sudoers_reader.specs.declared.cursor.Halted.TheVariants.{Fault, NoMemory}
-use Rattle.sudoers_reader.specs.declared.rows.Range.{Range}
-use Rattle.sudoers_reader.specs.declared.rows.Tables.{Tables}
+use Rattle.sudoers_rows.specs.declared.rows.Range.{Range}
+use Rattle.sudoers_rows.specs.declared.rows.Tables.{Tables}
 use Rattle.sudoers_reader.specs.Reader.{Read, Reader, comes, many, snoc}
-use Rattle.sudoers_reader.specs.Tables.{Grown, Lasts, ReadsAs}
+use Rattle.sudoers_rows.specs.Tables.{Grown, Lasts}
+use Rattle.sudoers_reader.specs.Answer.{ReadsAs}
 use Rattle.sudoers_reader.proofs.Repeats.{Shrinks, next_read, next_halt, next_none}
-use Rattle.sudoers_reader.proofs.Growth.{grown_self, grown_on}
+use Rattle.sudoers_rows.proofs.Growth.{grown_self, grown_on}
 
 pub record ManySoFar {R X : Type 0} (view : Tables → R → X) (begins : Piece → Bool) (p : Reader X) (begun : Tables) (all : List Piece) (now : Tables) (left : List Piece) (rows : List R) : Type 0 where
   pub reads : many snoc begins p [] all ≡ many snoc begins p (map (view now) rows) left

@@ -2,14 +2,15 @@
 use Rattle.std.proofs.Common.{◌≡◌, ℕ, Err, true, false, List, [], ◌∷◌, ◌++◌, map, length, sym, ap, ◌∙◌}
 use Rattle.std.proofs.lemmas.List.{map-append}
 use Rattle.sudoers_line.specs.Piece.{Piece, is_mark}
-use Rattle.sudoers_reader.specs.declared.rows.Tables.{Tables}
-use Rattle.sudoers_reader.specs.declared.rows.Range.{Range}
+use Rattle.sudoers_rows.specs.declared.rows.Tables.{Tables}
+use Rattle.sudoers_rows.specs.declared.rows.Range.{Range}
 use Rattle.sudoers_reader.specs.declared.cursor.Halted.{Halted}
 use Rattle.sudoers_reader.specs.declared.cursor.Halted.TheVariants.{Fault, NoMemory}
 use Rattle.sudoers_reader.specs.Reader.{Outcome, Read, Halt, Reader, comes, onward, many, snoc, behind, separated}
-use Rattle.sudoers_reader.specs.Tables.{Grows, Grown, Lasts, IsRange, listed, ReadsAs}
+use Rattle.sudoers_rows.specs.Tables.{Grows, Grown, Lasts, IsRange, listed}
+use Rattle.sudoers_reader.specs.Answer.{ReadsAs}
 use Rattle.sudoers_reader.proofs.Repeats.{Shrinks, next_read, next_halt, next_none}
-use Rattle.sudoers_reader.proofs.Growth.{grown_on, added}
+use Rattle.sudoers_rows.proofs.Growth.{grown_on, added}
 
 pub record SoFar {R X : Type 0} (view : Tables → R → X) (b : ℕ) (p : Reader X) (begun : Tables) (all : List Piece) (now : Tables) (left : List Piece) (rows : List R) : Type 0 where
   pub reads : separated b p all ≡ many snoc (is_mark b) (behind b p) (map (view now) rows) left

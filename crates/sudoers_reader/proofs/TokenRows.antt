@@ -6,15 +6,15 @@ use Rattle.sudoers_line.specs.declared.node.Atom.{Atom}
 use Rattle.sudoers_line.specs.declared.node.Member.{Member}
 use Rattle.sudoers_line.specs.Piece.{Piece}
 use Rattle.sudoers_line.specs.Atom.{atom_of}
-use Rattle.sudoers_reader.specs.declared.rows.AtomRow.{AtomRow}
-use Rattle.sudoers_reader.specs.declared.rows.MemberRow.{MemberRow}
-use Rattle.sudoers_reader.specs.declared.rows.Tables.{Tables}
+use Rattle.sudoers_rows.specs.declared.rows.AtomRow.{AtomRow}
+use Rattle.sudoers_rows.specs.declared.rows.MemberRow.{MemberRow}
+use Rattle.sudoers_rows.specs.declared.rows.Tables.{Tables}
 use Rattle.sudoers_reader.specs.Reader.{Outcome, Read, Halt, one}
 use Rattle.sudoers_reader.specs.Descent.{member_of, one_atom}
 use Rattle.sudoers_reader.specs.Cursor.{first}
-use Rattle.sudoers_reader.specs.Tables.{Grown, Keeps, KeepsSome, Lasts, atom_in, member_in}
+use Rattle.sudoers_rows.specs.Tables.{Grown, Keeps, KeepsSome, Lasts, atom_in, member_in}
 use Rattle.sudoers_reader.proofs.Keeps.{one_reads, one_halts}
-use Rattle.sudoers_reader.proofs.Growth.{grown_self}
+use Rattle.sudoers_rows.proofs.Growth.{grown_self}
 
 -- the first token, and those behind it
 pub first_is : (ts : List Piece) (t : Piece) → Some t ≡ first ts → ts ≡ t ∷ drop 1 ts

@@ -9,16 +9,17 @@ use Rattle.sudoers_line.specs.Piece.{Piece, is_some, is_mark, ends_with, digest_
 use Rattle.sudoers_line.specs.Grammar.{Separated, IsDigest}
 use Rattle.sudoers_line.specs.Atom.{bare_command, takes_digests}
 use Rattle.sudoers_line.specs.Arguments.{suits, program_of}
-use Rattle.sudoers_reader.specs.declared.rows.AtomRow.{AtomRow}
-use Rattle.sudoers_reader.specs.declared.rows.Range.{Range}
-use Rattle.sudoers_reader.specs.declared.rows.WordRow.{WordRow}
-use Rattle.sudoers_reader.specs.declared.rows.Tables.{Tables}
+use Rattle.sudoers_rows.specs.declared.rows.AtomRow.{AtomRow}
+use Rattle.sudoers_rows.specs.declared.rows.Range.{Range}
+use Rattle.sudoers_reader.specs.declared.words.WordRow.{WordRow}
+use Rattle.sudoers_rows.specs.declared.rows.Tables.{Tables}
 use Rattle.sudoers_reader.specs.Descent.{member_of, begun, one_word, room, argument, arguments, behind_word, says, digest, digests}
 use Rattle.sudoers_reader.specs.Reader.{Outcome, Read, Halt, comes, pure, separated}
 use Rattle.sudoers_reader.proofs.Keeps.{Tells as ToldBy, chosen, other}
 use Rattle.sudoers_reader.proofs.DigestLaws.{digest_list_lawful}
-use Rattle.sudoers_reader.proofs.Growth.{grown_on}
-use Rattle.sudoers_reader.specs.Tables.{Grown, Lasts, Tells, atom_in, digests_in, word_in}
+use Rattle.sudoers_rows.proofs.Growth.{grown_on}
+use Rattle.sudoers_rows.specs.Tables.{Grown, Lasts, atom_in, digests_in}
+use Rattle.sudoers_reader.specs.Answer.{Tells, word_in}
 
 -- ---- digests
 

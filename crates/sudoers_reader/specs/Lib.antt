@@ -1,7 +1,5 @@
 pub mod Reader
 pub mod Descent
 pub mod Cursor
-pub mod Tables
+pub mod Answer
 pub mod Outcome
-pub mod Counts
-pub mod View

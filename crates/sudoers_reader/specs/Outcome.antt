@@ -10,11 +10,11 @@ use Rattle.sudoers_line.specs.declared.fault.LineFault.TheVariants.{Syntax, NoMe
 use Rattle.sudoers_line.specs.declared.node.Node.{Node}
 use Rattle.sudoers_line.specs.Piece.{Piece, pieces}
 use Rattle.sudoers_line.specs.Line.{ReadsLine, IsFault, line_stop, place_or}
-use Rattle.sudoers_reader.specs.declared.rows.NodeRow.{NodeRow}
-use Rattle.sudoers_reader.specs.declared.rows.Tables.{Tables}
+use Rattle.sudoers_rows.specs.declared.rows.NodeRow.{NodeRow}
+use Rattle.sudoers_rows.specs.declared.rows.Tables.{Tables}
 use Rattle.sudoers_reader.specs.Reader.{Outcome, Read, Halt}
 use Rattle.sudoers_reader.specs.Descent.{line as reading, cause_at}
-use Rattle.sudoers_reader.specs.Tables.{Lasts, node_in}
+use Rattle.sudoers_rows.specs.Tables.{Lasts, node_in}
 
 -- the fault behind so many of these tokens; stop: where the line has ended
 abbrev pub fault_behind : ℕ → ℕ → List Piece → LineFault

@@ -3,13 +3,13 @@
 ghost use Rattle.std.specs.Prelude.{◌≡◌, ◌++◌, length, IfOk};
 ghost use Rattle.sudoers_reader.specs.Reader.{behind, separated};
 ghost use Rattle.sudoers_reader.specs.Descent.{alias, def};
-ghost use Rattle.sudoers_reader.specs.Tables.{ReadsAs, Grown, IsRange, def_in, defs_in, node_in};
+ghost use Rattle.sudoers_rows.specs.Tables.{Grown, IsRange, def_in, defs_in, node_in};
+ghost use Rattle.sudoers_reader.specs.Answer.{ReadsAs};
 
 use crate::cursor::{Cursor, Halted};
 use crate::lists::list;
 use crate::members::push;
-use crate::rows::{DefRow, NodeRow, Range, Tables};
-use crate::tables::{keep_rows, keep_text, place};
+use sudoers_rows::{DefRow, NodeRow, Range, Tables, keep_rows, keep_text, place};
 use std::alloc::{AllocError, Global};
 use sudoers_line::Kind;
 

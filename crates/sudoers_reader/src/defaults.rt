@@ -5,12 +5,13 @@ ghost use Rattle.sudoers_line.specs.Piece.{scope_sign};
 ghost use Rattle.sudoers_reader.specs.Reader.{one, perhaps};
 ghost use Rattle.sudoers_reader.specs.Descent.{defaults, params, scope, scoped};
 ghost use Rattle.sudoers_reader.specs.Cursor.{itself, Reads};
-ghost use Rattle.sudoers_reader.specs.Tables.{ReadsAs, Grown, Lasts, node_in, scope_in};
+ghost use Rattle.sudoers_rows.specs.Tables.{Grown, Lasts, node_in, scope_in};
+ghost use Rattle.sudoers_reader.specs.Answer.{ReadsAs};
 
 use crate::cursor::{Cursor, Halted};
 use crate::lists::scope_list;
 use crate::params::params;
-use crate::rows::{NodeRow, ScopeRow, Tables};
+use sudoers_rows::{NodeRow, ScopeRow, Tables};
 use std::alloc::Global;
 
 /// Reads a scope, directly behind the word that ends at this byte.

@@ -3,12 +3,12 @@
 ghost use Rattle.std.specs.Prelude.{◌≡◌, ◌∷◌, ◌++◌, [], length, IfOk};
 ghost use Rattle.sudoers_reader.specs.Reader.{behind, separated};
 ghost use Rattle.sudoers_reader.specs.Descent.{digest, digests};
-ghost use Rattle.sudoers_reader.specs.Tables.{ReadsAs, Grown, IsRange, digest_in, digests_in};
+ghost use Rattle.sudoers_rows.specs.Tables.{Grown, IsRange, digest_in, digests_in};
+ghost use Rattle.sudoers_reader.specs.Answer.{ReadsAs};
 
 use crate::cursor::{Cursor, Halted};
 use crate::members::push;
-use crate::rows::{DigestRow, NONE, Range, Tables};
-use crate::tables::{keep_rows, keep_text};
+use sudoers_rows::{DigestRow, NONE, Range, Tables, keep_rows, keep_text};
 use std::alloc::{AllocError, Global};
 
 /// Reads a digest.

@@ -5,11 +5,11 @@ ghost use Rattle.sudoers_line.specs.Atom.{path_value};
 ghost use Rattle.sudoers_line.specs.Seen.{seen};
 ghost use Rattle.sudoers_reader.specs.Reader.{one};
 ghost use Rattle.sudoers_reader.specs.Descent.{include};
-ghost use Rattle.sudoers_reader.specs.Tables.{ReadsAs, Grown, KeepsSome, node_in, text_in};
+ghost use Rattle.sudoers_rows.specs.Tables.{Grown, KeepsSome, node_in, text_in};
+ghost use Rattle.sudoers_reader.specs.Answer.{ReadsAs};
 
 use crate::cursor::{Cursor, Halted};
-use crate::rows::{NodeRow, Tables, Text};
-use crate::tables::keep_text;
+use sudoers_rows::{NodeRow, Tables, Text, keep_text};
 use std::alloc::{AllocError, Global};
 use sudoers_line::{Part, path_value};
 

@@ -7,9 +7,7 @@ ghost use Rattle.sudoers_line.specs.declared.node.Node.{Node as NodeOf};
 ghost use Rattle.sudoers_line.specs.Piece.{Piece as PieceOf};
 ghost use Rattle.sudoers_line.specs.Grammar.{Reads};
 ghost use Rattle.sudoers_line.specs.Fault.{IsFirstFault};
-ghost use Rattle.sudoers_reader.specs.declared.rows.Tables.{Tables as TablesOf};
 ghost use Rattle.sudoers_reader.specs.Reader.{Read, Halt};
-ghost use Rattle.sudoers_reader.specs.Tables.{Grown};
 ghost use Rattle.sudoers_reader.specs.Descent.{line, cause_at};
 
 use sudoers_text::{one_token_list, tokens_are};
@@ -45,9 +43,3 @@ pub fn outcome_is()
 {
     tokens_are();
 }
-
-/// Tables have grown by nothing from themselves, and on from those that have grown.
-pub fn growth_goes_on()
-    ensures same { (t : TablesOf) → Grown t t }
-    ensures on { (t u v : TablesOf) → Grown t u → Grown u v → Grown t v }
-{}

@@ -3,13 +3,14 @@
 ghost use Rattle.std.specs.Prelude.{◌≡◌, []};
 ghost use Rattle.sudoers_reader.specs.Reader.{ended};
 ghost use Rattle.sudoers_reader.specs.Descent.{alias_line, comment_line, defaults_line, include_line, last, line, spec_line};
-ghost use Rattle.sudoers_reader.specs.Tables.{ReadsAs, Grown, Lasts, node_in};
+ghost use Rattle.sudoers_rows.specs.Tables.{Grown, Lasts, node_in};
+ghost use Rattle.sudoers_reader.specs.Answer.{ReadsAs};
 
 use crate::aliases::alias;
 use crate::cursor::{Cursor, Halted};
 use crate::defaults::defaults;
 use crate::includes::include;
-use crate::rows::{NodeRow, Tables};
+use sudoers_rows::{NodeRow, Tables};
 use crate::specs_of_users::spec;
 use std::alloc::Global;
 

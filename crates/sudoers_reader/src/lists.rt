@@ -3,13 +3,13 @@
 ghost use Rattle.std.specs.Prelude.{◌≡◌, ◌++◌, length, IfOk};
 ghost use Rattle.sudoers_reader.specs.Reader.{behind, separated};
 ghost use Rattle.sudoers_reader.specs.Descent.{command, list, scope_command, scope_list};
-ghost use Rattle.sudoers_reader.specs.Tables.{ReadsAs, Grown, IsRange, member_in, members_in};
+ghost use Rattle.sudoers_rows.specs.Tables.{Grown, IsRange, member_in, members_in};
+ghost use Rattle.sudoers_reader.specs.Answer.{ReadsAs};
 
 use crate::commands::{command, scope_command};
 use crate::cursor::{Cursor, Halted};
 use crate::members::{members, push};
-use crate::rows::{MemberRow, Range, Tables};
-use crate::tables::keep_rows;
+use sudoers_rows::{MemberRow, Range, Tables, keep_rows};
 use std::alloc::{AllocError, Global};
 use sudoers_line::Kind;
 

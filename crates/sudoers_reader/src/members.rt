@@ -5,11 +5,11 @@ ghost use Rattle.sudoers_line.specs.Seen.{seen};
 ghost use Rattle.sudoers_reader.specs.Reader.{behind, one};
 ghost use Rattle.sudoers_reader.specs.Descent.{signs, one_atom, member, members};
 ghost use Rattle.sudoers_reader.specs.Cursor.{Reads, IsSigned};
-ghost use Rattle.sudoers_reader.specs.Tables.{ReadsAs, Grown, IsRange, member_in, members_in};
+ghost use Rattle.sudoers_rows.specs.Tables.{Grown, IsRange, member_in, members_in};
+ghost use Rattle.sudoers_reader.specs.Answer.{ReadsAs};
 
 use crate::cursor::{Cursor, Halted};
-use crate::rows::{MemberRow, NONE, Range, Tables};
-use crate::tables::{keep_member, keep_rows, place};
+use sudoers_rows::{MemberRow, NONE, Range, Tables, keep_member, keep_rows, place};
 use std::alloc::{AllocError, Global};
 use sudoers_line::Kind;
 

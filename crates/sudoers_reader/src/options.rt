@@ -6,12 +6,12 @@ ghost use Rattle.sudoers_line.specs.Atom.{option_value};
 ghost use Rattle.sudoers_line.specs.Seen.{seen};
 ghost use Rattle.sudoers_reader.specs.Reader.{many, one, snoc};
 ghost use Rattle.sudoers_reader.specs.Descent.{option, says, tag};
-ghost use Rattle.sudoers_reader.specs.Tables.{ReadsAs, Grown, IsRange, KeepsSome, option_in, options_in, tag_in, tags_in, text_in};
+ghost use Rattle.sudoers_rows.specs.Tables.{Grown, IsRange, KeepsSome, option_in, options_in, tag_in, tags_in, text_in};
+ghost use Rattle.sudoers_reader.specs.Answer.{ReadsAs};
 
 use crate::cursor::{Cursor, Halted};
 use crate::members::push;
-use crate::rows::{OptionRow, Range, Tables, TagRow, Text};
-use crate::tables::{keep_rows, keep_text};
+use sudoers_rows::{OptionRow, Range, Tables, TagRow, Text, keep_rows, keep_text};
 use std::alloc::{AllocError, Global};
 use sudoers_line::{OptionName, Part, option_value};
 

@@ -5,12 +5,12 @@ ghost use Rattle.sudoers_text.specs.Value.{value_of};
 ghost use Rattle.sudoers_line.specs.Seen.{seen};
 ghost use Rattle.sudoers_reader.specs.Reader.{behind, separated};
 ghost use Rattle.sudoers_reader.specs.Descent.{flag, flagged, named, param, setting};
-ghost use Rattle.sudoers_reader.specs.Tables.{ReadsAs, Grown, IsRange, Keeps, param_in, params_in, text_in};
+ghost use Rattle.sudoers_rows.specs.Tables.{Grown, IsRange, Keeps, param_in, params_in, text_in};
+ghost use Rattle.sudoers_reader.specs.Answer.{ReadsAs};
 
 use crate::cursor::{Cursor, Halted};
 use crate::members::{push, signs};
-use crate::rows::{ParamRow, Range, SettingRow, Tables, Text};
-use crate::tables::{keep_rows, keep_text};
+use sudoers_rows::{ParamRow, Range, SettingRow, Tables, Text, keep_rows, keep_text};
 use std::alloc::{AllocError, Global};
 use sudoers_line::Part;
 

@@ -6,20 +6,20 @@ ghost use Rattle.sudoers_line.specs.Fault.{cause, some_word, some_stamp, some_pa
 ghost use Rattle.sudoers_line.specs.declared.fault.Why.{Why as WhyOf};
 ghost use Rattle.sudoers_line.specs.declared.node.Node.{Node as NodeOf};
 ghost use Rattle.sudoers_line.specs.Line.{ReadsLine, IsFault, IsFaultOf, Gives, Refuses, last_line_end, line_stop};
-ghost use Rattle.sudoers_reader.specs.View.{node_shown};
+ghost use Rattle.sudoers_rows.specs.View.{node_shown};
 ghost use Rattle.sudoers_line.specs.Piece.{pieces};
 ghost use Rattle.sudoers_line.specs.Seen.{seen};
 ghost use Rattle.sudoers_reader.specs.Descent.{awaited, line as reading, may_stand};
 ghost use Rattle.sudoers_reader.specs.Outcome.{GivesRow, LineGives, fault_behind, outcome_by, outcome_of};
-ghost use Rattle.sudoers_reader.specs.Tables.{Grown};
+ghost use Rattle.sudoers_rows.specs.Tables.{Grown};
 
 use crate::cursor::{Cursor, Halted};
 use crate::laws::{one_reading, outcome_is};
 use crate::lines::line as read_whole;
-use crate::rows::{NodeRow, Tables};
-use crate::view::Node;
+use sudoers_rows::{Node, NodeRow, Tables};
 use std::alloc::{AllocError, Global};
 use std::boxed::Box;
+use std::fmt;
 use std::marker::Model;
 use sudoers_line::{
     Awaited, LineFault, Part, Why, cause_of, ends_with, no_fault, one_fault, part_of,
@@ -221,4 +221,10 @@ pub fn parse(alloc: Global, line: &[u8]) -> Result<Reading, LineFault>
     let row = read_line(alloc, &mut tables, line)?;
     let tables = Box::new(alloc, tables)?;
     Ok(Reading { tables, row })
+}
+
+impl fmt::Debug for Reading {
+    fn fmt<W: fmt::Write>(&self, f: &mut fmt::Formatter<W>) -> fmt::Result {
+        self.node().fmt(f)
+    }
 }

@@ -5,11 +5,12 @@ ghost use Rattle.sudoers_line.specs.Piece.{is_mark};
 ghost use Rattle.sudoers_line.specs.declared.node.Kind.TheVariants.{Runas};
 ghost use Rattle.sudoers_reader.specs.Reader.{behind, perhaps};
 ghost use Rattle.sudoers_reader.specs.Descent.{members, runas_users, runas_groups, runas};
-ghost use Rattle.sudoers_reader.specs.Tables.{ReadsAs, Grown, members_in, runas_in, perhaps_runas_in};
+ghost use Rattle.sudoers_rows.specs.Tables.{Grown, members_in, runas_in, perhaps_runas_in};
+ghost use Rattle.sudoers_reader.specs.Answer.{ReadsAs};
 
 use crate::cursor::{Cursor, Halted};
 use crate::members::members;
-use crate::rows::{NONE, Range, RunasRow, Tables};
+use sudoers_rows::{NONE, Range, RunasRow, Tables};
 use std::alloc::Global;
 use sudoers_line::Kind;
 

@@ -3,15 +3,15 @@
 ghost use Rattle.std.specs.Prelude.{◌≡◌, ◌++◌, length, IfOk};
 ghost use Rattle.sudoers_reader.specs.Reader.{behind, separated};
 ghost use Rattle.sudoers_reader.specs.Descent.{cmd_spec, host_group, spec};
-ghost use Rattle.sudoers_reader.specs.Tables.{ReadsAs, Grown, IsRange, command_in, commands_in, group_in, groups_in, node_in};
+ghost use Rattle.sudoers_rows.specs.Tables.{Grown, IsRange, command_in, commands_in, group_in, groups_in, node_in};
+ghost use Rattle.sudoers_reader.specs.Answer.{ReadsAs};
 
 use crate::commands::command;
 use crate::cursor::{Cursor, Halted};
 use crate::members::{members, push};
 use crate::options::{options, tags};
-use crate::rows::{CommandRow, GroupRow, NodeRow, Range, Tables};
+use sudoers_rows::{CommandRow, GroupRow, NodeRow, Range, Tables, keep_rows};
 use crate::runas::maybe_runas;
-use crate::tables::keep_rows;
 use std::alloc::{AllocError, Global};
 use sudoers_line::Kind;
 

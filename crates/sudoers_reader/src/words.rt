@@ -4,16 +4,23 @@ ghost use Rattle.std.specs.Prelude.{◌≡◌, List, IfOk};
 ghost use Rattle.sudoers_line.specs.declared.node.Digest.{Digest as DigestOf};
 ghost use Rattle.sudoers_line.specs.Atom.{bare_command, takes_digests};
 ghost use Rattle.sudoers_line.specs.Arguments.{suits};
-ghost use Rattle.sudoers_reader.specs.declared.rows.Tables.{Tables as TablesOf};
+ghost use Rattle.sudoers_rows.specs.declared.rows.Tables.{Tables as TablesOf};
 ghost use Rattle.sudoers_reader.specs.Reader.{one};
 ghost use Rattle.sudoers_reader.specs.Descent.{one_word};
-ghost use Rattle.sudoers_reader.specs.Tables.{ReadsAs, Grown, KeepsSome, Lasts, Tells, atom_in, digests_in, word_in};
+ghost use Rattle.sudoers_rows.specs.Tables.{Grown, KeepsSome, Lasts, atom_in, digests_in};
+ghost use Rattle.sudoers_reader.specs.Answer.{ReadsAs, Tells, word_in};
 
 use crate::cursor::{Cursor, Halted};
-use crate::rows::{AtomRow, MemberRow, Range, Tables, WordRow};
-use crate::tables::{keep_atom, place};
+use sudoers_rows::{AtomRow, MemberRow, Range, Tables, keep_atom, place};
 use std::alloc::{AllocError, Global};
 use sudoers_line::{Part, bare_command, ends_with};
+
+/// A command by its word; whether the word leaves room for arguments.
+#[derive(Clone, Copy)]
+pub struct WordRow {
+    pub member: MemberRow,
+    pub has_room: bool,
+}
 
 /// Keeps what the token is as a command without arguments, if it is one.
 fn keep_bare(

@@ -4,19 +4,19 @@ use Rattle.std.specs.List.{slice_range}
 use Rattle.std.proofs.Math.Seq.{drop-append_seam, take-append_seam}
 use Rattle.sudoers_line.specs.declared.node.Args.TheVariants as args
 use Rattle.sudoers_line.specs.declared.node.Atom.TheVariants as atom
-use Rattle.sudoers_reader.specs.declared.rows.Range.{Range}
-use Rattle.sudoers_reader.specs.declared.rows.Text.{Text}
-use Rattle.sudoers_reader.specs.declared.rows.ArgsRow.{ArgsRow}
-use Rattle.sudoers_reader.specs.declared.rows.ArgsRow.TheVariants as args_row
-use Rattle.sudoers_reader.specs.declared.rows.AtomRow.{AtomRow}
-use Rattle.sudoers_reader.specs.declared.rows.AtomRow.TheVariants as atom_row
-use Rattle.sudoers_reader.specs.declared.rows.DigestRow.{DigestRow}
-use Rattle.sudoers_reader.specs.declared.rows.MemberRow.{MemberRow}
-use Rattle.sudoers_reader.specs.declared.rows.OptionRow.{OptionRow}
-use Rattle.sudoers_reader.specs.declared.rows.SettingRow.{SettingRow}
-use Rattle.sudoers_reader.specs.declared.rows.ParamRow.{ParamRow}
-use Rattle.sudoers_reader.specs.declared.rows.Tables.{Tables}
-use Rattle.sudoers_reader.specs.Tables.{Grows, IsRange, listed, text_in, args_in, atom_in, digest_in, digests_in, member_in, option_in, options_in, tag_in, tags_in, setting_in, param_in, params_in}
+use Rattle.sudoers_rows.specs.declared.rows.Range.{Range}
+use Rattle.sudoers_rows.specs.declared.rows.Text.{Text}
+use Rattle.sudoers_rows.specs.declared.rows.ArgsRow.{ArgsRow}
+use Rattle.sudoers_rows.specs.declared.rows.ArgsRow.TheVariants as args_row
+use Rattle.sudoers_rows.specs.declared.rows.AtomRow.{AtomRow}
+use Rattle.sudoers_rows.specs.declared.rows.AtomRow.TheVariants as atom_row
+use Rattle.sudoers_rows.specs.declared.rows.DigestRow.{DigestRow}
+use Rattle.sudoers_rows.specs.declared.rows.MemberRow.{MemberRow}
+use Rattle.sudoers_rows.specs.declared.rows.OptionRow.{OptionRow}
+use Rattle.sudoers_rows.specs.declared.rows.SettingRow.{SettingRow}
+use Rattle.sudoers_rows.specs.declared.rows.ParamRow.{ParamRow}
+use Rattle.sudoers_rows.specs.declared.rows.Tables.{Tables}
+use Rattle.sudoers_rows.specs.Tables.{Grows, IsRange, listed, text_in, args_in, atom_in, digest_in, digests_in, member_in, option_in, options_in, tag_in, tags_in, setting_in, param_in, params_in}
 use Rattle.sudoers_rewrite.specs.Extended.{IsLike, Extended}
 
 -- ---- lists that grow

@@ -7,8 +7,8 @@ use Rattle.sudoers_line.specs.declared.node.Kind.{Kind}
 use Rattle.sudoers_line.specs.declared.node.Atom.TheVariants as atom
 use Rattle.sudoers_line.specs.declared.node.Def.{Def}
 use Rattle.sudoers_line.specs.declared.node.Member.{Member}
-use Rattle.sudoers_reader.specs.declared.rows.Tables.{Tables}
-use Rattle.sudoers_reader.specs.Tables.{member_in}
+use Rattle.sudoers_rows.specs.declared.rows.Tables.{Tables}
+use Rattle.sudoers_rows.specs.Tables.{member_in}
 use Rattle.sudoers_tree.specs.Line.{Line}
 use Rattle.sudoers_tree.specs.Definition.{Definition, definitions, definitions_from}
 use Rattle.sudoers_check.specs.Numbers.{number_of}

@@ -5,11 +5,11 @@ use Rattle.std.specs.Option.{option_map}
 use Rattle.sudoers_line.specs.declared.node.Kind.TheVariants.{Cmnd}
 use Rattle.sudoers_line.specs.declared.node.CmdSpec.{CmdSpec}
 use Rattle.sudoers_line.specs.declared.node.HostGroup.{HostGroup}
-use Rattle.sudoers_reader.specs.declared.rows.CommandRow.{CommandRow}
-use Rattle.sudoers_reader.specs.declared.rows.MemberRow.{MemberRow}
-use Rattle.sudoers_reader.specs.declared.rows.RunasRow.{RunasRow}
-use Rattle.sudoers_reader.specs.declared.rows.Tables.{Tables}
-use Rattle.sudoers_reader.specs.Tables.{member_in, command_in, options_in, tags_in, perhaps_runas_in}
+use Rattle.sudoers_rows.specs.declared.rows.CommandRow.{CommandRow}
+use Rattle.sudoers_rows.specs.declared.rows.MemberRow.{MemberRow}
+use Rattle.sudoers_rows.specs.declared.rows.RunasRow.{RunasRow}
+use Rattle.sudoers_rows.specs.declared.rows.Tables.{Tables}
+use Rattle.sudoers_rows.specs.Tables.{member_in, command_in, options_in, tags_in, perhaps_runas_in}
 use Rattle.sudoers_tree.specs.Line.{Line}
 use Rattle.sudoers_cvt.specs.declared.fault.CvtFault.{CvtFault}
 use Rattle.sudoers_rewrite.specs.Count.{member_limit, runas_count, commands_count, group_count, groups_count}

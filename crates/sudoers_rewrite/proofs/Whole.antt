@@ -10,8 +10,8 @@ use Rattle.sudoers_line.specs.declared.node.Scope.{Scope}
 use Rattle.sudoers_line.specs.declared.node.Node.{Node}
 use Rattle.sudoers_line.specs.declared.node.Node.TheVariants as node
 use Rattle.std.proofs.lemmas.List.{at_drop_all, at_drop_more}
-use Rattle.sudoers_reader.specs.declared.rows.Tables.{Tables}
-use Rattle.sudoers_reader.specs.Tables.{node_in, text_in}
+use Rattle.sudoers_rows.specs.declared.rows.Tables.{Tables}
+use Rattle.sudoers_rows.specs.Tables.{node_in, text_in}
 use Rattle.sudoers_tree.specs.declared.line.LineRow.{LineRow}
 use Rattle.sudoers_tree.specs.Line.{Line, line_in}
 use Rattle.sudoers_cvt.specs.declared.fault.CvtFault.{CvtFault}

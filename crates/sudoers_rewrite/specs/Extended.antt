@@ -1,7 +1,7 @@
 -- A device of the proof, which no public contract cites: tables to which lists are added, with the texts of others.
 use Rattle.std.specs.Prelude.{◌≡◌}
-use Rattle.sudoers_reader.specs.declared.rows.Tables.{Tables}
-use Rattle.sudoers_reader.specs.Tables.{Grows}
+use Rattle.sudoers_rows.specs.declared.rows.Tables.{Tables}
+use Rattle.sudoers_rows.specs.Tables.{Grows}
 
 -- They have the same texts, digests, options, tags and parameters. So one member says the same in both.
 pub record IsLike (t u : Tables) : Type 0 where

@@ -5,9 +5,9 @@ use Rattle.sudoers_line.specs.declared.node.Kind.TheVariants.{User, Host}
 use Rattle.sudoers_line.specs.declared.node.HostGroup.{HostGroup}
 use Rattle.sudoers_line.specs.declared.node.Node.{Node}
 use Rattle.sudoers_line.specs.declared.node.Node.TheVariants as node
-use Rattle.sudoers_reader.specs.declared.rows.NodeRow.{NodeRow}
-use Rattle.sudoers_reader.specs.declared.rows.Tables.{Tables}
-use Rattle.sudoers_reader.specs.Tables.{commands_in, member_in, node_in}
+use Rattle.sudoers_rows.specs.declared.rows.NodeRow.{NodeRow}
+use Rattle.sudoers_rows.specs.declared.rows.Tables.{Tables}
+use Rattle.sudoers_rows.specs.Tables.{commands_in, member_in, node_in}
 use Rattle.sudoers_tree.specs.Line.{Line}
 use Rattle.sudoers_check.specs.Chain.{Has}
 use Rattle.sudoers_match.specs.Straight.{IsStraight, ScopeIsStraight}

@@ -11,11 +11,11 @@ use Rattle.sudoers_line.specs.declared.node.HostGroup.{HostGroup}
 use Rattle.sudoers_line.specs.declared.node.Scope.{Scope}
 use Rattle.sudoers_line.specs.declared.node.Node.{Node}
 use Rattle.sudoers_line.specs.declared.node.Node.TheVariants as node
-use Rattle.sudoers_reader.specs.declared.rows.Tables.{Tables}
-use Rattle.sudoers_reader.specs.declared.rows.ScopeRow.{ScopeRow}
-use Rattle.sudoers_reader.specs.declared.rows.CommandRow.{CommandRow}
-use Rattle.sudoers_reader.specs.declared.rows.MemberRow.{MemberRow}
-use Rattle.sudoers_reader.specs.Tables.{command_in, member_in, perhaps_runas_in, scope_in}
+use Rattle.sudoers_rows.specs.declared.rows.Tables.{Tables}
+use Rattle.sudoers_rows.specs.declared.rows.ScopeRow.{ScopeRow}
+use Rattle.sudoers_rows.specs.declared.rows.CommandRow.{CommandRow}
+use Rattle.sudoers_rows.specs.declared.rows.MemberRow.{MemberRow}
+use Rattle.sudoers_rows.specs.Tables.{command_in, member_in, perhaps_runas_in, scope_in}
 use Rattle.sudoers_tree.specs.Line.{Line}
 use Rattle.sudoers_verdict.specs.Flattened.{flattened}
 use Rattle.sudoers_cvt.specs.declared.fault.CvtFault.{CvtFault}

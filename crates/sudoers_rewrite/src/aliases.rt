@@ -1,7 +1,7 @@
 //! Aliases, found in the rows of a policy.
 
 ghost use Rattle.std.specs.Prelude.{◌≡◌, None, length, map, MatchOption};
-ghost use Rattle.sudoers_reader.specs.Tables.{atom_in};
+ghost use Rattle.sudoers_rows.specs.Tables.{atom_in};
 ghost use Rattle.sudoers_tree.specs.Definition.{definitions};
 ghost use Rattle.sudoers_tree.specs.Line.{lines_shown};
 ghost use Rattle.sudoers_verdict.specs.Flat.{alias_of};
@@ -10,7 +10,7 @@ ghost use Rattle.sudoers_rewrite.specs.Shortcuts.{AreShortcuts, IsChain, defined
 use crate::definitions::DefinitionRow;
 use crate::shortcuts::Shortcut;
 use sudoers_check::Numbers;
-use sudoers_reader::{AtomRow, MemberRow, Rows};
+use sudoers_rows::{AtomRow, MemberRow, Rows};
 use sudoers_tree::{Kind, LineRow, Policy};
 
 /// The members of an alias, and the last members of the chain of aliases that begins with it. So many replacements lead from the first

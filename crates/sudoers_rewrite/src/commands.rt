@@ -3,8 +3,8 @@
 ghost use Rattle.std.specs.Prelude.{◌≡◌, ◌+◌, ◌++◌, true, List, map, IfOk, IfErr, OnOk};
 ghost use Rattle.std.specs.List.{flat_map};
 ghost use Rattle.sudoers_line.specs.declared.node.CmdSpec.{CmdSpec};
-ghost use Rattle.sudoers_reader.specs.declared.rows.Tables.{Tables as TablesOf};
-ghost use Rattle.sudoers_reader.specs.Tables.{command_in, commands_in};
+ghost use Rattle.sudoers_rows.specs.declared.rows.Tables.{Tables as TablesOf};
+ghost use Rattle.sudoers_rows.specs.Tables.{command_in, commands_in};
 ghost use Rattle.sudoers_rewrite.specs.Count.{commands_count};
 ghost use Rattle.sudoers_rewrite.specs.Extended.{IsLike, Extended, Stays};
 ghost use Rattle.sudoers_rewrite.specs.Written.{IsRefusal, command_if, each_in};
@@ -14,7 +14,7 @@ use crate::listing::{Source, flat_list, write_own_runas};
 use crate::tally::Tally;
 use std::alloc::Global;
 use sudoers_cvt::CvtFault;
-use sudoers_reader::{CommandRow, MemberRow, Range, Tables};
+use sudoers_rows::{CommandRow, MemberRow, Range, Tables};
 use sudoers_tree::Kind;
 
 /// Appends a command for each of the members, and counts them.

@@ -4,12 +4,12 @@ ghost use Rattle.std.specs.Prelude.{◌≡◌, List, map, IfOk};
 ghost use Rattle.sudoers_line.specs.declared.node.CmdSpec.{CmdSpec};
 ghost use Rattle.sudoers_line.specs.declared.node.Def.{Def};
 ghost use Rattle.sudoers_line.specs.declared.node.HostGroup.{HostGroup};
-ghost use Rattle.sudoers_reader.specs.Tables.{command_in, commands_in, def_in, defs_in, group_in, groups_in, member_in, members_in};
+ghost use Rattle.sudoers_rows.specs.Tables.{command_in, commands_in, def_in, defs_in, group_in, groups_in, member_in, members_in};
 ghost use Rattle.sudoers_rewrite.specs.Extended.{IsLike, Extended, Stays};
 ghost use Rattle.sudoers_rewrite.specs.Written.{StayAll};
 
 use std::alloc::{AllocError, Global};
-use sudoers_reader::{CommandRow, DefRow, GroupRow, MemberRow, Range, Tables, keep_rows};
+use sudoers_rows::{CommandRow, DefRow, GroupRow, MemberRow, Range, Tables, keep_rows};
 
 /// Returns tables with the texts, digests, options, tags and parameters of others, and no lists.
 ///

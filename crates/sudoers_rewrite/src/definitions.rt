@@ -1,13 +1,13 @@
 //! The definitions of a policy in file order, as rows.
 
 ghost use Rattle.std.specs.Prelude.{◌≡◌, ◌++◌, ℕ, map, IfOk, OnOk};
-ghost use Rattle.sudoers_reader.specs.Tables.{def_in, node_in};
+ghost use Rattle.sudoers_rows.specs.Tables.{def_in, node_in};
 ghost use Rattle.sudoers_tree.specs.Definition.{definitions, definitions_in};
 ghost use Rattle.sudoers_tree.specs.Line.{lines_shown};
 ghost use Rattle.sudoers_rewrite.specs.Shortcuts.{defined_as, defined_in, defined_of};
 
 use std::alloc::{AllocError, Global};
-use sudoers_reader::{DefRow, MemberRow, NodeRow, Rows, Tables, rows_in};
+use sudoers_rows::{DefRow, MemberRow, NodeRow, Rows, Tables, rows_in};
 use sudoers_tree::{Kind, LineRow};
 
 /// A definition: its kind, and its members.

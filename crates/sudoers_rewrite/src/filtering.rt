@@ -1,7 +1,7 @@
 //! What is left of lines, written with its aliases replaced or not.
 
 ghost use Rattle.std.specs.Prelude.{◌≡◌, ◌+◌, true, IfOk, IfErr, OnOk};
-ghost use Rattle.sudoers_reader.specs.Tables.{node_in};
+ghost use Rattle.sudoers_rows.specs.Tables.{node_in};
 ghost use Rattle.sudoers_rewrite.specs.Count.{node_count};
 ghost use Rattle.sudoers_rewrite.specs.Extended.{IsLike, Extended, Stays};
 ghost use Rattle.sudoers_rewrite.specs.Selected.{chosen_in};
@@ -14,7 +14,7 @@ use crate::selecting::Choice;
 use crate::tally::Tally;
 use std::alloc::Global;
 use sudoers_cvt::CvtFault;
-use sudoers_reader::{NodeRow, Tables};
+use sudoers_rows::{NodeRow, Tables};
 
 /// Writes what is left of a line that says `row`, its aliases replaced if that is wanted, and counts its members.
 #[tactic(auto, using(crate::proofs::Extending::extended_self))]

@@ -1,8 +1,8 @@
 //! Lists, their aliases replaced.
 
 ghost use Rattle.std.specs.Prelude.{◌≡◌, ◌⊎◌, ◌<◌, ◌≤◌, ◌++◌, ◌∷◌, [], length, map, IfOk, IfErr, OnOk, MatchOption};
-ghost use Rattle.sudoers_reader.specs.declared.rows.Tables.{Tables as TablesOf};
-ghost use Rattle.sudoers_reader.specs.Tables.{member_in};
+ghost use Rattle.sudoers_rows.specs.declared.rows.Tables.{Tables as TablesOf};
+ghost use Rattle.sudoers_rows.specs.Tables.{member_in};
 ghost use Rattle.sudoers_verdict.specs.Flattened.{flattened, replaced_times, turned_member};
 ghost use Rattle.sudoers_cvt.specs.declared.fault.CvtFault.TheVariants.{TooLarge, NoMemory};
 ghost use Rattle.sudoers_rewrite.specs.Count.{member_limit};
@@ -12,7 +12,7 @@ use crate::aliases::Aliases;
 use crate::shortcuts::flip;
 use std::alloc::Global;
 use sudoers_cvt::CvtFault;
-use sudoers_reader::MemberRow;
+use sudoers_rows::MemberRow;
 use sudoers_tree::Kind;
 
 /// How many members expanded rules may have.

@@ -2,7 +2,7 @@
 
 ghost use Rattle.std.specs.Prelude.{◌≡◌, ◌+◌, true, map, IfOk, IfErr, OnOk};
 ghost use Rattle.sudoers_line.specs.declared.node.Node.TheVariants.{Spec};
-ghost use Rattle.sudoers_reader.specs.Tables.{commands_in, group_in, groups_in, member_in, node_in};
+ghost use Rattle.sudoers_rows.specs.Tables.{commands_in, group_in, groups_in, member_in, node_in};
 ghost use Rattle.sudoers_rewrite.specs.Count.{group_count, groups_count, node_count};
 ghost use Rattle.sudoers_rewrite.specs.Extended.{IsLike, Extended, Stays};
 ghost use Rattle.sudoers_rewrite.specs.Selected.{selected_in};
@@ -15,7 +15,7 @@ use crate::selecting::Selected;
 use crate::tally::Tally;
 use std::alloc::Global;
 use sudoers_cvt::CvtFault;
-use sudoers_reader::{GroupRow, MemberRow, NodeRow, Range, Tables, rows_in};
+use sudoers_rows::{GroupRow, MemberRow, NodeRow, Range, Tables, rows_in};
 use sudoers_tree::Kind;
 
 /// Writes a host group, its aliases replaced if that is wanted, and counts it.

@@ -2,7 +2,7 @@
 
 ghost use Rattle.std.specs.Prelude.{◌≡◌, ◌+◌, true, Some, length, map, IfOk, IfErr, OnOk};
 ghost use Rattle.std.specs.Option.{option_map};
-ghost use Rattle.sudoers_reader.specs.Tables.{member_in, members_in, perhaps_runas_in, runas_in, scope_in};
+ghost use Rattle.sudoers_rows.specs.Tables.{member_in, members_in, perhaps_runas_in, runas_in, scope_in};
 ghost use Rattle.sudoers_rewrite.specs.Count.{runas_count, scope_count};
 ghost use Rattle.sudoers_line.specs.declared.node.Kind.TheVariants.{Runas};
 ghost use Rattle.sudoers_rewrite.specs.Extended.{IsLike, Extended, Stays};
@@ -14,7 +14,7 @@ use crate::flatten::flatten;
 use crate::tally::Tally;
 use std::alloc::Global;
 use sudoers_cvt::CvtFault;
-use sudoers_reader::{MemberRow, Range, RunasRow, ScopeRow, Tables, rows_in};
+use sudoers_rows::{MemberRow, Range, RunasRow, ScopeRow, Tables, rows_in};
 use sudoers_tree::Kind;
 
 /// A policy whose lines are written anew, with its aliases, and whether these are replaced.

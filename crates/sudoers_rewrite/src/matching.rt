@@ -3,7 +3,7 @@
 ghost use Rattle.std.specs.Prelude.{◌≡◌, length, IfOk};
 ghost use Rattle.std.specs.List.{All};
 ghost use Rattle.sudoers_line.specs.declared.node.Kind.TheVariants.{User as OfUsers, Host as OfHosts};
-ghost use Rattle.sudoers_reader.specs.View.{members_shown};
+ghost use Rattle.sudoers_rows.specs.View.{members_shown};
 ghost use Rattle.sudoers_verdict.specs.Search.{Remembers};
 ghost use Rattle.sudoers_match.specs.Straight.{IsStraight};
 ghost use Rattle.sudoers_rewrite.specs.Filter.{said, is_none, names_no_user, matches_users, matches_hosts};

@@ -1,7 +1,7 @@
 //! What lines say, written with its aliases replaced or not.
 
 ghost use Rattle.std.specs.Prelude.{◌≡◌, ◌+◌, true, map, IfOk, IfErr, OnOk};
-ghost use Rattle.sudoers_reader.specs.Tables.{def_in, defs_in, node_in};
+ghost use Rattle.sudoers_rows.specs.Tables.{def_in, defs_in, node_in};
 ghost use Rattle.sudoers_rewrite.specs.Count.{node_count};
 ghost use Rattle.sudoers_rewrite.specs.Extended.{IsLike, Extended, Stays};
 ghost use Rattle.sudoers_rewrite.specs.Written.{IsRefusal, node_if};
@@ -13,7 +13,7 @@ use crate::selecting::select_all;
 use crate::tally::Tally;
 use std::alloc::{AllocError, Global};
 use sudoers_cvt::CvtFault;
-use sudoers_reader::{DefRow, NodeRow, Range, Tables, rows_in};
+use sudoers_rows::{DefRow, NodeRow, Range, Tables, rows_in};
 
 /// Writes a definition as it stands in the tables `base`.
 fn write_def(base: &Tables, tables: &mut Tables, row: &DefRow) -> Result<DefRow, AllocError>

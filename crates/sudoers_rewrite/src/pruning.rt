@@ -3,8 +3,8 @@
 ghost use Rattle.std.specs.Prelude.{◌≡◌, map, IfOk};
 ghost use Rattle.std.specs.List.{filter as passing};
 ghost use Rattle.sudoers_line.specs.declared.node.Kind.TheVariants.{User as OfUsers, Host as OfHosts};
-ghost use Rattle.sudoers_reader.specs.Tables.{member_in};
-ghost use Rattle.sudoers_reader.specs.View.{members_shown};
+ghost use Rattle.sudoers_rows.specs.Tables.{member_in};
+ghost use Rattle.sudoers_rows.specs.View.{members_shown};
 ghost use Rattle.sudoers_match.specs.Straight.{IsStraight};
 ghost use Rattle.sudoers_rewrite.specs.Filter.{users_left, hosts_left};
 ghost use Rattle.sudoers_rewrite.specs.Matcher.{lines_of, filter_in, IsMatcher, StaysMatcher};

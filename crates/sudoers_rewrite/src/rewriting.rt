@@ -20,7 +20,7 @@ use std::alloc::Global;
 use std::marker::Model;
 use sudoers_check::Numbers;
 use sudoers_cvt::CvtFault;
-use sudoers_reader::{Rows, Tables, Text};
+use sudoers_rows::{Rows, Tables, Text};
 use sudoers_tree::LineRow;
 
 /// Lines that are written anew. Contracts see the list of the lines with what they say; they have no text.

@@ -3,9 +3,9 @@
 ghost use Rattle.std.specs.Prelude.{◌≡◌, map, IfOk, Some, None, if◌then◌else◌};
 ghost use Rattle.sudoers_line.specs.declared.node.Kind.TheVariants.{User as OfUsers, Host as OfHosts};
 ghost use Rattle.sudoers_line.specs.declared.node.Node.TheVariants.{Spec as SpecOf};
-ghost use Rattle.sudoers_reader.specs.declared.rows.NodeRow.{NodeRow as RowOf};
-ghost use Rattle.sudoers_reader.specs.Tables.{group_in, member_in, node_in};
-ghost use Rattle.sudoers_reader.specs.View.{members_shown};
+ghost use Rattle.sudoers_rows.specs.declared.rows.NodeRow.{NodeRow as RowOf};
+ghost use Rattle.sudoers_rows.specs.Tables.{group_in, member_in, node_in};
+ghost use Rattle.sudoers_rows.specs.View.{members_shown};
 ghost use Rattle.sudoers_match.specs.Straight.{IsStraight, ScopeIsStraight};
 ghost use Rattle.sudoers_rewrite.specs.Filter.{filtered_node, group_left, groups_left, hosts_left, list_matches, matches_hosts, scope_matches, users_left};
 ghost use Rattle.sudoers_rewrite.specs.Matcher.{filter_in, lines_of, IsMatcher, StaysMatcher};
@@ -14,7 +14,7 @@ ghost use Rattle.sudoers_rewrite.specs.Written.{perhaps_scope_in};
 
 use crate::matching::Matcher;
 use std::alloc::{AllocError, Global};
-use sudoers_reader::{GroupRow, MemberRow, NodeRow, Range, Rows, ScopeRow, Tables, rows_in};
+use sudoers_rows::{GroupRow, MemberRow, NodeRow, Range, Rows, ScopeRow, Tables, rows_in};
 use sudoers_tree::Kind;
 
 /// The hosts of a host group that are left, and its commands.

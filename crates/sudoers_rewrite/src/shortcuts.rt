@@ -1,7 +1,7 @@
 //! Shortcuts through chains of aliases that have one member each.
 
 ghost use Rattle.std.specs.Prelude.{◌≡◌, ◌<◌, ℕ, List, length, map, IfOk};
-ghost use Rattle.sudoers_reader.specs.Tables.{member_in};
+ghost use Rattle.sudoers_rows.specs.Tables.{member_in};
 ghost use Rattle.sudoers_tree.specs.Definition.{definitions};
 ghost use Rattle.sudoers_tree.specs.Line.{Line};
 ghost use Rattle.sudoers_verdict.specs.Flat.{flip};
@@ -11,7 +11,7 @@ ghost use Rattle.sudoers_rewrite.specs.Shortcuts.{AreShortcuts, IsShortcut, defi
 use crate::definitions::DefinitionRow;
 use std::alloc::{AllocError, Global};
 use sudoers_check::Numbers;
-use sudoers_reader::{AtomRow, Tables};
+use sudoers_rows::{AtomRow, Tables};
 
 /// How often shortcuts are joined: each time they get twice as long, and no chain has more than 4,096 definitions.
 const ROUNDS: usize = 12;

@@ -1,13 +1,13 @@
 //! How many members are written.
 
 ghost use Rattle.std.specs.Prelude.{◌≡◌, ◌+◌, ◌<◌, ◌≤◌, IfErr, OnOk};
-ghost use Rattle.sudoers_reader.specs.Tables.{perhaps_runas_in};
+ghost use Rattle.sudoers_rows.specs.Tables.{perhaps_runas_in};
 ghost use Rattle.sudoers_cvt.specs.declared.fault.CvtFault.TheVariants.{TooLarge};
 ghost use Rattle.sudoers_rewrite.specs.Count.{member_limit, runas_count};
 
 use crate::flatten::MEMBER_LIMIT;
 use sudoers_cvt::CvtFault;
-use sudoers_reader::{RunasRow, Tables, rows_in};
+use sudoers_rows::{RunasRow, Tables, rows_in};
 
 /// How many members are written, and how many the Runas_Spec has that a next command inherits.
 #[derive(Drop)]

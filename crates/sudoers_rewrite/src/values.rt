@@ -1,7 +1,7 @@
 //! The kinds of values of a filter, and what matches each.
 
 ghost use Rattle.std.specs.Prelude.{◌≡◌};
-ghost use Rattle.sudoers_reader.specs.View.{atom_shown};
+ghost use Rattle.sudoers_rows.specs.View.{atom_shown};
 ghost use Rattle.sudoers_rewrite.specs.Filter.{is_user, is_in_group, short_name, host_name_hits, is_host};
 
 use sudoers_hits::{GlobMode, glob_as_read, is_same_name};

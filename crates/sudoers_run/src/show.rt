@@ -4,7 +4,7 @@ ghost use Rattle.std.specs.Io.KnownBytes.{Keeps, Appends};
 ghost use Rattle.sudoers_text.specs.Fault.{text_limit};
 ghost use Rattle.sudoers_run.specs.Device.{Rose, Reads, Writes, AppendsFront, counted_by};
 ghost use Rattle.sudoers_run.specs.Program.{pull_limit, TellsLayer};
-ghost use Rattle.sudoers_reader.specs.View.{def_shown, defs_shown, node_shown};
+ghost use Rattle.sudoers_rows.specs.View.{def_shown, defs_shown, node_shown};
 ghost use Rattle.sudoers_run.specs.Shown.{kind_word as word_of_kind, shown as shown_policy, shown_def, shown_defs, shown_line};
 ghost use Rattle.sudoers_run.specs.Show.{show_output, TellsShow, IsFileFault, IsShowFault, StopsShow, NeedsShowEnd};
 

@@ -59,7 +59,7 @@ fn is_mark(mark: u8, kind: TokenKind, text: &[u8]) -> bool
     matches!(kind, TokenKind::Punct) && text == [mark].as_slice()
 }
 
-/// Behind a mark where commands stand.
+/// Returns the context behind a mark that stands among commands.
 #[inline(always)]
 fn behind_mark(colon: Context, equals: Context, text: &[u8]) -> Context
     ensures { result ≡ behind_mark colon equals text.now }

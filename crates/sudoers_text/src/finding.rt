@@ -26,7 +26,7 @@ pub struct Piece {
     pub len: usize,
 }
 
-/// Where nothing else begins.
+/// Returns the piece of bytes at which no other piece begins.
 fn bad(bytes: &[u8]) -> Piece
     ensures kind { result.kind ≡ kinds.Bad }
     ensures len { result.len ≡ bad_size bytes.now }

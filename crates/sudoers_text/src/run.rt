@@ -35,7 +35,7 @@ fn keeps_item(byte: u8) -> bool
     is_blank(byte) || is_sign(byte)
 }
 
-/// Whether an ID may begin behind plain bytes, by whether it may before them.
+/// Returns whether an ID may begin behind plain bytes, where `item` says whether it may before them.
 #[inline(always)]
 fn item_behind(item: bool, run: &[u8]) -> bool
     ensures { result ≡ item_behind item run.now }

@@ -5,11 +5,11 @@ use Rattle.sudoers_line.specs.declared.node.Kind.{Kind}
 use Rattle.sudoers_line.specs.declared.node.Def.{Def}
 use Rattle.sudoers_line.specs.declared.node.Node.{Node}
 use Rattle.sudoers_line.specs.declared.node.Node.TheVariants as node
-use Rattle.sudoers_reader.specs.declared.list.Rows.{Rows}
-use Rattle.sudoers_reader.specs.declared.rows.DefRow.{DefRow}
-use Rattle.sudoers_reader.specs.declared.view.Node.{Node as NodeView}
-use Rattle.sudoers_reader.specs.declared.view.Node.TheVariants as view
-use Rattle.sudoers_reader.specs.View.{defs_shown, node_shown}
+use Rattle.sudoers_rows.specs.declared.list.Rows.{Rows}
+use Rattle.sudoers_rows.specs.declared.rows.DefRow.{DefRow}
+use Rattle.sudoers_rows.specs.declared.view.Node.{Node as NodeView}
+use Rattle.sudoers_rows.specs.declared.view.Node.TheVariants as view
+use Rattle.sudoers_rows.specs.View.{defs_shown, node_shown}
 use Rattle.sudoers_tree.specs.Line.{Line}
 use Rattle.sudoers_tree.specs.declared.place.Place.{Place}
 use Rattle.sudoers_tree.specs.Definition.{Definition, definitions_from, definitions_in, definitions_since, definitions, defines, defined, place_of, members_of}

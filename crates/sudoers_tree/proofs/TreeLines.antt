@@ -4,11 +4,11 @@ use Rattle.std.proofs.lemmas.List.{append-nil, map-append}
 use Rattle.std.proofs.lemmas.List.Elements.{All-head, All-tail, All-weaker}
 use Rattle.std.specs.List.{All}
 use Rattle.sudoers_line.specs.declared.node.Node.{Node}
-use Rattle.sudoers_reader.specs.declared.rows.NodeRow.{NodeRow}
-use Rattle.sudoers_reader.specs.declared.rows.Tables.{Tables}
-use Rattle.sudoers_reader.specs.declared.rows.Text.{Text}
+use Rattle.sudoers_rows.specs.declared.rows.NodeRow.{NodeRow}
+use Rattle.sudoers_rows.specs.declared.rows.Tables.{Tables}
+use Rattle.sudoers_rows.specs.declared.rows.Text.{Text}
 use Rattle.sudoers_reader.specs.Outcome.{outcome_of}
-use Rattle.sudoers_reader.specs.Tables.{Grown, Grows, Lasts, Keeps, node_in, text_in}
+use Rattle.sudoers_rows.specs.Tables.{Grown, Grows, Lasts, Keeps, node_in, text_in}
 use Rattle.sudoers_tree.specs.declared.line.LineRow.{LineRow}
 use Rattle.sudoers_tree.specs.Line.{Line, line_in}
 use Rattle.sudoers_tree.specs.Tree.{Stands}

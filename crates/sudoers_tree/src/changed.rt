@@ -13,7 +13,7 @@ use crate::laws::policy_is_cut;
 use crate::line::LineRow;
 use crate::policy::Policy;
 use std::alloc::{AllocError, Global};
-use sudoers_reader::{Rows, Tables};
+use sudoers_rows::{Rows, Tables};
 use sudoers_text::{
     cut_is, line_alone_is_whole, lines_stand_alone, one_list, whole_line_is, whole_lines_of_join,
 };

@@ -2,13 +2,14 @@
 
 ghost use Rattle.std.specs.Prelude.{◌≡◌, IfOk, IfSome};
 ghost use Rattle.std.specs.List.{All, Contains};
-ghost use Rattle.sudoers_reader.specs.Tables.{Grown, text_in};
+ghost use Rattle.sudoers_rows.specs.Tables.{Grown, text_in};
 ghost use Rattle.sudoers_tree.specs.Tree.{GivesLine, Stands};
 
 use crate::line::LineRow;
 use std::alloc::{AllocError, Global};
 use sudoers_line::LineFault;
-use sudoers_reader::{Tables, growth_goes_on, keep_text, read_line};
+use sudoers_reader::read_line;
+use sudoers_rows::{Tables, growth_goes_on, keep_text};
 
 /// How many rows more a copy of a table has room for, beside a sixteenth of its rows.
 const ROOM: usize = 256;

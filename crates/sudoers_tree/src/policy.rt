@@ -9,7 +9,7 @@ ghost use Rattle.sudoers_text.specs.Line.{join};
 ghost use Rattle.sudoers_text.specs.Fault.{text_limit};
 ghost use Rattle.sudoers_line.specs.declared.node.Def.{Def as DefOf};
 ghost use Rattle.sudoers_line.specs.declared.node.Kind.{Kind as KindOf};
-ghost use Rattle.sudoers_reader.specs.View.{defs_shown, members_shown, node_shown};
+ghost use Rattle.sudoers_rows.specs.View.{defs_shown, members_shown, node_shown};
 ghost use Rattle.sudoers_tree.specs.Line.{Line as LineOf, lines_shown};
 ghost use Rattle.sudoers_tree.specs.Kind.{line_kind};
 ghost use Rattle.sudoers_tree.specs.Definition.{place_of, members_of};
@@ -33,7 +33,7 @@ use std::alloc::{AllocError, Global};
 use std::boxed::Box;
 use std::marker::Model;
 use sudoers_line::Kind;
-use sudoers_reader::{DefRow, MemberRow, Node, Rows};
+use sudoers_rows::{DefRow, MemberRow, Node, Rows};
 use sudoers_text::cut;
 
 /// A sudoers policy. Contracts see the list of its lines with what they say.

@@ -10,7 +10,7 @@ use crate::line::{Line, LineRow};
 use std::alloc::{AllocError, Global};
 use std::marker::Model;
 use sudoers_line::LineFault;
-use sudoers_reader::{Rows, Tables, growth_goes_on};
+use sudoers_rows::{Rows, Tables, growth_goes_on};
 
 /// Lines, and the tables in which they say something. Contracts see the list of the lines with what they say. `known` holds
 /// rows of an earlier reading, which the list leaves out. A line that stands there is not read again.

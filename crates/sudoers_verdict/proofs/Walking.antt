@@ -6,7 +6,7 @@ use Rattle.std.proofs.lemmas.List.{take_all}
 use Rattle.sudoers_line.specs.declared.node.Kind.{Kind}
 use Rattle.sudoers_tree.specs.Line.{Line}
 use Rattle.sudoers_tree.specs.Definition.{definitions}
-use Rattle.sudoers_reader.specs.View.{members_shown}
+use Rattle.sudoers_rows.specs.View.{members_shown}
 use Rattle.sudoers_line.specs.declared.node.Atom.{Atom}
 use Rattle.sudoers_verdict.specs.declared.walk.Standing.{Standing}
 use Rattle.sudoers_verdict.specs.declared.walk.Standing.TheVariants.{New, Open, Decided}

@@ -4,7 +4,7 @@ use Rattle.std.proofs.lemmas.List.{take_more}
 use Rattle.std.proofs.lemmas.Option.{slice_get-get_or, slice_get_within}
 use Rattle.sudoers_line.specs.declared.node.Kind.{Kind}
 use Rattle.sudoers_tree.specs.Line.{Line}
-use Rattle.sudoers_reader.specs.View.{members_shown}
+use Rattle.sudoers_rows.specs.View.{members_shown}
 use Rattle.sudoers_line.specs.declared.node.Atom.{Atom}
 use Rattle.sudoers_line.specs.declared.node.Member.{Member}
 use Rattle.sudoers_verdict.specs.declared.verdict.Hit.{Hit}

@@ -5,7 +5,7 @@ use Rattle.sudoers_line.specs.declared.node.Kind.{Kind}
 use Rattle.sudoers_line.specs.declared.node.Atom.{Atom}
 use Rattle.sudoers_line.specs.declared.node.Atom.TheVariants as atom
 use Rattle.sudoers_line.specs.declared.node.Member.{Member}
-use Rattle.sudoers_reader.specs.View.{members_shown}
+use Rattle.sudoers_rows.specs.View.{members_shown}
 use Rattle.sudoers_tree.specs.Line.{Line}
 use Rattle.sudoers_tree.specs.Definition.{Definition, definitions}
 use Rattle.sudoers_check.specs.Chain.{Has, Chain}

@@ -2,7 +2,7 @@
 
 ghost use Rattle.std.specs.Prelude.{◌≡◌, IfSome};
 ghost use Rattle.std.specs.Option.{option_map};
-ghost use Rattle.sudoers_reader.specs.View.{atom_shown, members_shown};
+ghost use Rattle.sudoers_rows.specs.View.{atom_shown, members_shown};
 ghost use Rattle.sudoers_verdict.specs.declared.alias.Alias.{Alias as AliasOf};
 ghost use Rattle.sudoers_verdict.specs.Search.{number_in, IsAlias};
 

@@ -1,7 +1,7 @@
 //! Verdicts of lists.
 
 ghost use Rattle.std.specs.Prelude.{◌≡◌, ◌⊎◌, IfOk, IfErr};
-ghost use Rattle.sudoers_reader.specs.View.{members_shown};
+ghost use Rattle.sudoers_rows.specs.View.{members_shown};
 ghost use Rattle.sudoers_check.specs.Chains.{HasReachableCycle};
 ghost use Rattle.sudoers_verdict.specs.declared.verdict.AskFault.TheVariants.{Cycle, NoMemory};
 ghost use Rattle.sudoers_verdict.specs.Flat.{IsVerdict};

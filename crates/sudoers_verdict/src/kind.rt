@@ -1,6 +1,6 @@
 //! The kinds of lists.
 
-use sudoers_reader::Atom;
+use sudoers_rows::Atom;
 
 /// A kind of list: what is asked of its members, and which of them match it.
 ///
@@ -10,7 +10,7 @@ pub trait MemberKind {
 
     ghost use Rattle.std.specs.Prelude.{Bool, ◌≡◌};
     ghost use Rattle.sudoers_line.specs.declared.node.Atom.{Atom as AtomOf};
-    ghost use Rattle.sudoers_reader.specs.View.{atom_shown};
+    ghost use Rattle.sudoers_rows.specs.View.{atom_shown};
 
     ghost test: { Self.Asked → AtomOf → Bool };
 

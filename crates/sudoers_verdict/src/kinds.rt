@@ -4,7 +4,7 @@ use crate::kind::MemberKind;
 use sudoers_hits::{
     CommandLine, Group, Person, Who, command_hits, group_hits, host_hits, user_hits,
 };
-use sudoers_reader::Atom;
+use sudoers_rows::Atom;
 
 /// Lists of users: those who may run something, and those as whom it may run.
 pub struct Users;

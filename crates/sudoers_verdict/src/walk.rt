@@ -3,7 +3,7 @@
 ghost use Rattle.std.specs.Prelude.{◌≡◌, ◌<◌, ◌+◌, ◌^◌, ◌++◌, ◌∷◌, [], Bool, true, false, None, length, IfOk, OnOk};
 ghost use Rattle.sudoers_line.specs.declared.node.Kind.{Kind as KindOf};
 ghost use Rattle.sudoers_line.specs.declared.node.Atom.{Atom as AtomOf};
-ghost use Rattle.sudoers_reader.specs.View.{member_shown, members_shown};
+ghost use Rattle.sudoers_rows.specs.View.{member_shown, members_shown};
 ghost use Rattle.sudoers_tree.specs.Definition.{definitions};
 ghost use Rattle.sudoers_verdict.specs.Flat.{hit_of, signed, later, turned};
 ghost use Rattle.sudoers_verdict.specs.Search.{Remembers, IsSearch, IsStep, IsEntered, Judges, Settles, IsAlias, FindsItself, next_step};

@@ -6,7 +6,7 @@ ghost use Rattle.sudoers_check.specs.Chains.{HasReachableCycle};
 ghost use Rattle.sudoers_match.specs.Answer.{IsAnswer, answer_shown, argument_limit, joined};
 ghost use Rattle.sudoers_match.specs.Default.{IsRunasDefault};
 ghost use Rattle.sudoers_match.specs.Groups.{AreHostGroups};
-ghost use Rattle.sudoers_reader.specs.View.{members_shown};
+ghost use Rattle.sudoers_rows.specs.View.{members_shown};
 ghost use Rattle.sudoers_verdict.specs.declared.verdict.AskFault.TheVariants.{Cycle, TooLong, NoMemory};
 ghost use Rattle.sudoers_verdict.specs.Cycle.{LeadsToCycle};
 ghost use Rattle.sudoers_verdict.specs.Flat.{IsVerdict};
@@ -15,7 +15,7 @@ use std::alloc::Global;
 use sudoers_match::{
     Answer, AskFault, GroupPlace, Request, Who, answer, host_groups, runas_default,
 };
-use sudoers_reader::{MemberRow, Rows};
+use sudoers_rows::{MemberRow, Rows};
 use sudoers_tree::{Kind, Policy};
 use sudoers_verdict::{MemberKind, Verdict, decide};
 

@@ -4,14 +4,14 @@ ghost use Rattle.std.specs.Prelude.{◌≡◌};
 ghost use Rattle.sudoers_hits.specs.Hits.{command_hits, group_hits, host_hits, user_hits};
 ghost use Rattle.sudoers_hits.specs.Network.{hits_network as network};
 ghost use Rattle.sudoers_hits.specs.Wildcard.{matches};
-ghost use Rattle.sudoers_reader.specs.View.{atom_shown};
+ghost use Rattle.sudoers_rows.specs.View.{atom_shown};
 
 use sudoers_hits::{
     CommandLine, GlobMode, Group, Interface, Person, Who, command_hits, glob, group_hits,
     host_hits, network_hits, user_hits,
 };
 use sudoers_line::{Address, Mask};
-use sudoers_reader::Atom;
+use sudoers_rows::Atom;
 
 /// Returns whether `text` matches `pattern`.
 pub fn matches_pattern(pattern: &[u8], text: &[u8], mode: GlobMode) -> bool

@@ -9,13 +9,13 @@ ghost use Rattle.sudoers_json.specs.Value.{rules_value, json_text};
 ghost use Rattle.sudoers_match.specs.Heads.{Head as HeadOf};
 ghost use Rattle.sudoers_match.specs.IsHead.{IsHead};
 ghost use Rattle.sudoers_print.specs.Commands.{printed_command};
-ghost use Rattle.sudoers_reader.specs.View.{member_shown};
+ghost use Rattle.sudoers_rows.specs.View.{member_shown};
 
 use std::alloc::{AllocError, Global};
 use sudoers_cvt::{CvtFault, Rules, print, print_command};
 use sudoers_json::json;
 use sudoers_match::Head;
-use sudoers_reader::Member;
+use sudoers_rows::Member;
 
 /// Returns the text of `rules` as a policy.
 ///

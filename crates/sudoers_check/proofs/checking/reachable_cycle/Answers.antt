@@ -1,6 +1,6 @@
 use Rattle.std.proofs.Common.{List, true, false, refl, subst, arith, get_or}
 use Rattle.std.proofs.lemmas.Bool.{false≢true}
-use Rattle.sudoers_reader.specs.View.{node_shown}
+use Rattle.sudoers_rows.specs.View.{node_shown}
 use Rattle.sudoers_tree.specs.Line.{Line, line_in, lines_shown}
 use Rattle.sudoers_check.specs.Walk.{AreStraight, AreRound, Tells, none, rooted, rooted_in}
 use Rattle.sudoers_check.proofs.Read.{read_map, map_length}

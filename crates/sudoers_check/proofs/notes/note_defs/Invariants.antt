@@ -1,5 +1,5 @@
 use Rattle.std.proofs.Common.{◌≡◌, ◌++◌, drop, map}
-use Rattle.sudoers_reader.specs.Tables.{def_in}
+use Rattle.sudoers_rows.specs.Tables.{def_in}
 use Rattle.sudoers_check.specs.Noting.{noted_defs}
 use Rattle.sudoers_check.proofs.notes.note_defs.Given as goal
 

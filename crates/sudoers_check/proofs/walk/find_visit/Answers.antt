@@ -1,6 +1,6 @@
 use Rattle.std.proofs.Common.{◌∙◌, refl, sym, ap}
 use Rattle.std.specs.Option.{option_map}
-use Rattle.sudoers_reader.specs.View.{members_shown}
+use Rattle.sudoers_rows.specs.View.{members_shown}
 use Rattle.sudoers_check.proofs.Numbered.{begins, has_members}
 use Rattle.sudoers_check.proofs.walk.find_visit.Goals as goal
 

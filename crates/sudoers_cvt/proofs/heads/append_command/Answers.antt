@@ -1,7 +1,7 @@
 use Rattle.std.proofs.Common.{◌≡◌, List, ℕ, ◌++◌, false, Result, Ok, Err, OnOk, ap, ◌∙◌, append_assoc}
 use Rattle.std.specs.Option.{option_map}
 use Rattle.sudoers_line.specs.declared.node.Kind.TheVariants.{Cmnd}
-use Rattle.sudoers_reader.specs.View.{member_shown, runas_shown}
+use Rattle.sudoers_rows.specs.View.{member_shown, runas_shown}
 use Rattle.sudoers_match.specs.Heads.{listed, option_of, tag_of}
 use Rattle.sudoers_match.specs.Values.{values_shown}
 use Rattle.sudoers_print.specs.Members.{printed_member}

@@ -1,8 +1,8 @@
 use Rattle.std.proofs.Common.{rules, ◌≡◌, ◌+◌, ◌∷◌, ◌++◌, drop, map, codes, sym, ap, subst, ◌∙◌}
 use Rattle.std.specs.List.{join_by}
 use Rattle.sudoers_line.specs.declared.node.CmdSpec.{CmdSpec}
-use Rattle.sudoers_reader.specs.Tables.{command_in}
-use Rattle.sudoers_reader.specs.View.{command_shown}
+use Rattle.sudoers_rows.specs.Tables.{command_in}
+use Rattle.sudoers_rows.specs.View.{command_shown}
 use Rattle.sudoers_match.specs.Heads.{no_head, inherit}
 use Rattle.sudoers_print.specs.Commands.{printed_command}
 use Rattle.sudoers_cvt.specs.Effective.{effective_command, effective_commands}

@@ -1,6 +1,6 @@
 use Rattle.std.proofs.Common.{◌++◌, drop, map, codes}
 use Rattle.std.specs.List.{join_by}
-use Rattle.sudoers_reader.specs.Tables.{command_in}
+use Rattle.sudoers_rows.specs.Tables.{command_in}
 use Rattle.sudoers_print.specs.Commands.{printed_command}
 use Rattle.sudoers_cvt.specs.Effective.{effective_commands}
 use Rattle.sudoers_cvt.proofs.Passing.{IsSoFar}

@@ -4,7 +4,7 @@ use Rattle.std.proofs.lemmas.List.Elements.{All-map, All-filter, All-weaker, All
 use Rattle.std.specs.Prelude.{◌^◌}
 use Rattle.sudoers_line.specs.declared.node.Kind.{Kind}
 use Rattle.sudoers_line.specs.declared.node.Node.{Node}
-use Rattle.sudoers_reader.specs.declared.rows.NodeRow.TheVariants as node_row
+use Rattle.sudoers_rows.specs.declared.rows.NodeRow.TheVariants as node_row
 use Rattle.sudoers_tree.specs.Line.{Line, line_in, lines_shown}
 use Rattle.sudoers_tree.specs.declared.line.LineRow.{LineRow}
 use Rattle.sudoers_tree.specs.declared.place.Place.{Place}

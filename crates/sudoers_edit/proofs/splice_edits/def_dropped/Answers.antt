@@ -1,7 +1,7 @@
 use Rattle.std.proofs.Common.{◌≡◌, ◌∙◌, ◌∷◌, [], inr, ap, sym, subst, List, ℕ}
 use Rattle.std.proofs.lemmas.Option.{slice_get_within}
 use Rattle.sudoers_line.specs.declared.node.Def.{Def}
-use Rattle.sudoers_reader.specs.View.{defs_shown}
+use Rattle.sudoers_rows.specs.View.{defs_shown}
 use Rattle.sudoers_tree.specs.Line.{Line, line_shown}
 use Rattle.sudoers_tree.specs.Policy.{texts}
 use Rattle.sudoers_script.specs.declared.edit.Edit.TheVariants.{AddDef, DropDef}

@@ -1,7 +1,7 @@
 use Rattle.std.proofs.Common.{◌≡◌, ◌∙◌, ◌∷◌, [], inr, ap, sym, subst, List, ℕ, Result}
 use Rattle.std.proofs.lemmas.Option.{slice_get_within}
 use Rattle.sudoers_line.specs.declared.node.Kind.{Kind}
-use Rattle.sudoers_reader.specs.View.{def_shown}
+use Rattle.sudoers_rows.specs.View.{def_shown}
 use Rattle.sudoers_tree.specs.Line.{Line, line_shown}
 use Rattle.sudoers_tree.specs.declared.place.Place.{Place}
 use Rattle.sudoers_tree.specs.Policy.{texts}

@@ -2,8 +2,8 @@ use Rattle.std.proofs.Common.{rules, ◌≡◌, ◌+◌, ◌∷◌, ◌++◌, fa
 use Rattle.serde_json.specs.Data.{Data}
 use Rattle.serde_json.specs.Written.{comma_if, compact_text}
 use Rattle.sudoers_line.specs.declared.node.CmdSpec.{CmdSpec}
-use Rattle.sudoers_reader.specs.Tables.{command_in}
-use Rattle.sudoers_reader.specs.View.{command_shown}
+use Rattle.sudoers_rows.specs.Tables.{command_in}
+use Rattle.sudoers_rows.specs.View.{command_shown}
 use Rattle.sudoers_match.specs.Heads.{inherit}
 use Rattle.sudoers_cvt.specs.declared.fault.CvtFault.{CvtFault}
 use Rattle.sudoers_cvt.specs.Effective.{effective_commands}

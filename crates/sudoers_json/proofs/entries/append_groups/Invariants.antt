@@ -1,5 +1,5 @@
 use Rattle.std.proofs.Common.{◌≡◌, ◌++◌, drop, map, false}
-use Rattle.sudoers_reader.specs.Tables.{group_in}
+use Rattle.sudoers_rows.specs.Tables.{group_in}
 use Rattle.sudoers_cvt.specs.Effective.{effective_group}
 use Rattle.sudoers_json.specs.Value.{group_value}
 use Rattle.sudoers_json.specs.Built.{are_unicode, list_text}

@@ -1,5 +1,5 @@
 use Rattle.serde_json.specs.View.{view}
-use Rattle.sudoers_reader.specs.View.{members_shown}
+use Rattle.sudoers_rows.specs.View.{members_shown}
 use Rattle.sudoers_json.specs.Value.{members_value}
 use Rattle.sudoers_json.proofs.Floats.{appended, members_have_none}
 use Rattle.sudoers_json.proofs.entries.append_members.Goals as goal

@@ -3,7 +3,7 @@ use Rattle.std.specs.Option.{option_map}
 use Rattle.serde_json.specs.Data.{Data}
 use Rattle.serde_json.specs.View.{view}
 use Rattle.serde_json.specs.Written.{compact_text}
-use Rattle.sudoers_reader.specs.View.{def_shown, params_shown, scope_shown}
+use Rattle.sudoers_rows.specs.View.{def_shown, params_shown, scope_shown}
 use Rattle.sudoers_json.specs.Value.{def_value, defaults_value}
 use Rattle.sudoers_json.specs.Built.{rule_value}
 use Rattle.sudoers_json.proofs.Floats.{appended, def_has_none, defaults_have_none}

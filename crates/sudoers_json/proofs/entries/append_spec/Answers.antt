@@ -1,7 +1,7 @@
 use Rattle.std.proofs.Common.{◌≡◌, ◌++◌, true, false, map, codes, ap, ◌∙◌}
 use Rattle.serde_json.specs.Written.{compact_text}
 use Rattle.sudoers_line.specs.declared.node.Kind.TheVariants.{User}
-use Rattle.sudoers_reader.specs.View.{groups_shown, members_shown}
+use Rattle.sudoers_rows.specs.View.{groups_shown, members_shown}
 use Rattle.sudoers_cvt.specs.Effective.{effective_group}
 use Rattle.sudoers_json.specs.Value.{group_value, members_value}
 use Rattle.sudoers_json.specs.Built.{list_text}

@@ -1,5 +1,5 @@
 use Rattle.std.proofs.Common.{◌≡◌, ◌++◌, drop, map}
-use Rattle.sudoers_reader.specs.Tables.{member_in}
+use Rattle.sudoers_rows.specs.Tables.{member_in}
 use Rattle.sudoers_json.specs.Value.{member_texts}
 use Rattle.sudoers_json.specs.Built.{bytes_of}
 use Rattle.sudoers_json.proofs.texts.member_texts.Given as goal

@@ -1,5 +1,5 @@
 use Rattle.std.proofs.Common.{◌≡◌, ◌++◌, drop, map}
-use Rattle.sudoers_reader.specs.Tables.{param_in}
+use Rattle.sudoers_rows.specs.Tables.{param_in}
 use Rattle.sudoers_print.specs.Parameters.{printed_param}
 use Rattle.sudoers_json.specs.Built.{bytes_of}
 use Rattle.sudoers_json.proofs.texts.param_texts.Given as goal

@@ -1,7 +1,7 @@
 use Rattle.std.proofs.Common.{◌≡◌, List, ℕ, ◌++◌, false, codes, Option, None, refl, ap, ◌∙◌}
 use Rattle.sudoers_line.specs.declared.node.Kind.TheVariants.{Cmnd}
 use Rattle.sudoers_line.specs.declared.node.RunasSpec.{RunasSpec}
-use Rattle.sudoers_reader.specs.View.{member_shown}
+use Rattle.sudoers_rows.specs.View.{member_shown}
 use Rattle.sudoers_match.specs.Heads.{Head, listed, option_of, tag_of}
 use Rattle.sudoers_print.specs.Members.{printed_member}
 use Rattle.sudoers_print.specs.Commands.{printed_options, printed_runas, printed_tags}

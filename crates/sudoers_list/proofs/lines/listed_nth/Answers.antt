@@ -1,8 +1,8 @@
 use Rattle.std.proofs.Common.{◌≡◌, ◌+◌, ◌-◌, drop, map, Some, arith, rules, ap, ◌∙◌}
 use Rattle.std.specs.Option.{option_map}
 use Rattle.sudoers_line.specs.declared.node.CmdSpec.{CmdSpec}
-use Rattle.sudoers_reader.specs.Tables.{command_in}
-use Rattle.sudoers_reader.specs.View.{command_shown}
+use Rattle.sudoers_rows.specs.Tables.{command_in}
+use Rattle.sudoers_rows.specs.View.{command_shown}
 use Rattle.sudoers_match.specs.Heads.{inherit}
 use Rattle.sudoers_print.specs.Commands.{printed_command}
 use Rattle.sudoers_list.specs.Listing.{listed_command}

@@ -1,5 +1,5 @@
 use Rattle.std.proofs.Common.{◌≡◌, ◌+◌, suc, List, ◌∷◌, slice_get, drop, map, arith, ap, sym, ◌∙◌}
-use Rattle.sudoers_reader.specs.View.{node_shown}
+use Rattle.sudoers_rows.specs.View.{node_shown}
 use Rattle.sudoers_tree.specs.Line.{Line, line_in, line_shown}
 use Rattle.sudoers_match.specs.Specs.{spec_in}
 use Rattle.sudoers_list.specs.Reason.{specs_on}

@@ -3,12 +3,12 @@ use Rattle.std.specs.Option.{option_map, option_or, is_some}
 use Rattle.std.proofs.lemmas.List.{length-map}
 use Rattle.sudoers_line.specs.declared.node.Kind.TheVariants.{Host, Cmnd}
 use Rattle.sudoers_line.specs.declared.node.CmdSpec.{CmdSpec}
-use Rattle.sudoers_reader.specs.Tables.{command_in, member_in}
-use Rattle.sudoers_reader.specs.View.{command_shown, commands_shown, group_shown, members_shown, runas_shown}
+use Rattle.sudoers_rows.specs.Tables.{command_in, member_in}
+use Rattle.sudoers_rows.specs.View.{command_shown, commands_shown, group_shown, members_shown, runas_shown}
 use Rattle.sudoers_hits.specs.Hits.{host_hits}
 use Rattle.sudoers_match.specs.Allows.{Permits}
 use Rattle.sudoers_match.specs.Answer.{answer_shown}
-use Rattle.sudoers_reader.specs.declared.view.RunasSpec.{RunasSpec as RunasView}
+use Rattle.sudoers_rows.specs.declared.view.RunasSpec.{RunasSpec as RunasView}
 use Rattle.sudoers_match.specs.declared.head.Head.{Head as HeadHeld}
 use Rattle.sudoers_match.specs.Heads.{Head, inherit}
 use Rattle.sudoers_match.specs.IsHead.{IsHead}

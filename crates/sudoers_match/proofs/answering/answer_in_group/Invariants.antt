@@ -1,7 +1,7 @@
 use Rattle.std.proofs.Common.{map}
 use Rattle.std.specs.Option.{option_map}
-use Rattle.sudoers_reader.specs.View.{members_shown, runas_shown}
-use Rattle.sudoers_reader.specs.Tables.{command_in}
+use Rattle.sudoers_rows.specs.View.{members_shown, runas_shown}
+use Rattle.sudoers_rows.specs.Tables.{command_in}
 use Rattle.sudoers_match.specs.Answer.{answer_shown}
 use Rattle.sudoers_match.specs.Question.{IsQuestion, IsListSoFar, PermittedIs}
 use Rattle.sudoers_match.proofs.answering.answer_in_group.Given as goal

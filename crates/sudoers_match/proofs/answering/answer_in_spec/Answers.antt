@@ -3,8 +3,8 @@ use Rattle.std.specs.Option.{option_map}
 use Rattle.std.proofs.lemmas.List.{drop_all, length-map}
 use Rattle.sudoers_line.specs.declared.node.Kind.TheVariants.{User}
 use Rattle.sudoers_line.specs.declared.node.HostGroup.{HostGroup}
-use Rattle.sudoers_reader.specs.Tables.{group_in}
-use Rattle.sudoers_reader.specs.View.{group_shown, groups_shown, members_shown}
+use Rattle.sudoers_rows.specs.Tables.{group_in}
+use Rattle.sudoers_rows.specs.View.{group_shown, groups_shown, members_shown}
 use Rattle.sudoers_hits.specs.Hits.{user_hits}
 use Rattle.sudoers_match.specs.Allows.{Permits}
 use Rattle.sudoers_match.specs.Answer.{answer_shown}

@@ -1,7 +1,7 @@
 use Rattle.std.proofs.Common.{drop, map}
 use Rattle.std.specs.Option.{option_map}
-use Rattle.sudoers_reader.specs.View.{members_shown}
-use Rattle.sudoers_reader.specs.Tables.{group_in}
+use Rattle.sudoers_rows.specs.View.{members_shown}
+use Rattle.sudoers_rows.specs.Tables.{group_in}
 use Rattle.sudoers_match.specs.Answer.{answer_shown}
 use Rattle.sudoers_match.specs.Question.{IsQuestion, IsSoFar}
 use Rattle.sudoers_match.specs.Rows.{GroupRows}

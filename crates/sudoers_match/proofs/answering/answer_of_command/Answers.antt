@@ -1,7 +1,7 @@
 use Rattle.std.proofs.Common.{◌∷◌, [], true, false, None, Some, sym, subst, ap, ◌∙◌}
 use Rattle.std.specs.Option.{option_map}
 use Rattle.sudoers_line.specs.declared.node.Kind.TheVariants.{Cmnd}
-use Rattle.sudoers_reader.specs.View.{members_shown, runas_shown}
+use Rattle.sudoers_rows.specs.View.{members_shown, runas_shown}
 use Rattle.sudoers_hits.specs.declared.asked.CommandLine.{CommandLine}
 use Rattle.sudoers_hits.specs.Hits.{command_hits}
 use Rattle.sudoers_verdict.specs.Flat.{IsLatest}

@@ -1,7 +1,7 @@
 use Rattle.std.proofs.Common.{◌+◌, drop, map, slice_get, sym, subst, ap, ◌∙◌, arith}
 use Rattle.std.specs.Option.{option_map}
 use Rattle.std.proofs.lemmas.List.{drop_all}
-use Rattle.sudoers_reader.specs.View.{groups_shown, members_shown}
+use Rattle.sudoers_rows.specs.View.{groups_shown, members_shown}
 use Rattle.sudoers_tree.specs.Line.{line_in}
 use Rattle.sudoers_match.specs.Answer.{answer_shown}
 use Rattle.sudoers_match.specs.Question.{IsQuestion, IsSoFar}

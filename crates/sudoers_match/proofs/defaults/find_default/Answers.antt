@@ -4,7 +4,7 @@ use Rattle.std.specs.Option.{option_map, option_or, unwrap_or}
 use Rattle.std.specs.Borrow.{Bor}
 use Rattle.sudoers_line.specs.declared.node.Kind.TheVariants.{User, Host}
 use Rattle.sudoers_hits.specs.Hits.{user_hits, host_hits}
-use Rattle.sudoers_reader.specs.View.{params_shown, scope_shown}
+use Rattle.sudoers_rows.specs.View.{params_shown, scope_shown}
 use Rattle.sudoers_tree.specs.Line.{line_in}
 use Rattle.sudoers_verdict.specs.Search.{Remembers}
 use Rattle.sudoers_match.specs.Asked.{IsNameSoFar}

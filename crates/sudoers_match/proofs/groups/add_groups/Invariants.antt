@@ -1,6 +1,6 @@
 use Rattle.std.proofs.Common.{map}
 use Rattle.sudoers_line.specs.declared.node.Kind.TheVariants.{Host}
-use Rattle.sudoers_reader.specs.Tables.{group_in}
+use Rattle.sudoers_rows.specs.Tables.{group_in}
 use Rattle.sudoers_hits.specs.Hits.{host_hits}
 use Rattle.sudoers_verdict.specs.Search.{Remembers}
 use Rattle.sudoers_match.specs.Groups.{GroupPlaces}

@@ -1,7 +1,7 @@
 use Rattle.std.proofs.Common.{inl, inr, ◌++◌, [], ◌+◌, List, map, drop, slice_get, refl, sym, ap, subst, ◌∙◌, arith, append-nil, Vec, Global}
 use Rattle.sudoers_line.specs.declared.node.Kind.TheVariants.{User, Host}
 use Rattle.sudoers_hits.specs.Hits.{user_hits, host_hits}
-use Rattle.sudoers_reader.specs.View.{members_shown, groups_shown}
+use Rattle.sudoers_rows.specs.View.{members_shown, groups_shown}
 use Rattle.sudoers_tree.specs.Line.{line_in}
 use Rattle.sudoers_match.specs.Allows.{Permits}
 use Rattle.sudoers_check.specs.Chains.{HasReachableCycle}

@@ -1,6 +1,6 @@
 use Rattle.std.proofs.Common.{◌≡◌, ◌++◌, drop, map, flat_map, codes}
 use Rattle.sudoers_line.specs.declared.node.Digest.{Digest}
-use Rattle.sudoers_reader.specs.Tables.{digest_in}
+use Rattle.sudoers_rows.specs.Tables.{digest_in}
 use Rattle.sudoers_print.specs.Members.{printed_digest}
 use Rattle.sudoers_print.proofs.members.append_digests.Given as goal
 

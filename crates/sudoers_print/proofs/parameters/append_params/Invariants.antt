@@ -1,6 +1,6 @@
 use Rattle.std.proofs.Common.{◌≡◌, ◌++◌, drop, map, flat_map, codes}
 use Rattle.sudoers_line.specs.declared.node.Param.{Param}
-use Rattle.sudoers_reader.specs.Tables.{param_in}
+use Rattle.sudoers_rows.specs.Tables.{param_in}
 use Rattle.sudoers_print.specs.Parameters.{printed_param}
 use Rattle.sudoers_print.proofs.parameters.append_params.Given as goal
 

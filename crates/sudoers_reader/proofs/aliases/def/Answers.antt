@@ -5,8 +5,8 @@ use Rattle.sudoers_line.specs.Grammar.{list_stop}
 use Rattle.sudoers_line.specs.Seen.{seen}
 use Rattle.sudoers_reader.specs.Reader.{Read}
 use Rattle.sudoers_reader.specs.Descent.{def, definition}
-use Rattle.sudoers_reader.specs.Tables.{members_in}
-use Rattle.sudoers_reader.proofs.Growth.{grown_on}
+use Rattle.sudoers_rows.specs.Tables.{members_in}
+use Rattle.sudoers_rows.proofs.Growth.{grown_on}
 use Rattle.sudoers_reader.proofs.aliases.def.Goals as goal
 
 pub returns-clause-reads : goal.returns-clause-reads

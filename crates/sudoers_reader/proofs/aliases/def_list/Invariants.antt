@@ -1,6 +1,6 @@
 use Rattle.std.proofs.Common.{length}
 use Rattle.sudoers_reader.specs.Descent.{def}
-use Rattle.sudoers_reader.specs.Tables.{def_in}
+use Rattle.sudoers_rows.specs.Tables.{def_in}
 use Rattle.sudoers_reader.proofs.SoFar.{SoFar}
 use Rattle.sudoers_reader.proofs.aliases.def_list.Given as goal
 

@@ -2,7 +2,7 @@ use Rattle.std.proofs.Common.{◌≡◌, rules, ap, ◌∙◌}
 use Rattle.sudoers_line.specs.declared.node.Member.{Member}
 use Rattle.sudoers_reader.specs.Reader.{Read}
 use Rattle.sudoers_reader.specs.Descent.{arguments, with_args}
-use Rattle.sudoers_reader.specs.Tables.{member_in}
+use Rattle.sudoers_rows.specs.Tables.{member_in}
 use Rattle.sudoers_reader.proofs.ArgumentRows.{argued_says, argued_lasts}
 use Rattle.sudoers_reader.proofs.commands.arguments.Goals as goal
 

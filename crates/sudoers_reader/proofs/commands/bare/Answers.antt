@@ -1,4 +1,4 @@
-use Rattle.sudoers_reader.proofs.Growth.{grown_on}
+use Rattle.sudoers_rows.proofs.Growth.{grown_on}
 use Rattle.sudoers_reader.proofs.commands.bare.Goals as goal
 
 pub returns-clause-grown : goal.returns-clause-grown

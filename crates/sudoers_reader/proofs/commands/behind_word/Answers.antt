@@ -3,7 +3,8 @@ use Rattle.sudoers_line.specs.declared.node.Member.{Member}
 use Rattle.sudoers_line.specs.declared.arguments.Program.{Program}
 use Rattle.sudoers_line.specs.Arguments.{program_of}
 use Rattle.sudoers_reader.specs.Reader.{Outcome}
-use Rattle.sudoers_reader.specs.Tables.{ReadsAs, atom_in, member_in, word_in}
+use Rattle.sudoers_rows.specs.Tables.{atom_in, member_in}
+use Rattle.sudoers_reader.specs.Answer.{ReadsAs, word_in}
 use Rattle.sudoers_reader.proofs.WordRows.{alone, no_argument, with_arguments, some_program}
 use Rattle.sudoers_reader.proofs.commands.behind_word.Goals as goal
 

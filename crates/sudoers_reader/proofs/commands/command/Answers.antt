@@ -1,5 +1,5 @@
-use Rattle.sudoers_reader.specs.Tables.{digests_in}
-use Rattle.sudoers_reader.proofs.Growth.{grown_on}
+use Rattle.sudoers_rows.specs.Tables.{digests_in}
+use Rattle.sudoers_rows.proofs.Growth.{grown_on}
 use Rattle.sudoers_reader.proofs.WordRows.{digests_tell}
 use Rattle.sudoers_reader.proofs.commands.command.Goals as goal
 

@@ -5,8 +5,8 @@ use Rattle.sudoers_line.specs.declared.node.Param.{Param}
 use Rattle.sudoers_line.specs.declared.node.Scope.{Scope}
 use Rattle.sudoers_reader.specs.Reader.{Read}
 use Rattle.sudoers_reader.specs.Descent.{params, scoped}
-use Rattle.sudoers_reader.specs.Tables.{params_in, scope_in}
-use Rattle.sudoers_reader.proofs.Growth.{grown_on}
+use Rattle.sudoers_rows.specs.Tables.{params_in, scope_in}
+use Rattle.sudoers_rows.proofs.Growth.{grown_on}
 use Rattle.sudoers_reader.proofs.defaults.scoped.Goals as goal
 
 pub returns-in_err-params-clause-grown : goal.returns-in_err-params-clause-grown

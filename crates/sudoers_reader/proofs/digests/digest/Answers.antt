@@ -3,7 +3,7 @@ use Rattle.sudoers_line.specs.declared.node.Digest.{Digest}
 use Rattle.sudoers_line.specs.Seen.{seen}
 use Rattle.sudoers_reader.specs.Reader.{Read}
 use Rattle.sudoers_reader.specs.Descent.{digest_of, digest}
-use Rattle.sudoers_reader.proofs.Growth.{grown_self}
+use Rattle.sudoers_rows.proofs.Growth.{grown_self}
 use Rattle.sudoers_reader.proofs.digests.digest.Goals as goal
 
 pub returns-clause-reads : goal.returns-clause-reads

@@ -1,6 +1,6 @@
 use Rattle.std.proofs.Common.{length}
 use Rattle.sudoers_reader.specs.Descent.{digest}
-use Rattle.sudoers_reader.specs.Tables.{digest_in}
+use Rattle.sudoers_rows.specs.Tables.{digest_in}
 use Rattle.sudoers_reader.proofs.SoFar.{SoFar}
 use Rattle.sudoers_reader.proofs.digests.digest_list.Given as goal
 

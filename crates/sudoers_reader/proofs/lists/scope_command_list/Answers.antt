@@ -1,11 +1,11 @@
 use Rattle.std.proofs.Common.{◌++◌, List, rules, arith, sym, ap, ◌∙◌, subst}
 use Rattle.std.proofs.lemmas.Grind.{common_steps}
-use Rattle.sudoers_reader.specs.declared.rows.MemberRow.{MemberRow}
-use Rattle.sudoers_reader.specs.declared.rows.Tables.{Tables}
+use Rattle.sudoers_rows.specs.declared.rows.MemberRow.{MemberRow}
+use Rattle.sudoers_rows.specs.declared.rows.Tables.{Tables}
 use Rattle.sudoers_reader.specs.Reader.{separated}
 use Rattle.sudoers_reader.specs.Descent.{scope_command}
-use Rattle.sudoers_reader.specs.Tables.{member_in, members_in}
-use Rattle.sudoers_reader.proofs.Growth.{grown_self, grown_on}
+use Rattle.sudoers_rows.specs.Tables.{member_in, members_in}
+use Rattle.sudoers_rows.proofs.Growth.{grown_self, grown_on}
 use Rattle.sudoers_reader.proofs.SoFar.{SoFar, next_taken, all_read, list_kept, err_first, err_next}
 use Rattle.sudoers_reader.proofs.Loops.{scope_command_shrinks}
 use Rattle.sudoers_reader.proofs.lists.scope_command_list.Goals as goal

@@ -1,6 +1,6 @@
 use Rattle.std.proofs.Common.{length}
 use Rattle.sudoers_reader.specs.Descent.{scope_command}
-use Rattle.sudoers_reader.specs.Tables.{member_in}
+use Rattle.sudoers_rows.specs.Tables.{member_in}
 use Rattle.sudoers_reader.proofs.SoFar.{SoFar}
 use Rattle.sudoers_reader.proofs.lists.scope_command_list.Given as goal
 

@@ -1,12 +1,13 @@
 use Rattle.std.proofs.Common.{◌++◌, Err, List, rules, arith, sym, ap, ◌∙◌, subst}
 use Rattle.std.proofs.lemmas.Grind.{common_steps}
 use Rattle.sudoers_line.specs.declared.node.Member.{Member}
-use Rattle.sudoers_reader.specs.declared.rows.MemberRow.{MemberRow}
-use Rattle.sudoers_reader.specs.declared.rows.Tables.{Tables}
+use Rattle.sudoers_rows.specs.declared.rows.MemberRow.{MemberRow}
+use Rattle.sudoers_rows.specs.declared.rows.Tables.{Tables}
 use Rattle.sudoers_reader.specs.Reader.{Outcome, separated}
 use Rattle.sudoers_reader.specs.Descent.{member}
-use Rattle.sudoers_reader.specs.Tables.{ReadsAs, member_in, members_in}
-use Rattle.sudoers_reader.proofs.Growth.{grown_self, grown_on}
+use Rattle.sudoers_rows.specs.Tables.{member_in, members_in}
+use Rattle.sudoers_reader.specs.Answer.{ReadsAs}
+use Rattle.sudoers_rows.proofs.Growth.{grown_self, grown_on}
 use Rattle.sudoers_reader.proofs.SoFar.{SoFar, next_taken, all_read, list_kept, err_first, err_next}
 use Rattle.sudoers_reader.proofs.Loops.{member_shrinks, members_are}
 use Rattle.sudoers_reader.proofs.members.members.Goals as goal

@@ -1,6 +1,6 @@
 use Rattle.std.proofs.Common.{length}
 use Rattle.sudoers_reader.specs.Descent.{member}
-use Rattle.sudoers_reader.specs.Tables.{member_in}
+use Rattle.sudoers_rows.specs.Tables.{member_in}
 use Rattle.sudoers_reader.proofs.SoFar.{SoFar}
 use Rattle.sudoers_reader.proofs.members.members.Given as goal
 

@@ -2,7 +2,7 @@ use Rattle.std.proofs.Common.{ap, sym, ◌∙◌, option_map, Some}
 use Rattle.sudoers_line.specs.declared.node.Member.{Member}
 use Rattle.sudoers_line.specs.Seen.{seen}
 use Rattle.sudoers_reader.specs.Descent.{one_atom}
-use Rattle.sudoers_reader.proofs.Growth.{grown_self}
+use Rattle.sudoers_rows.proofs.Growth.{grown_self}
 use Rattle.sudoers_reader.proofs.TokenRows.{refused, taken, no_atom, some_atom, same_atom, row_says, row_lasts}
 use Rattle.sudoers_reader.proofs.members.one_atom.Goals as goal
 

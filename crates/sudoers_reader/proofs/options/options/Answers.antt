@@ -1,12 +1,12 @@
 use Rattle.std.proofs.Common.{◌++◌, [], List, rules, arith, sym, ap, ◌∙◌, subst}
 use Rattle.std.proofs.lemmas.Grind.{common_steps}
 use Rattle.sudoers_line.specs.Piece.{option_name}
-use Rattle.sudoers_reader.specs.declared.rows.OptionRow.{OptionRow}
-use Rattle.sudoers_reader.specs.declared.rows.Tables.{Tables}
+use Rattle.sudoers_rows.specs.declared.rows.OptionRow.{OptionRow}
+use Rattle.sudoers_rows.specs.declared.rows.Tables.{Tables}
 use Rattle.sudoers_reader.specs.Reader.{many, snoc}
 use Rattle.sudoers_reader.specs.Descent.{says, option}
-use Rattle.sudoers_reader.specs.Tables.{option_in, options_in}
-use Rattle.sudoers_reader.proofs.Growth.{grown_self, grown_on}
+use Rattle.sudoers_rows.specs.Tables.{option_in, options_in}
+use Rattle.sudoers_rows.proofs.Growth.{grown_self, grown_on}
 use Rattle.sudoers_reader.proofs.SoFar.{list_kept}
 use Rattle.sudoers_reader.proofs.ManySoFar.{ManySoFar, none_taken, one_taken, many_read, err_many}
 use Rattle.sudoers_reader.proofs.SpecLaws.{option_shrinks}

@@ -1,7 +1,7 @@
 use Rattle.std.proofs.Common.{length}
 use Rattle.sudoers_line.specs.Piece.{option_name}
 use Rattle.sudoers_reader.specs.Descent.{says, option}
-use Rattle.sudoers_reader.specs.Tables.{option_in}
+use Rattle.sudoers_rows.specs.Tables.{option_in}
 use Rattle.sudoers_reader.proofs.ManySoFar.{ManySoFar}
 use Rattle.sudoers_reader.proofs.options.options.Given as goal
 

@@ -1,7 +1,7 @@
 use Rattle.std.proofs.Common.{length}
 use Rattle.sudoers_line.specs.Piece.{tag_of}
 use Rattle.sudoers_reader.specs.Descent.{says, tag}
-use Rattle.sudoers_reader.specs.Tables.{tag_in}
+use Rattle.sudoers_rows.specs.Tables.{tag_in}
 use Rattle.sudoers_reader.proofs.ManySoFar.{ManySoFar}
 use Rattle.sudoers_reader.proofs.options.tags.Given as goal
 

@@ -1,8 +1,8 @@
 use Rattle.std.proofs.Common.{option_map, sym, ap, ◌∙◌}
 use Rattle.sudoers_line.specs.Atom.{option_value}
 use Rattle.sudoers_line.specs.Seen.{seen}
-use Rattle.sudoers_reader.specs.Tables.{text_in}
-use Rattle.sudoers_reader.proofs.Growth.{none_kept, some_kept, lasts_kept}
+use Rattle.sudoers_rows.specs.Tables.{text_in}
+use Rattle.sudoers_rows.proofs.Growth.{none_kept, some_kept, lasts_kept}
 use Rattle.sudoers_reader.proofs.TokenRows.{refused, taken}
 use Rattle.sudoers_reader.proofs.options.value.Goals as goal
 

@@ -2,7 +2,7 @@ use Rattle.std.proofs.Common.{◌≡◌, rules}
 use Rattle.sudoers_line.specs.Seen.{seen}
 use Rattle.sudoers_reader.specs.Reader.{Read}
 use Rattle.sudoers_reader.specs.Descent.{flag, flagged}
-use Rattle.sudoers_reader.specs.Tables.{param_in}
+use Rattle.sudoers_rows.specs.Tables.{param_in}
 use Rattle.sudoers_reader.proofs.TokenRows.{kept}
 use Rattle.sudoers_reader.proofs.params.flagged.Goals as goal
 

@@ -2,7 +2,7 @@ use Rattle.std.proofs.Common.{◌≡◌, rules, false}
 use Rattle.sudoers_line.specs.Seen.{seen}
 use Rattle.sudoers_reader.specs.Reader.{Read}
 use Rattle.sudoers_reader.specs.Descent.{flag, named}
-use Rattle.sudoers_reader.specs.Tables.{param_in}
+use Rattle.sudoers_rows.specs.Tables.{param_in}
 use Rattle.sudoers_reader.proofs.TokenRows.{kept}
 use Rattle.sudoers_reader.proofs.params.named.Goals as goal
 

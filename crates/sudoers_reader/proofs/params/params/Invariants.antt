@@ -1,6 +1,6 @@
 use Rattle.std.proofs.Common.{length}
 use Rattle.sudoers_reader.specs.Descent.{param}
-use Rattle.sudoers_reader.specs.Tables.{param_in}
+use Rattle.sudoers_rows.specs.Tables.{param_in}
 use Rattle.sudoers_reader.proofs.SoFar.{SoFar}
 use Rattle.sudoers_reader.proofs.params.params.Given as goal
 

@@ -1,11 +1,11 @@
 use Rattle.std.proofs.Common.{◌≡◌, ℕ, List, Some, false, rules, ap₂}
 use Rattle.sudoers_line.specs.declared.node.Param.{Param}
 use Rattle.sudoers_line.specs.Seen.{seen}
-use Rattle.sudoers_reader.specs.declared.rows.ParamRow.{ParamRow}
+use Rattle.sudoers_rows.specs.declared.rows.ParamRow.{ParamRow}
 use Rattle.sudoers_reader.specs.Reader.{Read}
 use Rattle.sudoers_reader.specs.Descent.{set, setting}
-use Rattle.sudoers_reader.specs.Tables.{param_in}
-use Rattle.sudoers_reader.proofs.Growth.{grown_on}
+use Rattle.sudoers_rows.specs.Tables.{param_in}
+use Rattle.sudoers_rows.proofs.Growth.{grown_on}
 use Rattle.sudoers_reader.proofs.TokenRows.{kept}
 use Rattle.sudoers_reader.proofs.params.setting.Goals as goal
 

@@ -1,6 +1,6 @@
 use Rattle.std.proofs.Common.{◌≡◌, Ok, rules}
 use Rattle.sudoers_reader.specs.Outcome.{LineGives, outcome_of}
-use Rattle.sudoers_reader.specs.Tables.{node_in}
+use Rattle.sudoers_rows.specs.Tables.{node_in}
 use Rattle.sudoers_reader.proofs.Contract.{only, refused}
 use Rattle.sudoers_reader.proofs.reading.parse.Goals as goal
 

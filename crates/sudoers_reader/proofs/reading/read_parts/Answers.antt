@@ -1,4 +1,4 @@
-use Rattle.sudoers_reader.proofs.CutBack.{cut_grown, cut_back, on_err}
+use Rattle.sudoers_rows.proofs.CutBack.{cut_grown, cut_back, on_err}
 use Rattle.sudoers_reader.proofs.reading.read_parts.Goals as goal
 
 pub returns-in_err-fault_behind-in-Fault-clause-grown : goal.returns-in_err-fault_behind-in-Fault-clause-grown

@@ -3,8 +3,8 @@ use Rattle.sudoers_line.specs.declared.node.Member.{Member}
 use Rattle.sudoers_line.specs.declared.node.RunasSpec.{RunasSpec}
 use Rattle.sudoers_reader.specs.Reader.{Read}
 use Rattle.sudoers_reader.specs.Descent.{runas}
-use Rattle.sudoers_reader.specs.Tables.{members_in}
-use Rattle.sudoers_reader.proofs.Growth.{grown_on}
+use Rattle.sudoers_rows.specs.Tables.{members_in}
+use Rattle.sudoers_rows.proofs.Growth.{grown_on}
 use Rattle.sudoers_reader.proofs.runas.runas.Goals as goal
 
 pub returns-in_err-groups-clause-grown : goal.returns-in_err-groups-clause-grown

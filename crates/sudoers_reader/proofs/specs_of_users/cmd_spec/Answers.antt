@@ -6,8 +6,8 @@ use Rattle.sudoers_line.specs.declared.node.RunasSpec.{RunasSpec}
 use Rattle.sudoers_line.specs.declared.node.Tag.{Tag}
 use Rattle.sudoers_reader.specs.Reader.{Read}
 use Rattle.sudoers_reader.specs.Descent.{cmd_spec}
-use Rattle.sudoers_reader.specs.Tables.{member_in, options_in, perhaps_runas_in, tags_in}
-use Rattle.sudoers_reader.proofs.Growth.{grown_on}
+use Rattle.sudoers_rows.specs.Tables.{member_in, options_in, perhaps_runas_in, tags_in}
+use Rattle.sudoers_rows.proofs.Growth.{grown_on}
 use Rattle.sudoers_reader.proofs.specs_of_users.cmd_spec.Goals as goal
 
 pub returns-clause-reads : goal.returns-clause-reads

@@ -1,6 +1,6 @@
 use Rattle.std.proofs.Common.{length}
 use Rattle.sudoers_reader.specs.Descent.{cmd_spec}
-use Rattle.sudoers_reader.specs.Tables.{command_in}
+use Rattle.sudoers_rows.specs.Tables.{command_in}
 use Rattle.sudoers_reader.proofs.SoFar.{SoFar}
 use Rattle.sudoers_reader.proofs.specs_of_users.cmd_spec_list.Given as goal
 

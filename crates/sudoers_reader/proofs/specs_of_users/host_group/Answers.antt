@@ -4,8 +4,8 @@ use Rattle.sudoers_line.specs.declared.node.HostGroup.{HostGroup}
 use Rattle.sudoers_line.specs.declared.node.Member.{Member}
 use Rattle.sudoers_reader.specs.Reader.{Read}
 use Rattle.sudoers_reader.specs.Descent.{host_group}
-use Rattle.sudoers_reader.specs.Tables.{members_in, commands_in}
-use Rattle.sudoers_reader.proofs.Growth.{grown_on}
+use Rattle.sudoers_rows.specs.Tables.{members_in, commands_in}
+use Rattle.sudoers_rows.proofs.Growth.{grown_on}
 use Rattle.sudoers_reader.proofs.specs_of_users.host_group.Goals as goal
 
 pub returns-in_err-commands-clause-grown : goal.returns-in_err-commands-clause-grown

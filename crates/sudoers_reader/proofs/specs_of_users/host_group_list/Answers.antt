@@ -1,11 +1,11 @@
 use Rattle.std.proofs.Common.{◌++◌, List, rules, arith, sym, ap, ◌∙◌, subst}
 use Rattle.std.proofs.lemmas.Grind.{common_steps}
-use Rattle.sudoers_reader.specs.declared.rows.GroupRow.{GroupRow}
-use Rattle.sudoers_reader.specs.declared.rows.Tables.{Tables}
+use Rattle.sudoers_rows.specs.declared.rows.GroupRow.{GroupRow}
+use Rattle.sudoers_rows.specs.declared.rows.Tables.{Tables}
 use Rattle.sudoers_reader.specs.Reader.{separated}
 use Rattle.sudoers_reader.specs.Descent.{host_group}
-use Rattle.sudoers_reader.specs.Tables.{group_in, groups_in}
-use Rattle.sudoers_reader.proofs.Growth.{grown_self, grown_on}
+use Rattle.sudoers_rows.specs.Tables.{group_in, groups_in}
+use Rattle.sudoers_rows.proofs.Growth.{grown_self, grown_on}
 use Rattle.sudoers_reader.proofs.SoFar.{SoFar, next_taken, all_read, list_kept, err_first, err_next}
 use Rattle.sudoers_reader.proofs.Loops.{host_group_shrinks}
 use Rattle.sudoers_reader.proofs.specs_of_users.host_group_list.Goals as goal

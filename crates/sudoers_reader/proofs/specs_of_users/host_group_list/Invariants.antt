@@ -1,6 +1,6 @@
 use Rattle.std.proofs.Common.{length}
 use Rattle.sudoers_reader.specs.Descent.{host_group}
-use Rattle.sudoers_reader.specs.Tables.{group_in}
+use Rattle.sudoers_rows.specs.Tables.{group_in}
 use Rattle.sudoers_reader.proofs.SoFar.{SoFar}
 use Rattle.sudoers_reader.proofs.specs_of_users.host_group_list.Given as goal
 

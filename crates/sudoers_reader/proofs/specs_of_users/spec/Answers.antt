@@ -5,8 +5,8 @@ use Rattle.sudoers_line.specs.declared.node.Node.{Node}
 use Rattle.sudoers_line.specs.declared.node.Node.TheVariants.{Spec}
 use Rattle.sudoers_reader.specs.Reader.{Read}
 use Rattle.sudoers_reader.specs.Descent.{spec}
-use Rattle.sudoers_reader.specs.Tables.{members_in, groups_in}
-use Rattle.sudoers_reader.proofs.Growth.{grown_on}
+use Rattle.sudoers_rows.specs.Tables.{members_in, groups_in}
+use Rattle.sudoers_rows.proofs.Growth.{grown_on}
 use Rattle.sudoers_reader.proofs.specs_of_users.spec.Goals as goal
 
 pub returns-in_err-groups-clause-grown : goal.returns-in_err-groups-clause-grown

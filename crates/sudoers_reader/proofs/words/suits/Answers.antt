@@ -1,5 +1,6 @@
 use Rattle.std.proofs.Common.{sym, ◌∙◌, subst}
-use Rattle.sudoers_reader.specs.Tables.{Tells, atom_in}
+use Rattle.sudoers_rows.specs.Tables.{atom_in}
+use Rattle.sudoers_reader.specs.Answer.{Tells}
 use Rattle.sudoers_reader.proofs.WordRows.{suits_none, suits_some}
 use Rattle.sudoers_reader.proofs.words.suits.Goals as goal
 

@@ -4,8 +4,8 @@ use Rattle.sudoers_line.specs.declared.arguments.Program.{Program}
 use Rattle.sudoers_line.specs.Seen.{seen}
 use Rattle.sudoers_line.specs.Atom.{bare_command}
 use Rattle.sudoers_reader.specs.Descent.{one_word}
-use Rattle.sudoers_reader.specs.Tables.{atom_in, digests_in}
-use Rattle.sudoers_reader.proofs.Growth.{none_kept, some_kept, lasts_kept}
+use Rattle.sudoers_rows.specs.Tables.{atom_in, digests_in}
+use Rattle.sudoers_rows.proofs.Growth.{none_kept, some_kept, lasts_kept}
 use Rattle.sudoers_reader.proofs.TokenRows.{refused, taken}
 use Rattle.sudoers_reader.proofs.WordRows.{no_word, unsuited, some_word, word_says, word_lasts}
 use Rattle.sudoers_reader.proofs.words.word.Goals as goal

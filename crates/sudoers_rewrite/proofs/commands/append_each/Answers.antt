@@ -1,7 +1,7 @@
 use Rattle.std.proofs.Common.{rules, ◌≡◌, ◌+◌, true, false, inr, drop, sym, ap, subst, ◌∙◌, Err, IfErr}
 use Rattle.sudoers_line.specs.declared.node.CmdSpec.{CmdSpec}
 use Rattle.std.proofs.Common.{List, ◌++◌}
-use Rattle.sudoers_reader.specs.Tables.{command_in}
+use Rattle.sudoers_rows.specs.Tables.{command_in}
 use Rattle.sudoers_cvt.specs.declared.fault.CvtFault.{CvtFault}
 use Rattle.sudoers_rewrite.specs.declared.tally.Tally.{Tally}
 use Rattle.sudoers_rewrite.specs.Count.{commands_count}

@@ -1,7 +1,7 @@
 use Rattle.std.proofs.Common.{◌≡◌, ◌+◌, ◌++◌, true, List, drop, map}
 use Rattle.sudoers_line.specs.declared.node.CmdSpec.{CmdSpec}
-use Rattle.sudoers_reader.specs.declared.rows.Tables.{Tables}
-use Rattle.sudoers_reader.specs.Tables.{command_in}
+use Rattle.sudoers_rows.specs.declared.rows.Tables.{Tables}
+use Rattle.sudoers_rows.specs.Tables.{command_in}
 use Rattle.sudoers_rewrite.specs.Count.{commands_count}
 use Rattle.sudoers_rewrite.specs.Written.{each_in}
 use Rattle.sudoers_rewrite.proofs.commands.append_each.Given as goal

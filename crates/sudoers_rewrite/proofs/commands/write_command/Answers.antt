@@ -3,9 +3,9 @@ use Rattle.std.proofs.lemmas.Result.{on_ok_weaker}
 use Rattle.std.specs.Option.{option_map}
 use Rattle.sudoers_line.specs.declared.node.Kind.TheVariants.{Cmnd}
 use Rattle.sudoers_line.specs.declared.node.CmdSpec.{CmdSpec}
-use Rattle.sudoers_reader.specs.declared.rows.CommandRow.{CommandRow}
-use Rattle.sudoers_reader.specs.declared.rows.Tables.{Tables}
-use Rattle.sudoers_reader.specs.Tables.{command_in}
+use Rattle.sudoers_rows.specs.declared.rows.CommandRow.{CommandRow}
+use Rattle.sudoers_rows.specs.declared.rows.Tables.{Tables}
+use Rattle.sudoers_rows.specs.Tables.{command_in}
 use Rattle.sudoers_cvt.specs.declared.fault.CvtFault.{CvtFault}
 use Rattle.sudoers_rewrite.specs.Count.{commands_count}
 use Rattle.sudoers_rewrite.specs.Extended.{Extended}

@@ -1,7 +1,7 @@
 use Rattle.std.proofs.Common.{rules, ◌≡◌, ◌+◌, List, Err, IfErr, flat_map, map, drop, sym, ap, subst, ◌∙◌}
 use Rattle.std.proofs.lemmas.List.{at_drop_all, at_drop_more}
-use Rattle.sudoers_reader.specs.declared.rows.CommandRow.{CommandRow}
-use Rattle.sudoers_reader.specs.Tables.{command_in}
+use Rattle.sudoers_rows.specs.declared.rows.CommandRow.{CommandRow}
+use Rattle.sudoers_rows.specs.Tables.{command_in}
 use Rattle.sudoers_cvt.specs.declared.fault.CvtFault.{CvtFault}
 use Rattle.sudoers_rewrite.specs.Count.{commands_count}
 use Rattle.sudoers_rewrite.specs.Written.{IsRefusal, command_if}

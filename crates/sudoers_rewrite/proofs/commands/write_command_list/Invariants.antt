@@ -1,6 +1,6 @@
 use Rattle.std.proofs.Common.{◌≡◌, ◌+◌, ◌++◌, true, drop, map, flat_map}
-use Rattle.sudoers_reader.specs.declared.rows.Tables.{Tables}
-use Rattle.sudoers_reader.specs.Tables.{command_in}
+use Rattle.sudoers_rows.specs.declared.rows.Tables.{Tables}
+use Rattle.sudoers_rows.specs.Tables.{command_in}
 use Rattle.sudoers_rewrite.specs.Count.{commands_count}
 use Rattle.sudoers_rewrite.specs.Extended.{IsLike, Extended}
 use Rattle.sudoers_rewrite.specs.Written.{command_if}

@@ -1,8 +1,8 @@
 use Rattle.std.proofs.Common.{◌≡◌, ◌++◌, ap, ◌∙◌, map, length}
 use Rattle.std.proofs.lemmas.Result.{IfOk-weaker}
-use Rattle.sudoers_reader.specs.declared.rows.Range.{Range}
-use Rattle.sudoers_reader.specs.declared.rows.Tables.{Tables}
-use Rattle.sudoers_reader.specs.Tables.{IsRange, member_in, members_in}
+use Rattle.sudoers_rows.specs.declared.rows.Range.{Range}
+use Rattle.sudoers_rows.specs.declared.rows.Tables.{Tables}
+use Rattle.sudoers_rows.specs.Tables.{IsRange, member_in, members_in}
 use Rattle.sudoers_rewrite.specs.Extended.{Stays}
 use Rattle.sudoers_rewrite.proofs.Extending.{added, members_like}
 use Rattle.sudoers_rewrite.proofs.copying.write_members.Goals as goal

@@ -1,5 +1,5 @@
 use Rattle.std.proofs.Common.{◌≡◌, ◌++◌, drop, map}
-use Rattle.sudoers_reader.specs.Tables.{def_in}
+use Rattle.sudoers_rows.specs.Tables.{def_in}
 use Rattle.sudoers_rewrite.specs.Shortcuts.{defined_as, defined_in}
 use Rattle.sudoers_rewrite.proofs.definitions.append_defs.Given as goal
 

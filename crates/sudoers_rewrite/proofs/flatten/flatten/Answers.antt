@@ -1,5 +1,5 @@
 use Rattle.std.proofs.Common.{◌≡◌, ◌++◌, ◌∷◌, [], map, false, ap, ◌∙◌, rules}
-use Rattle.sudoers_reader.specs.Tables.{member_in}
+use Rattle.sudoers_rows.specs.Tables.{member_in}
 use Rattle.sudoers_verdict.specs.Flattened.{replaced_times}
 use Rattle.sudoers_rewrite.specs.declared.flatten.Part.{Part}
 use Rattle.sudoers_rewrite.specs.Parts.{left_of}

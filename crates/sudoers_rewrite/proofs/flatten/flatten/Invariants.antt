@@ -1,5 +1,5 @@
 use Rattle.std.proofs.Common.{◌≡◌, ◌++◌, map}
-use Rattle.sudoers_reader.specs.Tables.{member_in}
+use Rattle.sudoers_rows.specs.Tables.{member_in}
 use Rattle.sudoers_verdict.specs.Flattened.{flattened}
 use Rattle.sudoers_rewrite.specs.Parts.{left_of, steps_left}
 use Rattle.sudoers_rewrite.proofs.flatten.flatten.Given as goal

@@ -1,5 +1,5 @@
 use Rattle.std.proofs.Common.{◌≡◌, ◌+◌, ◌∷◌, [], suc, None, MatchOption, refl, sym, subst, arith, rules}
-use Rattle.sudoers_reader.specs.Tables.{member_in}
+use Rattle.sudoers_rows.specs.Tables.{member_in}
 use Rattle.sudoers_verdict.specs.Flat.{alias_of}
 use Rattle.sudoers_verdict.specs.Flattened.{replaced_times}
 use Rattle.sudoers_rewrite.specs.Parts.{IsReplacement}

@@ -1,7 +1,7 @@
 use Rattle.std.proofs.Common.{ℕ, ◌≡◌, ◌⊎◌, inl, inr, ◌<◌, ◌≤◌, ◌++◌, ◌∷◌, [], List, length, map, refl, sym, ap, subst, ◌∙◌, length-append, arith, rules}
 use Rattle.std.proofs.lemmas.List.{length-map, nil_from_length}
 use Rattle.std.proofs.lemmas.Result.{IfErr-weaker, on_ok_weaker}
-use Rattle.sudoers_reader.specs.Tables.{member_in}
+use Rattle.sudoers_rows.specs.Tables.{member_in}
 use Rattle.sudoers_verdict.specs.Flattened.{replaced_times, turned_member}
 use Rattle.sudoers_cvt.specs.declared.fault.CvtFault.TheVariants.{TooLarge, NoMemory}
 use Rattle.sudoers_rewrite.specs.declared.flatten.Part.{Part}

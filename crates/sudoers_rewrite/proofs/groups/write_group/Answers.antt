@@ -1,7 +1,7 @@
 use Rattle.std.proofs.Common.{◌≡◌, List, flat_map, map, ap, ◌∙◌}
 use Rattle.std.specs.List.{slice_range}
-use Rattle.sudoers_reader.specs.declared.rows.CommandRow.{CommandRow}
-use Rattle.sudoers_reader.specs.Tables.{command_in, commands_in}
+use Rattle.sudoers_rows.specs.declared.rows.CommandRow.{CommandRow}
+use Rattle.sudoers_rows.specs.Tables.{command_in, commands_in}
 use Rattle.sudoers_rewrite.specs.Written.{command_if}
 use Rattle.sudoers_rewrite.proofs.Extending.{extended_on}
 use Rattle.sudoers_rewrite.proofs.groups.write_group.Goals as goal

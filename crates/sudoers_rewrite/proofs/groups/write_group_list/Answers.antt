@@ -1,7 +1,7 @@
 use Rattle.std.proofs.Common.{◌≡◌, ◌+◌, List, map, drop, get_or, ap, ◌∙◌}
 use Rattle.std.proofs.lemmas.List.{at_drop_all}
 use Rattle.sudoers_line.specs.declared.node.HostGroup.{HostGroup}
-use Rattle.sudoers_reader.specs.Tables.{commands_in, group_in, member_in}
+use Rattle.sudoers_rows.specs.Tables.{commands_in, group_in, member_in}
 use Rattle.sudoers_rewrite.specs.declared.selecting.Selected.{Selected}
 use Rattle.sudoers_rewrite.specs.Selected.{selected_in}
 use Rattle.sudoers_rewrite.specs.Written.{group_if, group_of}

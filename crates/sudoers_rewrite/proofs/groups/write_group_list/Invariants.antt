@@ -1,6 +1,6 @@
 use Rattle.std.proofs.Common.{◌≡◌, ◌+◌, ◌++◌, true, drop, map}
-use Rattle.sudoers_reader.specs.declared.rows.Tables.{Tables}
-use Rattle.sudoers_reader.specs.Tables.{group_in}
+use Rattle.sudoers_rows.specs.declared.rows.Tables.{Tables}
+use Rattle.sudoers_rows.specs.Tables.{group_in}
 use Rattle.sudoers_rewrite.specs.Count.{groups_count}
 use Rattle.sudoers_rewrite.specs.Extended.{IsLike, Extended}
 use Rattle.sudoers_rewrite.specs.Selected.{selected_in}

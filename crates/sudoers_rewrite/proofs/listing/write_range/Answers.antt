@@ -1,6 +1,6 @@
 use Rattle.std.proofs.Common.{ap, ◌∙◌, map}
 use Rattle.sudoers_line.specs.declared.node.Kind.TheVariants.{Runas}
-use Rattle.sudoers_reader.specs.Tables.{member_in}
+use Rattle.sudoers_rows.specs.Tables.{member_in}
 use Rattle.sudoers_rewrite.specs.Written.{list_if}
 use Rattle.sudoers_rewrite.proofs.Extending.{members_like}
 use Rattle.sudoers_rewrite.proofs.listing.write_range.Goals as goal

@@ -1,5 +1,5 @@
 use Rattle.std.proofs.Common.{map, ap, sym, ◌∙◌}
-use Rattle.sudoers_reader.specs.Tables.{member_in}
+use Rattle.sudoers_rows.specs.Tables.{member_in}
 use Rattle.sudoers_rewrite.specs.Filter.{said}
 use Rattle.sudoers_rewrite.specs.Matcher.{is_wanted}
 use Rattle.sudoers_rewrite.proofs.Matchers.{set_remembered, any_more}

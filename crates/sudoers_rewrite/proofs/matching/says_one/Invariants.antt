@@ -1,5 +1,5 @@
 use Rattle.std.proofs.Common.{◌≡◌, drop, map}
-use Rattle.sudoers_reader.specs.Tables.{member_in}
+use Rattle.sudoers_rows.specs.Tables.{member_in}
 use Rattle.sudoers_rewrite.specs.Matcher.{AreRemembered, says_one}
 use Rattle.sudoers_rewrite.proofs.matching.says_one.Given as goal
 

@@ -1,8 +1,8 @@
 use Rattle.std.proofs.Common.{◌≡◌, List, map, ap, ◌∙◌}
 use Rattle.std.specs.List.{slice_range}
 use Rattle.sudoers_line.specs.Grammar.{list_stop}
-use Rattle.sudoers_reader.specs.declared.rows.MemberRow.{MemberRow}
-use Rattle.sudoers_reader.specs.Tables.{member_in, members_in, text_in}
+use Rattle.sudoers_rows.specs.declared.rows.MemberRow.{MemberRow}
+use Rattle.sudoers_rows.specs.Tables.{member_in, members_in, text_in}
 use Rattle.sudoers_rewrite.proofs.Extending.{extended_on, like_on, members_like, text_like}
 use Rattle.sudoers_rewrite.proofs.nodes.write_def.Goals as goal
 

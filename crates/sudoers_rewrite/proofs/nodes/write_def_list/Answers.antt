@@ -2,8 +2,8 @@ use Rattle.std.proofs.Common.{◌+◌, List, ◌∷◌, map, drop, sym, ap, ◌�
 use Rattle.std.proofs.lemmas.List.{at_drop_all, at_drop_more}
 use Rattle.std.proofs.lemmas.Result.{IfOk-weaker}
 use Rattle.sudoers_line.specs.declared.node.Def.{Def}
-use Rattle.sudoers_reader.specs.declared.rows.Range.{Range}
-use Rattle.sudoers_reader.specs.Tables.{def_in, defs_in}
+use Rattle.sudoers_rows.specs.declared.rows.Range.{Range}
+use Rattle.sudoers_rows.specs.Tables.{def_in, defs_in}
 use Rattle.sudoers_rewrite.specs.Extended.{Stays}
 use Rattle.sudoers_rewrite.specs.Written.{StayAll}
 use Rattle.sudoers_rewrite.proofs.Extending.{extended_on, like_on}

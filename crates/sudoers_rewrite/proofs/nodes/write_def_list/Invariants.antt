@@ -1,6 +1,6 @@
 use Rattle.std.proofs.Common.{◌≡◌, ◌++◌, drop, map}
-use Rattle.sudoers_reader.specs.declared.rows.Tables.{Tables}
-use Rattle.sudoers_reader.specs.Tables.{def_in}
+use Rattle.sudoers_rows.specs.declared.rows.Tables.{Tables}
+use Rattle.sudoers_rows.specs.Tables.{def_in}
 use Rattle.sudoers_rewrite.specs.Extended.{IsLike, Extended}
 use Rattle.sudoers_rewrite.proofs.nodes.write_def_list.Given as goal
 

@@ -1,5 +1,5 @@
 use Rattle.std.proofs.Common.{◌≡◌, ◌++◌, drop, map}
-use Rattle.sudoers_reader.specs.Tables.{group_in}
+use Rattle.sudoers_rows.specs.Tables.{group_in}
 use Rattle.sudoers_rewrite.specs.Selected.{selected_in}
 use Rattle.sudoers_rewrite.proofs.selecting.select_all.Given as goal
 

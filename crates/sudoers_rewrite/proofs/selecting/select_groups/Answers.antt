@@ -1,6 +1,6 @@
 use Rattle.std.proofs.Common.{◌+◌, ◌++◌, List, Vec, Global, map, drop, sym, ap, ◌∙◌}
-use Rattle.sudoers_reader.specs.declared.rows.GroupRow.{GroupRow}
-use Rattle.sudoers_reader.specs.Tables.{group_in}
+use Rattle.sudoers_rows.specs.declared.rows.GroupRow.{GroupRow}
+use Rattle.sudoers_rows.specs.Tables.{group_in}
 use Rattle.sudoers_rewrite.specs.declared.selecting.Selected.{Selected}
 use Rattle.sudoers_rewrite.specs.Filter.{groups_left}
 use Rattle.sudoers_rewrite.specs.Matcher.{filter_in, lines_of}

@@ -1,5 +1,5 @@
 use Rattle.std.proofs.Common.{◌≡◌, ◌++◌, drop, map}
-use Rattle.sudoers_reader.specs.Tables.{group_in}
+use Rattle.sudoers_rows.specs.Tables.{group_in}
 use Rattle.sudoers_rewrite.specs.Filter.{groups_left}
 use Rattle.sudoers_rewrite.specs.Matcher.{lines_of, filter_in, StaysMatcher}
 use Rattle.sudoers_rewrite.specs.Selected.{selected_in}

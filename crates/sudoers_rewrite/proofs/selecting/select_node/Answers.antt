@@ -3,10 +3,10 @@ use Rattle.std.specs.List.{slice_range}
 use Rattle.std.proofs.lemmas.Result.{IfOk-weaker}
 use Rattle.sudoers_line.specs.declared.node.Node.TheVariants as node
 use Rattle.sudoers_line.specs.declared.node.Node.{Node}
-use Rattle.sudoers_reader.specs.declared.rows.GroupRow.{GroupRow}
-use Rattle.sudoers_reader.specs.declared.rows.MemberRow.{MemberRow}
-use Rattle.sudoers_reader.specs.declared.rows.NodeRow.{NodeRow}
-use Rattle.sudoers_reader.specs.Tables.{group_in, member_in, node_in}
+use Rattle.sudoers_rows.specs.declared.rows.GroupRow.{GroupRow}
+use Rattle.sudoers_rows.specs.declared.rows.MemberRow.{MemberRow}
+use Rattle.sudoers_rows.specs.declared.rows.NodeRow.{NodeRow}
+use Rattle.sudoers_rows.specs.Tables.{group_in, member_in, node_in}
 use Rattle.sudoers_rewrite.specs.declared.selecting.Choice.{Choice}
 use Rattle.sudoers_rewrite.specs.Filter.{filtered_node}
 use Rattle.sudoers_rewrite.specs.Matcher.{filter_in, lines_of}

@@ -1,5 +1,5 @@
 use Rattle.std.proofs.Common.{map, sym, ap, ◌∙◌}
-use Rattle.sudoers_reader.specs.Tables.{atom_in, member_in, text_in}
+use Rattle.sudoers_rows.specs.Tables.{atom_in, member_in, text_in}
 use Rattle.sudoers_tree.specs.Definition.{definitions}
 use Rattle.sudoers_check.specs.Numbers.{number_of}
 use Rattle.sudoers_rewrite.proofs.Shortened.{follows, one_item, stays}

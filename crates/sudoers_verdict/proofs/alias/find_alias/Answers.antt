@@ -1,6 +1,6 @@
 use Rattle.std.proofs.Common.{◌∙◌, sym, ap}
 use Rattle.std.specs.Option.{option_map}
-use Rattle.sudoers_reader.specs.View.{members_shown}
+use Rattle.sudoers_rows.specs.View.{members_shown}
 use Rattle.sudoers_verdict.proofs.Numbered.{alias_is, has_members}
 use Rattle.sudoers_verdict.proofs.alias.find_alias.Goals as goal
 

@@ -1,6 +1,6 @@
 use Rattle.std.proofs.Common.{◌≡◌, ◌++◌, drop, map}
 use Rattle.sudoers_line.specs.declared.node.Def.{Def}
-use Rattle.sudoers_reader.specs.Tables.{def_in}
+use Rattle.sudoers_rows.specs.Tables.{def_in}
 use Rattle.sudoers_tree.specs.Definition.{definitions}
 use Rattle.sudoers_check.specs.Chains.{names_in}
 use Rattle.sudoers_check.specs.Numbers.{numbers_of}

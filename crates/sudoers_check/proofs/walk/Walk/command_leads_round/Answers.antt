@@ -1,7 +1,7 @@
 use Rattle.std.proofs.Common.{[], ◌∷◌, subst, option_map}
 use Rattle.sudoers_line.specs.declared.node.Kind.TheVariants.{Cmnd}
 use Rattle.sudoers_line.specs.Listed.{listed_runas}
-use Rattle.sudoers_reader.specs.View.{member_shown, runas_shown}
+use Rattle.sudoers_rows.specs.View.{member_shown, runas_shown}
 use Rattle.sudoers_check.specs.Walk.{Tells}
 use Rattle.sudoers_check.proofs.Ended.{round_front}
 use Rattle.sudoers_check.proofs.Turns.{if_tells}

@@ -1,8 +1,8 @@
 use Rattle.std.proofs.Common.{subst, flat_map, arith}
 use Rattle.sudoers_line.specs.declared.node.Kind.TheVariants.{Host}
 use Rattle.sudoers_line.specs.Listed.{listed_as, listed_command}
-use Rattle.sudoers_reader.specs.Tables.{command_in}
-use Rattle.sudoers_reader.specs.View.{command_shown, commands_shown, members_shown}
+use Rattle.sudoers_rows.specs.Tables.{command_in}
+use Rattle.sudoers_rows.specs.View.{command_shown, commands_shown, members_shown}
 use Rattle.sudoers_check.specs.Walk.{Tells, none}
 use Rattle.sudoers_check.proofs.Read.{read_map, map_length}
 use Rattle.sudoers_check.proofs.Ended.{straight_append, straight_more, straight_all, round_at, round_front, round_back}

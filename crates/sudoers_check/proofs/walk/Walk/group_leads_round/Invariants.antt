@@ -1,8 +1,8 @@
 use Rattle.std.proofs.Common.{take, map, flat_map}
 use Rattle.sudoers_line.specs.declared.node.Kind.TheVariants.{Host}
 use Rattle.sudoers_line.specs.Listed.{listed_as, listed_command}
-use Rattle.sudoers_reader.specs.View.{members_shown}
-use Rattle.sudoers_reader.specs.Tables.{command_in}
+use Rattle.sudoers_rows.specs.View.{members_shown}
+use Rattle.sudoers_rows.specs.Tables.{command_in}
 use Rattle.sudoers_check.specs.Walk.{AreStraight, IsIdle}
 use Rattle.sudoers_check.proofs.walk.Walk.group_leads_round.Given as goal
 

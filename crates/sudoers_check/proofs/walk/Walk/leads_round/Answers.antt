@@ -1,7 +1,7 @@
 use Rattle.std.proofs.Common.{[], ◌∷◌, subst, arith}
 use Rattle.sudoers_line.specs.declared.node.Member.{Member}
-use Rattle.sudoers_reader.specs.Tables.{member_in}
-use Rattle.sudoers_reader.specs.View.{member_shown, members_shown}
+use Rattle.sudoers_rows.specs.Tables.{member_in}
+use Rattle.sudoers_rows.specs.View.{member_shown, members_shown}
 use Rattle.sudoers_check.specs.Walk.{AreStraight, AreRound, Tells, none}
 use Rattle.sudoers_check.proofs.Read.{read_map, map_length}
 use Rattle.sudoers_check.proofs.Ended.{flat_as, straight_more, straight_all, round_at}

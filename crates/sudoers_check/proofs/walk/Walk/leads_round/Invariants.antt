@@ -1,6 +1,6 @@
 use Rattle.std.proofs.Common.{[], ◌∷◌, take, map, flat_map}
 use Rattle.sudoers_line.specs.declared.node.Member.{Member}
-use Rattle.sudoers_reader.specs.Tables.{member_in}
+use Rattle.sudoers_rows.specs.Tables.{member_in}
 use Rattle.sudoers_check.specs.Walk.{AreStraight, IsIdle}
 use Rattle.sudoers_check.proofs.walk.Walk.leads_round.Given as goal
 

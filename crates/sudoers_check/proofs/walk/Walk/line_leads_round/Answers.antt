@@ -1,12 +1,12 @@
 use Rattle.std.proofs.Common.{◌≡◌, [], Option, refl, sym, subst}
-use Rattle.sudoers_reader.specs.View.{node_shown}
-use Rattle.sudoers_reader.specs.declared.view.Node.{Node as NodeView}
-use Rattle.sudoers_reader.specs.declared.view.Node.TheVariants as node_view
-use Rattle.sudoers_reader.specs.declared.view.Scope.{Scope as ScopeView}
-use Rattle.sudoers_reader.specs.declared.list.Rows.{Rows}
-use Rattle.sudoers_reader.specs.declared.rows.MemberRow.{MemberRow}
-use Rattle.sudoers_reader.specs.declared.rows.GroupRow.{GroupRow}
-use Rattle.sudoers_reader.specs.declared.rows.ParamRow.{ParamRow}
+use Rattle.sudoers_rows.specs.View.{node_shown}
+use Rattle.sudoers_rows.specs.declared.view.Node.{Node as NodeView}
+use Rattle.sudoers_rows.specs.declared.view.Node.TheVariants as node_view
+use Rattle.sudoers_rows.specs.declared.view.Scope.{Scope as ScopeView}
+use Rattle.sudoers_rows.specs.declared.list.Rows.{Rows}
+use Rattle.sudoers_rows.specs.declared.rows.MemberRow.{MemberRow}
+use Rattle.sudoers_rows.specs.declared.rows.GroupRow.{GroupRow}
+use Rattle.sudoers_rows.specs.declared.rows.ParamRow.{ParamRow}
 use Rattle.sudoers_check.specs.Walk.{AreStraight, none, rooted}
 use Rattle.sudoers_check.proofs.walk.Walk.line_leads_round.Goals as goal
 

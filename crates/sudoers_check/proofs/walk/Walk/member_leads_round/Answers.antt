@@ -1,6 +1,6 @@
 use Rattle.std.proofs.Common.{sym, ap, ◌∙◌}
 use Rattle.std.specs.Option.{option_map}
-use Rattle.sudoers_reader.specs.View.{member_shown}
+use Rattle.sudoers_rows.specs.View.{member_shown}
 use Rattle.sudoers_check.specs.declared.walk.Visit.{Visit}
 use Rattle.sudoers_check.proofs.Turns.{tells_none, if_settles}
 use Rattle.sudoers_check.proofs.walk.Walk.member_leads_round.Goals as goal

@@ -1,7 +1,7 @@
 use Rattle.std.proofs.Common.{sym, subst, option_map, IfOk}
 use Rattle.sudoers_line.specs.declared.node.Kind.TheVariants.{Runas}
 use Rattle.sudoers_line.specs.Listed.{listed_as, listed_runas}
-use Rattle.sudoers_reader.specs.View.{members_shown, runas_shown}
+use Rattle.sudoers_rows.specs.View.{members_shown, runas_shown}
 use Rattle.sudoers_check.specs.Walk.{AreStraight, AreRound, Tells, none}
 use Rattle.sudoers_check.proofs.Ended.{round_front}
 use Rattle.sudoers_check.proofs.Turns.{if_tells}

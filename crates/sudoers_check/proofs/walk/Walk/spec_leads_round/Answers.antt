@@ -1,8 +1,8 @@
 use Rattle.std.proofs.Common.{subst, flat_map, arith}
 use Rattle.sudoers_line.specs.declared.node.Kind.TheVariants.{User}
 use Rattle.sudoers_line.specs.Listed.{listed_as, listed_group}
-use Rattle.sudoers_reader.specs.Tables.{group_in}
-use Rattle.sudoers_reader.specs.View.{group_shown, groups_shown, members_shown}
+use Rattle.sudoers_rows.specs.Tables.{group_in}
+use Rattle.sudoers_rows.specs.View.{group_shown, groups_shown, members_shown}
 use Rattle.sudoers_check.specs.Walk.{Tells, none}
 use Rattle.sudoers_check.proofs.Read.{read_map, map_length}
 use Rattle.sudoers_check.proofs.Ended.{straight_append, straight_more, straight_all, round_at, round_front, round_back}

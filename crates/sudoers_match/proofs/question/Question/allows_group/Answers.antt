@@ -1,6 +1,6 @@
 use Rattle.std.proofs.Common.{false, Some, sym, subst, ap, ◌∙◌}
 use Rattle.sudoers_line.specs.declared.node.Kind.TheVariants.{Runas}
-use Rattle.sudoers_reader.specs.View.{members_shown}
+use Rattle.sudoers_rows.specs.View.{members_shown}
 use Rattle.sudoers_hits.specs.declared.asked.Group.{Group}
 use Rattle.sudoers_hits.specs.Hits.{group_hits}
 use Rattle.sudoers_match.specs.Question.{GroupPermits}

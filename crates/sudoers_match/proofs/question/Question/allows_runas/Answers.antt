@@ -1,8 +1,8 @@
 use Rattle.std.proofs.Common.{◌&&◌, sym, subst, ap, ◌∙◌}
 use Rattle.std.specs.Option.{option_map}
-use Rattle.sudoers_reader.specs.View.{members_shown, runas_shown}
+use Rattle.sudoers_rows.specs.View.{members_shown, runas_shown}
 use Rattle.sudoers_line.specs.declared.node.Kind.TheVariants.{Runas}
-use Rattle.sudoers_reader.specs.Tables.{member_in}
+use Rattle.sudoers_rows.specs.Tables.{member_in}
 use Rattle.sudoers_hits.specs.Hits.{is_same_name, user_hits}
 use Rattle.sudoers_match.specs.Allows.{Permits}
 use Rattle.sudoers_match.specs.Question.{RunasPermits}

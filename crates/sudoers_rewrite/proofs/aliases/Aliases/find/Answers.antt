@@ -2,7 +2,7 @@ use Rattle.std.proofs.Common.{◌≡◌, ◌≤◌, None, Some, MatchOption, len
 use Rattle.std.proofs.lemmas.Bool.{ltb-true}
 use Rattle.std.proofs.lemmas.Option.{slice_get_read}
 use Rattle.sudoers_line.specs.declared.node.Atom.TheVariants as atom
-use Rattle.sudoers_reader.specs.Tables.{atom_in, text_in}
+use Rattle.sudoers_rows.specs.Tables.{atom_in, text_in}
 use Rattle.sudoers_tree.specs.Definition.{definitions}
 use Rattle.sudoers_check.specs.Numbers.{number_of}
 use Rattle.sudoers_verdict.specs.Flat.{alias_of}

@@ -1,6 +1,6 @@
 use Rattle.std.proofs.Common.{◌∙◌, ap, Vec, Global}
-use Rattle.sudoers_reader.specs.declared.rows.MemberRow.{MemberRow}
-use Rattle.sudoers_reader.specs.Tables.{member_in}
+use Rattle.sudoers_rows.specs.declared.rows.MemberRow.{MemberRow}
+use Rattle.sudoers_rows.specs.Tables.{member_in}
 use Rattle.sudoers_rewrite.specs.Matcher.{lines_of, filter_in}
 use Rattle.sudoers_rewrite.specs.Pruned.{keeps_member}
 use Rattle.sudoers_rewrite.proofs.Matchers.{row_straight, keeps_row, stays_on, row_stays, row_falls, straight_too}

@@ -1,6 +1,6 @@
 use Rattle.std.proofs.Common.{◌≡◌, ◌++◌, drop, map}
 use Rattle.std.specs.List.{filter}
-use Rattle.sudoers_reader.specs.Tables.{member_in}
+use Rattle.sudoers_rows.specs.Tables.{member_in}
 use Rattle.sudoers_rewrite.specs.Matcher.{lines_of, filter_in, StaysMatcher}
 use Rattle.sudoers_rewrite.specs.Pruned.{keeps_member}
 use Rattle.sudoers_rewrite.proofs.matching.Matcher.members_left.Given as goal

@@ -3,9 +3,9 @@ use Rattle.std.specs.List.{filter}
 use Rattle.std.proofs.lemmas.Result.{IfOk-weaker}
 use Rattle.sudoers_line.specs.declared.node.Kind.TheVariants.{User}
 use Rattle.sudoers_line.specs.declared.node.Member.{Member}
-use Rattle.sudoers_reader.specs.declared.rows.MemberRow.{MemberRow}
-use Rattle.sudoers_reader.specs.Tables.{member_in}
-use Rattle.sudoers_reader.specs.View.{members_shown}
+use Rattle.sudoers_rows.specs.declared.rows.MemberRow.{MemberRow}
+use Rattle.sudoers_rows.specs.Tables.{member_in}
+use Rattle.sudoers_rows.specs.View.{members_shown}
 use Rattle.sudoers_rewrite.specs.Filter.{names_no_user, users_left}
 use Rattle.sudoers_rewrite.specs.Matcher.{lines_of, filter_in, says_of_users}
 use Rattle.sudoers_rewrite.specs.Pruned.{keeps_member}

@@ -1,7 +1,7 @@
 use Rattle.std.proofs.Common.{◌≡◌, ◌∙◌, Some, None, option_map, slice_get, sym, ap}
 use Rattle.sudoers_line.specs.declared.node.Def.{Def}
 use Rattle.sudoers_line.specs.declared.node.Node.TheVariants.{Alias}
-use Rattle.sudoers_reader.specs.View.{defs_shown, node_shown}
+use Rattle.sudoers_rows.specs.View.{defs_shown, node_shown}
 use Rattle.sudoers_tree.proofs.AtPlaces.{found_at, node_at, alias_shown, same_defs}
 use Rattle.sudoers_tree.proofs.policy.Policy.members.Goals as goal
 

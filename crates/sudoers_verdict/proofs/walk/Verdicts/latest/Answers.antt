@@ -1,7 +1,7 @@
 use Rattle.std.proofs.Common.{◌+◌, take, ap, sym, subst, ◌∙◌}
 use Rattle.std.specs.Option.{option_map}
-use Rattle.sudoers_reader.specs.Tables.{member_in}
-use Rattle.sudoers_reader.specs.View.{member_shown, members_shown}
+use Rattle.sudoers_rows.specs.Tables.{member_in}
+use Rattle.sudoers_rows.specs.View.{member_shown, members_shown}
 use Rattle.sudoers_verdict.specs.declared.alias.Alias.{Alias}
 use Rattle.sudoers_verdict.specs.Flat.{IsLatest, later}
 use Rattle.sudoers_verdict.specs.Search.{Remembers, Settles}

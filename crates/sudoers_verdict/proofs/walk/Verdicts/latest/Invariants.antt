@@ -1,5 +1,5 @@
 use Rattle.std.proofs.Common.{take, map}
-use Rattle.sudoers_reader.specs.Tables.{member_in}
+use Rattle.sudoers_rows.specs.Tables.{member_in}
 use Rattle.sudoers_verdict.specs.Flat.{IsLatest}
 use Rattle.sudoers_verdict.specs.Search.{Remembers}
 use Rattle.sudoers_verdict.proofs.walk.Verdicts.latest.Given as goal

@@ -1,8 +1,8 @@
 use Rattle.std.proofs.Common.{◌≡◌, ◌<◌, ◌++◌, ◌∷◌, ℕ, [], length, Some, slice_get, get_or, sym, ap, ◌∙◌, arith}
 use Rattle.std.specs.Option.{option_map}
 use Rattle.std.proofs.lemmas.Option.{slice_get_read}
-use Rattle.sudoers_reader.specs.Tables.{member_in}
-use Rattle.sudoers_reader.specs.View.{member_shown}
+use Rattle.sudoers_rows.specs.Tables.{member_in}
+use Rattle.sudoers_rows.specs.View.{member_shown}
 use Rattle.sudoers_tree.specs.Definition.{definitions}
 use Rattle.sudoers_verdict.specs.declared.alias.Alias.{Alias}
 use Rattle.sudoers_verdict.specs.declared.walk.Standing.{Standing}

@@ -1,0 +1,4 @@
+pub mod Growth
+pub mod CutBack
+pub mod LastRow
+pub mod WalkLaws
