@@ -28,14 +28,15 @@ pub use line::{Line, LineRow};
 pub use mention::is_kind;
 pub use place::{Place, Span};
 pub use policy::Policy;
-pub use position::lf_count;
+pub use position::{column_behind, lf_count};
 pub use single::read_line;
 pub use sudoers_line::{
     Address, AliasMember, DigestKind, Items, Kind, LineFault, Mask, Operator, OptionName, Tag, Why,
     definitions_ascend,
 };
-pub use sudoers_reader::{
+pub use sudoers_reader::Reading;
+pub use sudoers_rows::{
     Args, Atom, CmdSpec, CommandRow, Def, DefRow, Digest, DigestRow, GroupRow, HostGroup, Member,
-    MemberRow, Node, NodeRow, OptionRow, Param, ParamRow, Reading, Rows, RunasSpec, Scope, Setting,
-    Tables, TagRow, alias_members, list_aliases,
+    MemberRow, Node, NodeRow, OptionRow, Param, ParamRow, Rows, RunasSpec, Scope, Setting, Tables,
+    TagRow, alias_members, list_aliases,
 };

@@ -6,7 +6,7 @@ ghost use Rattle.sudoers_tree.specs.Physical.{column_behind};
 
 use memchr::{memchr, memrchr};
 
-/// How many LF there are.
+/// Returns the number of LF in `bytes`.
 pub fn lf_count(bytes: &[u8]) -> usize
     ensures count { result ≡ lf_count bytes.now }
     ensures within { result ≤ length bytes.now }
@@ -20,7 +20,7 @@ pub fn lf_count(bytes: &[u8]) -> usize
     count
 }
 
-/// The column of the byte behind these, from 1.
+/// Returns the column of the byte behind `bytes`, from 1.
 pub fn column_behind(bytes: &[u8]) -> usize
     ensures { result ≡ column_behind bytes.now }
 {
