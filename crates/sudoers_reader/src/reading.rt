@@ -178,7 +178,7 @@ pub struct Reading {
 
 impl Model for Reading {
     ghost use Rattle.sudoers_line.specs.declared.node.Node.{Node};
-    ghost use Rattle.sudoers_reader.specs.Tables.{node_in};
+    ghost use Rattle.sudoers_rows.specs.Tables.{node_in};
 
     ghost Value = { Node };
 
