@@ -1,5 +1,4 @@
--- The numbers of the definitions of a policy (`number_of`). The rest is a device of the proof, which no public contract cites: the
--- definitions as the numbered nodes of a graph.
+-- The numbers of the definitions of a policy, and the definitions as the numbered nodes of a graph.
 use Rattle.std.specs.Prelude.{ℕ, zero, suc, ◌+◌, Bool, true, false, List, [], ◌∷◌, ◌++◌, length, map, Option, Some, None, if◌then◌else◌}
 use Rattle.std.specs.List.{filter_map}
 use Rattle.std.specs.Option.{option_map}

@@ -69,7 +69,7 @@ impl<'a> Cursor<'a> {
     }
 }
 
-/// How many bytes stand behind the last LF of these, where so many stand before them.
+/// Returns how many bytes stand behind the last LF, where `before` bytes stand behind it already and `bytes` follow.
 fn bytes_behind(before: usize, bytes: &[u8]) -> usize
     requires { before + length bytes.now < 2 ^ 62 }
     ensures is { result ≡ behind_lf before bytes.now }

@@ -42,8 +42,8 @@ struct Step {
     edges: usize,
 }
 
-/// A search in depth. The open nodes fall into groups, one behind the other, in each of which every node is reached from
-/// every other, and each group is reached from those before it.
+/// A search in depth. The open nodes form groups, one after another. In a group each node reaches every other. Each group
+/// is reached from those before it.
 #[derive(Drop)]
 struct Search {
     standings: Vec<Standing>,

@@ -5,7 +5,6 @@ use Rattle.sudoers_text.specs.Fault.{lf_count}
 use Rattle.sudoers_text.specs.Line.{join}
 use Rattle.sudoers_line.specs.declared.node.Kind.TheVariants.{Runas}
 use Rattle.sudoers_line.specs.declared.node.CmdSpec.{CmdSpec}
-use Rattle.sudoers_line.specs.declared.node.HostGroup.{HostGroup}
 use Rattle.sudoers_line.specs.declared.node.Member.{Member}
 use Rattle.sudoers_rows.specs.declared.list.Rows.{Rows}
 use Rattle.sudoers_rows.specs.declared.rows.GroupRow.{GroupRow}
@@ -23,7 +22,7 @@ use Rattle.sudoers_print.specs.Members.{printed_list}
 use Rattle.sudoers_print.specs.Commands.{printed_inside}
 use Rattle.sudoers_cvt.specs.Effective.{effective_command, effective_commands}
 use Rattle.sudoers_list.specs.Listing.{users_or}
-use Rattle.sudoers_list.specs.Reason.{specs_on}
+use Rattle.sudoers_list.specs.Rule.{SpecOn, numbered, specs_on}
 use Rattle.sudoers_list.specs.Inside.{IsAt, printed_behind}
 
 -- what stands in the parentheses, where there are users
@@ -79,32 +78,32 @@ when_ok (Err f) new one other e = tt
 
 -- ---- one command of a list
 
-pub at_first : (held : HeadHeld) (cs : List CmdSpec) (n : ℕ) → IsHead held no_head → IsAt held n cs (slice_get (effective_commands cs) n)
+pub at_first : (held : HeadHeld) (cs : List CmdSpec) (n : ℕ) → IsHead held no_head → IsAt held n cs (slice_get (filled no_head cs) n)
 at_first held cs n is = record { head = no_head; is_head = is; says = refl }
 
 -- it is a later one
-pub at_next : (held held' : HeadHeld) (left n : ℕ) (c : CmdSpec) (cs all : List CmdSpec) (wanted : Option CmdSpec) → all ≡ c ∷ cs → left ≡ suc n
+pub at_next : (held held' : HeadHeld) (left n : ℕ) (c : CmdSpec) (cs all : List CmdSpec) (wanted : Option (Head × Member)) → all ≡ c ∷ cs → left ≡ suc n
     → (s : IsAt held left all wanted) → IsHead held' (inherit s.head c) → IsAt held' n cs wanted
 at_next held held' left n c cs all wanted split one s is = record {
   head = inherit s.head c;
   is_head = is;
   says =
-      ap (slice_get (map effective_command (filled s.head (c ∷ cs)))) (sym one)
-      ∙ ap (λ xs. slice_get (map effective_command (filled s.head xs)) left) (sym split)
+      ap (slice_get (filled s.head (c ∷ cs))) (sym one)
+      ∙ ap (λ xs. slice_get (filled s.head xs) left) (sym split)
       ∙ s.says;
 }
 
 -- it is this one
-pub at_this : (held : HeadHeld) (left : ℕ) (c : CmdSpec) (cs all : List CmdSpec) (wanted : Option CmdSpec) → all ≡ c ∷ cs → left ≡ 0
-    → (s : IsAt held left all wanted) → Some (effective_command (inherit s.head c, c.member)) ≡ wanted
+pub at_this : (held : HeadHeld) (left : ℕ) (c : CmdSpec) (cs all : List CmdSpec) (wanted : Option (Head × Member)) → all ≡ c ∷ cs → left ≡ 0
+    → (s : IsAt held left all wanted) → wanted ≡ Some (inherit s.head c, c.member)
 at_this held left c cs all wanted split none s =
-    ap (slice_get (map effective_command (filled s.head (c ∷ cs)))) (sym none)
-    ∙ ap (λ xs. slice_get (map effective_command (filled s.head xs)) left) (sym split)
-    ∙ s.says
+    sym s.says
+    ∙ ap (λ xs. slice_get (filled s.head xs) left) split
+    ∙ ap (slice_get (filled s.head (c ∷ cs))) none
 
 -- it is past the last
-pub at_none : (held : HeadHeld) (left : ℕ) (wanted : Option CmdSpec) → IsAt held left [] wanted → None ≡ wanted
-at_none held left wanted s = s.says
+pub at_none : (held : HeadHeld) (left : ℕ) (wanted : Option (Head × Member)) → IsAt held left [] wanted → wanted ≡ None
+at_none held left wanted s = sym s.says
 
 -- ---- user specifications by their numbers
 
@@ -127,14 +126,46 @@ none_in (view.Include dir path) other = refl
 none_in (view.Defaults scope params) other = refl
 none_in (view.Alias k defs) other = refl
 
+-- ---- how far the rows go
+
+-- The physical lines of this line, and of those behind it, are within the limit.
+pub line_fits : (row : ℕ) (l : Line) (ls all : List Line) → all ≡ l ∷ ls → row + length (join (texts all)) ≤ 1048577 → row + length l.text ≤ 1048577
+line_fits row l ls all split most =
+    let size : length (join (texts all)) ≡ length l.text + length (join (texts ls)) = ap (λ xs. length (join (texts xs))) split ∙ length-append l.text (join (texts ls)) in
+    omega (arith, most, size)
+
+pub rest_fits : (row count : ℕ) (l : Line) (ls all : List Line) → all ≡ l ∷ ls → count ≤ length l.text → row + length (join (texts all)) ≤ 1048577
+    → row + count + length (join (texts ls)) ≤ 1048577
+rest_fits row count l ls all split within most =
+    let size : length (join (texts all)) ≡ length l.text + length (join (texts ls)) = ap (λ xs. length (join (texts xs))) split ∙ length-append l.text (join (texts ls)) in
+    omega (arith, most, size, within)
+
 -- one line more, whatever it is
-pub line_passed : (row count left n : ℕ) (l : Line) (ls all : List Line) (wanted : Option (ℕ × List HostGroup)) → all ≡ l ∷ ls
+pub line_passed : (row count left n : ℕ) (l : Line) (ls all : List Line) (wanted : Option SpecOn) → all ≡ l ∷ ls
     → count ≡ lf_count l.text → count ≤ length l.text
     → slice_get (specs_on row (l ∷ ls)) left ≡ slice_get (specs_on (row + lf_count l.text) ls) n
     → (slice_get (specs_on row all) left ≡ wanted) × (row + length (join (texts all)) ≤ 1048577)
     → (slice_get (specs_on (row + count) ls) n ≡ wanted) × (row + count + length (join (texts ls)) ≤ 1048577)
 line_passed row count left n l ls all wanted split counted within same inv =
     let now : slice_get (specs_on row (l ∷ ls)) left ≡ wanted = ap (λ xs. slice_get (specs_on row xs) left) (sym split) ∙ inv.0 in
-    let size : length (join (texts all)) ≡ length l.text + length (join (texts ls)) = ap (λ xs. length (join (texts xs))) split ∙ length-append l.text (join (texts ls)) in
-    let most = inv.1 in
-    (ap (λ k. slice_get (specs_on (row + k) ls) n) counted ∙ sym same ∙ now, omega (arith, most, size, within))
+    (ap (λ k. slice_get (specs_on (row + k) ls) n) counted ∙ sym same ∙ now, rest_fits row count l ls all split within inv.1)
+
+-- ---- lines by their numbers
+
+pub line_before : (row count left n : ℕ) (l : Line) (ls all : List Line) (wanted : Option (ℕ × Line)) → all ≡ l ∷ ls → left ≡ suc n
+    → count ≡ lf_count l.text → count ≤ length l.text
+    → (slice_get (numbered row all) left ≡ wanted) × (row + length (join (texts all)) ≤ 1048577)
+    → (slice_get (numbered (row + count) ls) n ≡ wanted) × (row + count + length (join (texts ls)) ≤ 1048577)
+line_before row count left n l ls all wanted split one counted within inv =
+    (
+      ap (λ k. slice_get (numbered (row + k) ls) n) counted
+          ∙ ap (slice_get (numbered row (l ∷ ls))) (sym one)
+          ∙ ap (λ xs. slice_get (numbered row xs) left) (sym split)
+          ∙ inv.0,
+      rest_fits row count l ls all split within inv.1,
+    )
+
+pub line_here : (row left : ℕ) (l : Line) (ls all : List Line) (wanted : Option (ℕ × Line)) → all ≡ l ∷ ls → left ≡ 0
+    → slice_get (numbered row all) left ≡ wanted → Some (row, l) ≡ wanted
+line_here row left l ls all wanted split none is =
+    ap (slice_get (numbered row (l ∷ ls))) (sym none) ∙ ap (λ xs. slice_get (numbered row xs) left) (sym split) ∙ is

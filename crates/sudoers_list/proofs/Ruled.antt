@@ -1,10 +1,9 @@
 -- What stands at the place of an answer, and at that of a host group.
-use Rattle.std.proofs.Common.{◌≡◌, ◌⊎◌, inl, inr, ⊎_elim, ◌+◌, ℕ, zero, suc, List, [], ◌∷◌, ◌++◌, map, slice_get, Option, Some, None, option_and_then, refl, sym, ap, subst, ◌∙◌, arith}
-use Rattle.std.proofs.lemmas.Option.{slice_get-map}
+use Rattle.std.proofs.Common.{◌≡◌, true, ◌⊎◌, inl, inr, ⊎_elim, ◌+◌, ℕ, zero, suc, List, [], ◌∷◌, ◌++◌, map, slice_get, Option, Some, None, option_and_then, refl, sym, ap, subst, ◌∙◌, arith}
+use Rattle.std.proofs.lemmas.Option.{same_Some, slice_get-map}
 use Rattle.std.specs.List.{cons_option}
 use Rattle.std.specs.Option.{option_map}
 use Rattle.sudoers_text.specs.Fault.{lf_count}
-use Rattle.sudoers_line.specs.declared.node.CmdSpec.{CmdSpec}
 use Rattle.sudoers_line.specs.declared.node.HostGroup.{HostGroup}
 use Rattle.sudoers_line.specs.declared.node.Member.{Member}
 use Rattle.sudoers_tree.specs.Line.{Line}
@@ -12,18 +11,19 @@ use Rattle.sudoers_check.specs.Chain.{Has}
 use Rattle.sudoers_hits.specs.declared.asked.Who.{Who}
 use Rattle.sudoers_match.specs.declared.groups.GroupPlace.{GroupPlace}
 use Rattle.sudoers_hits.specs.declared.request.Request.{Request}
-use Rattle.sudoers_line.specs.declared.node.Kind.TheVariants.{User, Host}
-use Rattle.sudoers_hits.specs.Hits.{user_hits, host_hits}
+use Rattle.sudoers_line.specs.declared.node.Kind.TheVariants.{User, Host, Cmnd}
+use Rattle.sudoers_hits.specs.Hits.{user_hits, host_hits, command_hits}
 use Rattle.sudoers_match.specs.Allows.{Allows}
-use Rattle.sudoers_match.specs.Answer.{Answer, Fits, IsAnswer, told}
+use Rattle.sudoers_match.specs.Answer.{Answer, Fits, IsAnswer, command_line, is_hit, told}
 use Rattle.sudoers_match.specs.Groups.{AreHostGroups, GroupPlaces, SpecPlaces, place_of}
 use Rattle.sudoers_match.specs.Heads.{Head, filled, no_head}
 use Rattle.sudoers_match.specs.Last.{IsLast}
 use Rattle.sudoers_match.specs.Rows.{CommandRows, GroupRows, Row, SpecRows, row_of}
 use Rattle.sudoers_match.specs.Specs.{AreJoined, Spec, spec_in, specs_of}
-use Rattle.sudoers_cvt.specs.Effective.{effective_command}
 use Rattle.sudoers_list.specs.Listing.{group_at, groups_in}
-use Rattle.sudoers_list.specs.Reason.{command_at, deciding_rule, rule_in, specs_on, with_row}
+use Rattle.sudoers_list.specs.Inner.{Speaks}
+use Rattle.sudoers_list.proofs.Speaking.{says_by}
+use Rattle.sudoers_list.specs.Rule.{Rule, SpecOn, command_at, deciding_rule, rule_in, rule_of, spec_on, specs_on}
 
 has_either : {Y : Type 0} (xs ys : List Y) (y : Y) → Has (xs ++ ys) y → Has xs y ⊎ Has ys y
 has_either [] ys y h = inr h
@@ -34,10 +34,10 @@ has_middle : {Y : Type 0} (before after : List Y) (y : Y) → Has (before ++ y �
 has_middle [] after y = inl refl
 has_middle (x ∷ before) after y = inr (has_middle before after y)
 
-has_mapped : {X Y : Type 0} (f : X → Y) (xs : List X) (y : Y) → Has (map f xs) y → (x : X) × (f x ≡ y)
+has_mapped : {X Y : Type 0} (f : X → Y) (xs : List X) (y : Y) → Has (map f xs) y → (x : X) × (f x ≡ y) × Has xs x
 has_mapped f [] y h = absurd h
-has_mapped f (x ∷ xs) y (inl e) = (x, e)
-has_mapped f (x ∷ xs) y (inr h) = has_mapped f xs y h
+has_mapped f (x ∷ xs) y (inl e) = (x, e, inl refl)
+has_mapped f (x ∷ xs) y (inr h) = let r = has_mapped f xs y h in (r.0, r.1, inr r.2)
 
 -- The thing with this number gives what is looked for.
 record IsIn {X Y : Type 0} (Part : ℕ → X → List Y → Type 0) (i : ℕ) (xs : List X) (y : Y) : Type 0 where
@@ -106,27 +106,29 @@ place_has_group lines who places place are h =
 -- ---- answers
 
 -- A user specification stands on a line.
-spec_on : (row n : ℕ) (lines : List Line) (s : Spec) → slice_get (specs_of lines) n ≡ Some s
-    → (on : ℕ) × (slice_get (specs_on row lines) n ≡ Some (on, s.groups))
-spec_on row n [] s h = absurd cc
-spec_on row n (l ∷ ls) s h = by (spec_in l.node) n h (λ m. spec_on (row + lf_count l.text) m ls s)
+stands_on : (row n : ℕ) (lines : List Line) (s : Spec) → slice_get (specs_of lines) n ≡ Some s
+    → (on : ℕ × Line) × (slice_get (specs_on row lines) n ≡ Some (spec_on on s))
+stands_on row n [] s h = absurd cc
+stands_on row n (l ∷ ls) s h = by (spec_in l.node) n h (λ m. stands_on (row + lf_count l.text) m ls s)
   where
     by : (o : Option Spec) (k : ℕ) → slice_get (cons_option o (specs_of ls)) k ≡ Some s
-        → ((m : ℕ) → slice_get (specs_of ls) m ≡ Some s → (on : ℕ) × (slice_get (specs_on (row + lf_count l.text) ls) m ≡ Some (on, s.groups)))
-        → (on : ℕ) × (slice_get (cons_option (option_map (λ (t : Spec). (row, t.groups)) o) (specs_on (row + lf_count l.text) ls)) k ≡ Some (on, s.groups))
+        → ((m : ℕ) → slice_get (specs_of ls) m ≡ Some s → (on : ℕ × Line) × (slice_get (specs_on (row + lf_count l.text) ls) m ≡ Some (spec_on on s)))
+        → (on : ℕ × Line) × (slice_get (cons_option (option_map (spec_on (row, l)) o) (specs_on (row + lf_count l.text) ls)) k ≡ Some (spec_on on s))
     by None k e more = more k e
-    by (Some t) zero e more = let same : t ≡ s = cc in (row, ap (λ (x : Spec). Some (row, x.groups)) same)
+    by (Some t) zero e more = let same : t ≡ s = cc in ((row, l), ap (λ (x : Spec). Some (spec_on (row, l) x)) same)
     by (Some t) (suc k) e more = more k e
 
 rule_at : (lines : List Line) (a : Answer) (s : Spec) (g : HostGroup) (c : Head × Member) → slice_get (specs_of lines) a.spec ≡ Some s
     → slice_get s.groups a.host_group ≡ Some g → slice_get (filled no_head g.commands) a.command ≡ Some c
-    → (rule : ℕ × CmdSpec) × (deciding_rule lines a ≡ Some rule)
+    → (rule : Rule) × (deciding_rule lines a ≡ Some rule) × (rule.command.member ≡ c.1)
 rule_at lines a s g c there here this =
-    let on = spec_on 1 a.spec lines s there in (
-      (on.0, effective_command c),
+    let on = stands_on 1 a.spec lines s there in
+    let at : SpecOn = spec_on on.0 s in (
+      rule_of a at c,
       ap (option_and_then (rule_in a)) on.1
-          ∙ ap (λ group. option_map (with_row on.0) (command_at a.command group)) here
-          ∙ ap (option_map (with_row on.0)) (slice_get-map effective_command (filled no_head g.commands) a.command ∙ ap (option_map effective_command) this),
+          ∙ ap (λ group. option_map (rule_of a at) (command_at a.command group)) here
+          ∙ ap (option_map (rule_of a at)) this,
+      refl,
     )
 
 last_row : (P : Row → Type 0) (rows : List Row) (last : Option Row) (a : Answer) → Some a ≡ option_map told last → IsLast P rows last
@@ -146,6 +148,7 @@ record Stands (lines : List Line) (r : Request) (a : Answer) : Type 0 where
   pub this : slice_get (filled no_head group.commands) a.command ≡ Some command
   pub user : Allows User lines (user_hits r.who.user) spec.users
   pub host : Allows Host lines (host_hits r.who) group.hosts
+  pub speaks : Speaks lines (command_hits (command_line r)) command.1
 
 stands : (lines : List Line) (r : Request) (a : Answer) → IsAnswer lines r (Some a) → Stands lines r a
 stands lines r a is =
@@ -168,12 +171,25 @@ stands lines r a is =
       this = ap (slice_get (filled no_head g.thing.commands)) command ∙ c.there;
       user = subst (λ (x : Row). Allows User lines (user_hits r.who.user) x.users) (sym atom.1) last.3.user;
       host = subst (λ (x : Row). Allows Host lines (host_hits r.who) x.hosts) (sym atom.1) last.3.host;
+      speaks =
+          says_by lines (command_hits (command_line r)) (c.thing.1 ∷ []) flat.0 atom.0 flat.1 atom.2
+          (subst (λ (x : Row). is_hit r x.atom ≡ true) (sym atom.1) last.3.command);
     }
 
-pub rule_of_answer : (lines : List Line) (request : Request) (a : Answer) → IsAnswer lines request (Some a) → (rule : ℕ × CmdSpec) × (deciding_rule lines a ≡ Some rule)
+pub rule_of_answer : (lines : List Line) (request : Request) (a : Answer) → IsAnswer lines request (Some a) → (rule : Rule) × (deciding_rule lines a ≡ Some rule)
 rule_of_answer lines request a is =
     let w = stands lines request a is in
-    rule_at lines a w.spec w.group w.command w.there w.here w.this
+    let r = rule_at lines a w.spec w.group w.command w.there w.here w.this in
+    (r.0, r.1)
+
+-- The command of the rule that decides says something of the command that is asked for.
+pub rule_speaks : (lines : List Line) (request : Request) (a : Answer) (rule : Rule) → IsAnswer lines request (Some a) → deciding_rule lines a ≡ Some rule
+    → Speaks lines (command_hits (command_line request)) rule.command.member
+rule_speaks lines request a rule is e =
+    let w = stands lines request a is in
+    let r = rule_at lines a w.spec w.group w.command w.there w.here w.this in
+    let same : r.0 ≡ rule = same_Some r.0 rule (sym r.1 ∙ e) in
+    subst (Speaks lines (command_hits (command_line request))) (sym r.2 ∙ ap (λ (x : Rule). x.command.member) same) w.speaks
 
 -- ---- the place of an answer among those that are listed
 

@@ -1,3 +1,6 @@
 pub mod Listing
+pub mod Rule
+pub mod Inner
 pub mod Reason
 pub mod Inside
+pub mod Going

@@ -1,70 +1,73 @@
--- Why a request is answered as it is: the rule that decides, as a text.
-use Rattle.std.specs.Prelude.{◌≡◌, ℕ, ◌+◌, Bool, true, false, List, [], ◌∷◌, ◌++◌, codes, slice_get, Option, Some, None, option_and_then}
+-- Why a request is answered as it is, as a text: the rule that decides, and the alias whose member decides.
+use Rattle.std.specs.Prelude.{◌≡◌, ℕ, Bool, true, false, List, [], ◌∷◌, ◌++◌, codes, slice_get, Option, Some, None, option_and_then}
 use Rattle.std.specs.Fmt.{decimal}
-use Rattle.std.specs.List.{filter_map}
-use Rattle.std.specs.Option.{option_map}
-use Rattle.sudoers_text.specs.Fault.{lf_count}
-use Rattle.sudoers_line.specs.declared.node.CmdSpec.{CmdSpec}
-use Rattle.sudoers_line.specs.declared.node.HostGroup.{HostGroup}
+use Rattle.sudoers_line.specs.declared.node.Kind.TheVariants.{Cmnd}
+use Rattle.sudoers_tree.specs.declared.place.Place.{Place}
 use Rattle.sudoers_tree.specs.Line.{Line}
-use Rattle.sudoers_hits.specs.declared.asked.Who.{Who}
-use Rattle.sudoers_match.specs.Specs.{Spec, spec_in}
-use Rattle.sudoers_match.specs.Answer.{Answer}
+use Rattle.sudoers_tree.specs.Definition.{place_of}
+use Rattle.sudoers_hits.specs.declared.request.Request.{Request}
+use Rattle.sudoers_hits.specs.Hits.{command_hits}
+use Rattle.sudoers_match.specs.Answer.{Answer, command_line}
 use Rattle.sudoers_match.specs.Default.{IsRunasDefault}
 use Rattle.sudoers_print.specs.Commands.{printed_command}
-use Rattle.sudoers_cvt.specs.Effective.{effective_commands}
+use Rattle.sudoers_print.specs.Members.{printed_member}
+use Rattle.sudoers_list.specs.declared.spot.Spot.{Spot}
 use Rattle.sudoers_list.specs.Listing.{listed_command}
+use Rattle.sudoers_list.specs.Inner.{Inner, IsInner}
+use Rattle.sudoers_list.specs.Rule.{Rule, deciding_rule, numbered, spot_in}
 
--- ---- the rule that decides
+abbrev pub no_rule : List ℕ
+no_rule = codes "no rule matches\n"
 
--- lines, each with the number of its first physical line; row: that of the first of them
-abbrev pub numbered : ℕ → List Line → List (ℕ × Line)
-numbered row [] = []
-numbered row (line ∷ lines) = (row, line) ∷ numbered (row + lf_count line.text) lines
-
--- the host groups of a user specification, with the number of its first physical line
-abbrev pub groups_on : ℕ × Line → Option (ℕ × List HostGroup)
-groups_on l = option_map (λ (s : Spec). (l.0, s.groups)) (spec_in l.1.node)
-
--- those of each user specification, in file order
-abbrev pub specs_on : ℕ → List Line → List (ℕ × List HostGroup)
-specs_on row lines = filter_map groups_on (numbered row lines)
-
--- the command of a host group, with all that holds of it
-abbrev pub command_at : ℕ → Option HostGroup → Option CmdSpec
-command_at number group = option_and_then (λ (g : HostGroup). slice_get (effective_commands g.commands) number) group
-
-abbrev pub with_row : ℕ → CmdSpec → ℕ × CmdSpec
-with_row row command = (row, command)
-
-abbrev pub rule_in : Answer → ℕ × List HostGroup → Option (ℕ × CmdSpec)
-rule_in a spec = option_map (with_row spec.0) (command_at a.command (slice_get spec.1 a.host_group))
-
--- the command by which the request is answered, with the first physical line of its user specification
-abbrev pub deciding_rule : List Line → Answer → Option (ℕ × CmdSpec)
-deciding_rule lines a = option_and_then (rule_in a) (slice_get (specs_on 1 lines) a.spec)
-
--- ---- the text
+-- what stands before a place in a message: the file, the physical line and the column
+abbrev pub placed : List ℕ → Spot → List ℕ
+placed file spot = file ++ codes ":" ++ decimal spot.row ++ codes ":" ++ decimal spot.col
 
 abbrev pub verdict_words : Bool → List ℕ
 verdict_words true = codes ": allowed by: "
 verdict_words false = codes ": denied by: "
 
-abbrev pub no_rule : List ℕ
-no_rule = codes "no rule matches\n"
+-- the rule as it is listed, with its place
+abbrev pub rule_text : List ℕ → List ℕ → List ℕ → Bool → Rule → List ℕ
+rule_text file user d allow rule = placed file rule.spot ++ verdict_words allow ++ printed_command (listed_command user d rule.command) ++ codes "\n"
 
--- the rule as it is listed, with the file and the line on which it stands
-abbrev pub rule_text : List ℕ → List ℕ → List ℕ → Bool → Option (ℕ × CmdSpec) → List ℕ
-rule_text file user d allow None = no_rule
-rule_text file user d allow (Some rule) =
-    file ++ codes ":" ++ decimal rule.0 ++ verdict_words allow ++ printed_command (listed_command user d rule.1) ++ codes "\n"
+-- the line on which an alias of commands is defined, with the number of its first physical line
+abbrev pub definition_on : List Line → List ℕ → Option (ℕ × Line)
+definition_on lines name = option_and_then (λ (p : Place). slice_get (numbered 1 lines) p.line) (place_of Cmnd name lines)
 
-abbrev pub reason : List Line → List ℕ → List ℕ → List ℕ → Option Answer → List ℕ
-reason lines file user d None = no_rule
-reason lines file user d (Some a) = rule_text file user d a.allow (deciding_rule lines a)
+-- the member of an alias, with its place on this line
+abbrev pub inner_on : List ℕ → Inner → Option (ℕ × Line) → List ℕ
+inner_on file inner None = []
+inner_on file inner (Some l) =
+    placed file (spot_in l.0 l.1.text inner.member.start) ++ codes ": in Cmnd_Alias " ++ inner.name ++ codes ": "
+    ++ printed_member false Cmnd inner.member ++ codes "\n"
 
--- The text tells why the request of this user is so answered. d: as whom a command runs where nothing else is said
-pub record IsReason (lines : List Line) (who : Who) (file : List ℕ) (answer : Option Answer) (text : List ℕ) : Type 0 where
+abbrev pub inner_text : List ℕ → List Line → Option Inner → List ℕ
+inner_text file lines None = []
+inner_text file lines (Some inner) = inner_on file inner (definition_on lines inner.name)
+
+-- a rule, and the member that decides if an alias hides it
+abbrev pub rule_with : List Line → List ℕ → List ℕ → List ℕ → Bool → Option Inner → Option Rule → List ℕ
+rule_with lines file user d allow inner None = no_rule
+rule_with lines file user d allow inner (Some rule) = rule_text file user d allow rule ++ inner_text file lines inner
+
+-- The member that decides of the rule stands in this alias, if it stands in one.
+abbrev pub IsInnerOf : List Line → Request → Option Rule → Option Inner → Type 0
+IsInnerOf lines request None inner = inner ≡ None
+IsInnerOf lines request (Some rule) inner = IsInner lines (command_hits (command_line request)) rule.command.member inner
+
+-- The text names the rule that gives the answer. d: as whom a command runs where nothing else is said
+pub record NamesRule (lines : List Line) (request : Request) (file d : List ℕ) (a : Answer) (text : List ℕ) : Type 0 where
+  pub inner : Option Inner
+  pub is_inner : IsInnerOf lines request (deciding_rule lines a) inner
+  pub says : text ≡ rule_with lines file request.who.user.name d a.allow inner (deciding_rule lines a)
+
+abbrev pub Tells : List Line → Request → List ℕ → List ℕ → Option Answer → List ℕ → Type 0
+Tells lines request file d None text = text ≡ no_rule
+Tells lines request file d (Some a) text = NamesRule lines request file d a text
+
+-- The text tells why the request is so answered.
+pub record IsReason (lines : List Line) (request : Request) (file : List ℕ) (answer : Option Answer) (text : List ℕ) : Type 0 where
   pub default : List ℕ
-  pub is_default : IsRunasDefault lines who default
-  pub says : text ≡ reason lines file who.user.name default answer
+  pub is_default : IsRunasDefault lines request.who default
+  pub tells : Tells lines request file default answer text

@@ -1,7 +1,6 @@
 //! Laws of listings and of reasons. Each is the contract of a function that does nothing.
 
-ghost use Rattle.std.specs.Prelude.{◌≡◌, ℕ, List, Some};
-ghost use Rattle.sudoers_line.specs.declared.node.CmdSpec.{CmdSpec as CmdSpecOf};
+ghost use Rattle.std.specs.Prelude.{◌≡◌, ℕ, List, Option, Some};
 ghost use Rattle.sudoers_line.specs.declared.node.HostGroup.{HostGroup as HostGroupOf};
 ghost use Rattle.sudoers_tree.specs.Line.{Line as LineOf};
 ghost use Rattle.sudoers_check.specs.Chain.{Has};
@@ -11,7 +10,8 @@ ghost use Rattle.sudoers_hits.specs.declared.request.Request.{Request as Request
 ghost use Rattle.sudoers_match.specs.Answer.{Answer as AnswerOf, IsAnswer};
 ghost use Rattle.sudoers_match.specs.Groups.{AreHostGroups, place_of};
 ghost use Rattle.sudoers_list.specs.Listing.{IsListing, group_at, groups_in};
-ghost use Rattle.sudoers_list.specs.Reason.{deciding_rule};
+ghost use Rattle.sudoers_list.specs.Reason.{IsReason};
+ghost use Rattle.sudoers_list.specs.Rule.{Rule as RuleOf, deciding_rule};
 
 use sudoers_match::{one_list_of_host_groups, one_runas_default};
 
@@ -23,10 +23,18 @@ pub fn one_listing()
     one_runas_default();
 }
 
+/// The answer to a request has one text that tells why.
+pub fn one_reason()
+    ensures { (lines : List LineOf) (request : RequestOf) (file : List ℕ) (answer : Option AnswerOf) (text other : List ℕ)
+        → IsReason lines request file answer text → IsReason lines request file answer other → text ≡ other }
+{
+    one_runas_default();
+}
+
 /// At the place of an answer there is a rule.
 pub fn answer_has_rule()
     ensures { (lines : List LineOf) (request : RequestOf) (answer : AnswerOf) → IsAnswer lines request (Some answer)
-        → (rule : ℕ × CmdSpecOf) × (deciding_rule lines answer ≡ Some rule) }
+        → (rule : RuleOf) × (deciding_rule lines answer ≡ Some rule) }
 {}
 
 /// At each place that is listed for a user there is a host group.

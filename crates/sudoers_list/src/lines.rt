@@ -1,6 +1,6 @@
 //! Commands as they are listed.
 
-ghost use Rattle.std.specs.Prelude.{◌≡◌, ◌++◌, codes, false, map, slice_get, IfOk, OnOk};
+ghost use Rattle.std.specs.Prelude.{◌≡◌, ◌++◌, codes, false, map, OnOk};
 ghost use Rattle.std.specs.List.{flat_map};
 ghost use Rattle.std.specs.Option.{option_map};
 ghost use Rattle.sudoers_line.specs.declared.node.Kind.TheVariants.{Runas as RunasKind};
@@ -15,7 +15,7 @@ ghost use Rattle.sudoers_list.specs.Inside.{printed_behind};
 
 use std::alloc::{AllocError, Global};
 use sudoers_cvt::print_command;
-use sudoers_line::{Items, Kind};
+use sudoers_line::Kind;
 use sudoers_match::Head;
 use sudoers_print::{append_list, append_member};
 use sudoers_rows::{Atom, CommandRow, HostGroup, Member, MemberRow, Rows, RunasSpec, Tables};
@@ -102,7 +102,11 @@ fn append_runas(
 }
 
 /// Appends a command as it is listed: as whom it runs, and what holds of it.
-fn append_command(
+///
+/// # Errors
+///
+/// Memory ran out.
+pub fn append_command(
     alloc: Global,
     out: &mut Vec<u8>,
     names: &Names<'_>,
@@ -137,35 +141,6 @@ fn append_line(
     out.extend_from_slice(b"    ")?;
     append_command(alloc, out, names, head, member)?;
     out.extend_from_slice(b"\n")
-}
-
-/// Returns the command with the number `number`, from 0, as it is listed.
-///
-/// # Errors
-///
-/// Memory ran out.
-pub fn listed_nth(
-    alloc: Global,
-    names: &Names<'_>,
-    commands: &Rows<'_, CommandRow>,
-    number: usize,
-) -> Result<Option<Items<u8>>, AllocError>
-    ensures { IfOk result (λ text. text ≡ option_map (λ c. printed_command (listed_command names.now.user.now names.now.default.now c)) (slice_get (effective_commands (commands_shown commands.now)) number)) }
-{
-    let mut head = Head::none();
-    let tables = commands.tables;
-    let mut left = number;
-    for row in commands.rows {
-        let command = tables.command(row);
-        head.inherit(&command);
-        if left == 0 {
-            let mut text = Vec::new(alloc);
-            append_command(alloc, &mut text, names, &head, &command.member)?;
-            return Ok(Some(Items::from_vec(text)));
-        }
-        left -= 1;
-    }
-    Ok(None)
 }
 
 /// Appends the lines of the commands of a host group.

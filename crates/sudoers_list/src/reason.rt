@@ -1,60 +1,26 @@
 //! Why a request is answered as it is.
 
-ghost use Rattle.std.specs.Prelude.{◌≡◌, ◌⊎◌, ◌++◌, slice_get, IfOk, IfErr, OnOk};
+ghost use Rattle.std.specs.Prelude.{◌≡◌, ◌⊎◌, ◌++◌, Some, IfOk, IfErr, OnOk};
 ghost use Rattle.std.specs.Option.{option_map};
-ghost use Rattle.sudoers_rows.specs.View.{group_shown};
 ghost use Rattle.sudoers_check.specs.Chains.{HasReachableCycle};
 ghost use Rattle.sudoers_verdict.specs.declared.verdict.AskFault.TheVariants.{Cycle, NoMemory};
-ghost use Rattle.sudoers_match.specs.Answer.{answer_shown};
-ghost use Rattle.sudoers_list.specs.Inside.{spec_shown};
-ghost use Rattle.sudoers_list.specs.Reason.{IsReason, deciding_rule, no_rule, reason, rule_text, specs_on, verdict_words as words_of};
+ghost use Rattle.sudoers_match.specs.Answer.{IsAnswer, answer_shown};
+ghost use Rattle.sudoers_match.specs.Heads.{Head as HeadOf};
+ghost use Rattle.sudoers_match.specs.IsHead.{IsHead};
+ghost use Rattle.sudoers_list.specs.Inside.{inner_shown, rule_held};
+ghost use Rattle.sudoers_list.specs.Reason.{IsReason, NamesRule, inner_text, no_rule, placed, rule_text, verdict_words as words_of};
 
-use crate::lines::{Names, listed_nth};
+use crate::inner::{Inner, innermost};
+use crate::lines::{Names, append_command};
+use crate::rule::{Rule, find_line, find_rule};
+use crate::spot::{Spot, spot_in};
 use std::alloc::{AllocError, Global};
-use sudoers_hits::Who;
+use sudoers_hits::Request;
+use sudoers_line::Kind;
 use sudoers_match::{Answer, runas_default};
-use sudoers_print::append_number;
-use sudoers_rows::{GroupRow, HostGroup, Node, Rows};
-use sudoers_tree::{Line, Policy, lf_count};
+use sudoers_print::{append_member, append_number};
+use sudoers_tree::Policy;
 use sudoers_verdict::AskFault;
-
-/// A user specification: the number of its first physical line, from 1, and its host groups.
-#[derive(Clone, Copy)]
-pub struct SpecAt<'a> {
-    row: usize,
-    groups: Rows<'a, GroupRow>,
-}
-
-/// Returns the user specification with the number `spec`, from 0.
-fn find_spec<'a>(policy: &'a Policy, spec: usize) -> Option<SpecAt<'a>>
-    ensures { option_map spec_shown result ≡ slice_get (specs_on 1 policy.now) spec }
-{
-    policy.text_is_within_limit();
-    let mut row = 1;
-    let mut left = spec;
-    let lines = policy.lines();
-    for line_row in lines.rows {
-        let line = Line::of(lines.tables, line_row);
-        if let Node::Spec { groups, .. } = line.node {
-            if left == 0 {
-                return Some(SpecAt { row, groups });
-            }
-            left -= 1;
-        }
-        row += lf_count(line.text);
-    }
-    None
-}
-
-/// Returns the host group with the number `at`, from 0.
-fn find_group<'a>(spec: &SpecAt<'a>, at: usize) -> Option<HostGroup<'a>>
-    ensures { option_map group_shown result ≡ slice_get (spec_shown spec.now).1 at }
-{
-    match spec.groups.rows.get(at) {
-        Some(row) => Some(spec.groups.tables.group(row)),
-        None => None,
-    }
-}
 
 /// Returns what stands before the rule.
 fn verdict_words(allow: bool) -> &'static [u8]
@@ -74,36 +40,97 @@ fn no_rule(alloc: Global) -> Result<Vec<u8>, AllocError>
     Vec::from_slice(alloc, b"no rule matches\n")
 }
 
-/// Returns the rule of an answer as a text.
+/// Appends the place that stands before a message: the file, the physical line and the column.
+fn append_place(
+    alloc: Global,
+    out: &mut Vec<u8>,
+    file: &[u8],
+    spot: Spot,
+) -> Result<(), AllocError>
+    ensures { OnOk result (out.new.items ≡ out.old.items ++ placed file.now spot) }
+{
+    out.extend_from_slice(file)?;
+    out.extend_from_slice(b":")?;
+    append_number(alloc, out, spot.row)?;
+    out.extend_from_slice(b":")?;
+    append_number(alloc, out, spot.col)
+}
+
+/// Returns the rule as a text.
 fn rule_text(
     alloc: Global,
-    policy: &Policy,
     names: &Names<'_>,
-    answer: &Answer<'_>,
+    rule: &Rule<'_>,
+    allow: bool,
     file: &[u8],
 ) -> Result<Vec<u8>, AllocError>
-    ensures { IfOk result (λ text. text.items ≡ rule_text file.now names.now.user.now names.now.default.now answer.now.allow (deciding_rule policy.now (answer_shown answer.now))) }
+    ensures { IfOk result (λ text. (h : HeadOf) → IsHead rule.now.command.head h → text.items ≡ rule_text file.now names.now.user.now names.now.default.now allow (rule_held rule.now h)) }
 {
-    let Some(spec) = find_spec(policy, answer.spec) else {
-        return no_rule(alloc);
-    };
-    let Some(group) = find_group(&spec, answer.host_group) else {
-        return no_rule(alloc);
-    };
-    let Some(command) = listed_nth(alloc, names, &group.commands, answer.command)? else {
-        return no_rule(alloc);
-    };
-    let mut text = Vec::from_slice(alloc, file)?;
-    text.extend_from_slice(b":")?;
-    append_number(alloc, &mut text, spec.row)?;
-    text.extend_from_slice(verdict_words(answer.allow))?;
-    text.extend_from_slice(command.as_slice())?;
+    let mut text = Vec::new(alloc);
+    append_place(alloc, &mut text, file, rule.spot)?;
+    text.extend_from_slice(verdict_words(allow))?;
+    append_command(
+        alloc,
+        &mut text,
+        names,
+        &rule.command.head,
+        &rule.command.member,
+    )?;
     text.extend_from_slice(b"\n")?;
     Ok(text)
 }
 
-/// Returns why a request of `who` has this answer, as a text: `file`, the first physical line that belongs to the user
-/// specification, whether it allows or denies, and the command as it is listed. Without an answer no rule matches.
+/// Appends the member of an alias that decides, with its place.
+fn append_inner(
+    alloc: Global,
+    out: &mut Vec<u8>,
+    policy: &Policy,
+    inner: &Inner<'_>,
+    file: &[u8],
+) -> Result<(), AllocError>
+    ensures { OnOk result (out.new.items ≡ out.old.items ++ inner_text file.now policy.now (Some (inner_shown inner.now))) }
+{
+    let Some(place) = policy.definition(Kind::Cmnd, inner.name) else {
+        return Ok(());
+    };
+    let Some(at) = find_line(policy, place.line) else {
+        return Ok(());
+    };
+    let spot = spot_in(at.row, at.line.text, inner.member.start);
+    append_place(alloc, out, file, spot)?;
+    out.extend_from_slice(b": in Cmnd_Alias ")?;
+    out.extend_from_slice(inner.name)?;
+    out.extend_from_slice(b": ")?;
+    append_member(alloc, out, false, Kind::Cmnd, &inner.member)?;
+    out.extend_from_slice(b"\n")
+}
+
+/// Returns the rule that gives an answer as a text, and the member that decides if an alias hides it.
+fn answer_text(
+    alloc: Global,
+    policy: &Policy,
+    request: &Request,
+    names: &Names<'_>,
+    answer: &Answer<'_>,
+    file: &[u8],
+) -> Result<Vec<u8>, AllocError>
+    requires answer { IsAnswer policy.now request.now (Some (answer_shown answer.now)) }
+    requires user { names.now.user.now ≡ request.now.who.user.name }
+    ensures { IfOk result (λ text. NamesRule policy.now request.now file.now names.now.default.now (answer_shown answer.now) text.items) }
+{
+    let Some(rule) = find_rule(policy, answer) else {
+        return no_rule(alloc);
+    };
+    let mut text = rule_text(alloc, names, &rule, answer.allow, file)?;
+    if let Some(inner) = innermost(alloc, policy, request, &rule.command.member)? {
+        append_inner(alloc, &mut text, policy, &inner, file)?;
+    }
+    Ok(text)
+}
+
+/// Returns why `request` has this answer, as a text. Its line names `file`, the place of the command that decides, whether it allows or
+/// denies, and the command as it is listed, with the tags of the answer. If the command names an alias, a second line names the innermost
+/// alias and its member that decides, with the place of this member. Without an answer no rule matches.
 ///
 /// # Errors
 ///
@@ -111,21 +138,22 @@ fn rule_text(
 pub fn explain(
     alloc: Global,
     policy: &Policy,
-    who: &Who,
+    request: &Request,
     answer: Option<Answer<'_>>,
     file: &[u8],
 ) -> Result<Vec<u8>, AskFault>
-    ensures text { IfOk result (λ text. IsReason policy.now who.now file.now (option_map answer_shown answer.entry) text.items) }
+    requires { IsAnswer policy.now request.now (option_map answer_shown answer.entry) }
+    ensures text { IfOk result (λ text. IsReason policy.now request.now file.now (option_map answer_shown answer.entry) text.items) }
     ensures straight { IfOk result (λ _. HasReachableCycle policy.now → ⊥) }
     ensures fault { IfErr result (λ fault. (fault ≡ NoMemory) ⊎ ((fault ≡ Cycle) × HasReachableCycle policy.now)) }
 {
-    let default = runas_default(alloc, policy, who)?;
+    let default = runas_default(alloc, policy, &request.who)?;
     let names = Names {
-        user: who.user.name.as_slice(),
+        user: request.who.user.name.as_slice(),
         default,
     };
     match answer {
-        Some(answer) => Ok(rule_text(alloc, policy, &names, &answer, file)?),
+        Some(answer) => Ok(answer_text(alloc, policy, request, &names, &answer, file)?),
         None => Ok(no_rule(alloc)?),
     }
 }

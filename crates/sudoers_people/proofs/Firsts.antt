@@ -9,7 +9,7 @@ use Rattle.sudoers_hits.specs.declared.asked.Group.{Group}
 use Rattle.sudoers_people.specs.declared.account.GroupRow.{GroupRow}
 use Rattle.sudoers_people.specs.Person.{as_group, same_number}
 use Rattle.sudoers_text.specs.Fault.{text_limit}
-use Rattle.sudoers_people.specs.Seen.{texts_shown}
+use Rattle.sudoers_people.specs.Slices.{texts_shown}
 use Rattle.sudoers_people.specs.People.{rows, file_fault, bad_row}
 use Rattle.sudoers_people.specs.declared.fault.PeopleFile.{PeopleFile}
 use Rattle.sudoers_people.specs.declared.fault.PeopleFault.TheVariants.{TooLarge}

@@ -1,4 +1,4 @@
-pub mod Seen
+pub mod Slices
 pub mod Rows
 pub mod People
 pub mod Person

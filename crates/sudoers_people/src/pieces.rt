@@ -1,7 +1,7 @@
 //! Texts, cut at a byte.
 
 ghost use Rattle.std.specs.Prelude.{◌≡◌, IfOk};
-ghost use Rattle.sudoers_people.specs.Seen.{texts_shown};
+ghost use Rattle.sudoers_people.specs.Slices.{texts_shown};
 ghost use Rattle.sudoers_people.specs.Rows.{pieces};
 
 use std::alloc::{AllocError, Global};

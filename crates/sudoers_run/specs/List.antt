@@ -59,8 +59,8 @@ allowed_text words None = []
 allowed_text words (Some a) = if a.allow then joined words ++ codes "\n" else []
 
 -- With `--why` the rule that decides is written.
-abbrev pub IsAnswerText : ListWords → List Line → Who → Option Answer → List ℕ → Type 0
-IsAnswerText w lines who answer text = MatchBool w.why (IsReason lines who w.file.now answer text) (text ≡ allowed_text w.words.now answer)
+abbrev pub IsAnswerText : ListWords → List Line → Request → Option Answer → List ℕ → Type 0
+IsAnswerText w lines r answer text = MatchBool w.why (IsReason lines r w.file.now answer text) (text ≡ allowed_text w.words.now answer)
 
 -- The last row that fits gives what is written and the status. A reachable alias must not be cyclic, nor the arguments too long.
 pub record IsAnswerTold (w : ListWords) (lines : List Line) (r : Request) (told : List ℕ × ℕ) : Type 0 where
@@ -68,7 +68,7 @@ pub record IsAnswerTold (w : ListWords) (lines : List Line) (r : Request) (told 
   pub short : length (joined r.args) ≤ argument_limit
   pub answer : Option Answer
   pub is_answer : IsAnswer lines r answer
-  pub text : IsAnswerText w lines r.who answer told.0
+  pub text : IsAnswerText w lines r answer told.0
   pub status : told.1 ≡ allowed_status answer
 
 abbrev pub IsAnswered : ListWords → List Line → Request → Outcome → Type 0

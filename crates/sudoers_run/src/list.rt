@@ -198,7 +198,7 @@ fn answer_text(
     let answer = answer(alloc, policy, request)?;
     let status = allowed_status(answer);
     if words.why {
-        let text = explain(alloc, policy, &request.who, answer, words.file)?;
+        let text = explain(alloc, policy, request, answer, words.file)?;
         return Ok(Listed { text, status });
     }
     let text = allowed_text(alloc, words.words, answer)?;

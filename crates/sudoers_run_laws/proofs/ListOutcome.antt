@@ -13,12 +13,14 @@ use Rattle.sudoers_people.specs.Asked.{request_told}
 use Rattle.sudoers_people.specs.declared.fault.PeopleFault.{PeopleFault}
 use Rattle.sudoers_people.specs.declared.fault.WhoFault.{WhoFault}
 use Rattle.sudoers_list.specs.Listing.{IsListing}
-use Rattle.sudoers_list.specs.Reason.{IsReason, reason}
+use Rattle.sudoers_list.specs.Reason.{IsReason}
 use Rattle.sudoers_run.specs.declared.words.ListWords.{ListWords}
 use Rattle.sudoers_run.specs.List.{AsDefault, AsUser, IsAnswered, IsAnswerText, IsAnswerTold, IsAsked, IsAskedAsDefault, IsListed, IsListOutcome, OfFirst, OfPeople, OfPolicy, OfRequest, OfWho, OfWords, Outcome, allowed_status, allowed_text, text_shown}
 
--- The laws of listings, of answers and of runas_default.
+-- The laws of listings, of reasons, of answers and of runas_default.
 pub record Laws : Type 0 where
+  pub reason : (lines : List Line) (r : Request) (file : List ℕ) (answer : Option Answer) (text other : List ℕ) → IsReason lines r file answer text
+      → IsReason lines r file answer other → text ≡ other
   pub listing : (lines : List Line) (who : Who) (text other : List ℕ) → IsListing lines who text → IsListing lines who other → text ≡ other
   pub answer : (lines : List Line) (r : Request) (answer other : Option Answer) → IsAnswer lines r answer → IsAnswer lines r other → answer ≡ other
   pub default : (lines : List Line) (who : Who) (name other : List ℕ) → IsRunasDefault lines who name → IsRunasDefault lines who other → name ≡ other
@@ -32,20 +34,16 @@ one_listed l lines who (Ok t) (Err f) a b = absurd (a.0 b.1)
 one_listed l lines who (Err f) (Ok u) a b = absurd (b.0 a.1)
 one_listed l lines who (Err f) (Err g) a b = ap Err (a.0 ∙ sym b.0)
 
-one_reason : Laws → (lines : List Line) (who : Who) (file : List ℕ) (answer : Option Answer) (t u : List ℕ) → IsReason lines who file answer t → IsReason lines who file answer u → t ≡ u
-one_reason l lines who file answer t u a b =
-    a.says ∙ ap (λ d. reason lines file who.user.name d answer) (l.default lines who a.default b.default a.is_default b.is_default) ∙ sym b.says
-
-by_why : Laws → (why : Bool) (lines : List Line) (who : Who) (file : List ℕ) (answer : Option Answer) (wanted t u : List ℕ)
-    → MatchBool why (IsReason lines who file answer t) (t ≡ wanted) → MatchBool why (IsReason lines who file answer u) (u ≡ wanted) → t ≡ u
-by_why l true lines who file answer wanted t u a b = one_reason l lines who file answer t u a b
-by_why l false lines who file answer wanted t u a b = a ∙ sym b
+by_why : Laws → (why : Bool) (lines : List Line) (r : Request) (file : List ℕ) (answer : Option Answer) (wanted t u : List ℕ)
+    → MatchBool why (IsReason lines r file answer t) (t ≡ wanted) → MatchBool why (IsReason lines r file answer u) (u ≡ wanted) → t ≡ u
+by_why l true lines r file answer wanted t u a b = l.reason lines r file answer t u a b
+by_why l false lines r file answer wanted t u a b = a ∙ sym b
 
 one_told : Laws → (w : ListWords) (lines : List Line) (r : Request) (t u : List ℕ × ℕ) → IsAnswerTold w lines r t → IsAnswerTold w lines r u → t ≡ u
 one_told l w lines r t u a b =
     let e : a.answer ≡ b.answer = l.answer lines r a.answer b.answer a.is_answer b.is_answer in
     one_pair t u
-    (by_why l w.why lines r.who w.file.now b.answer (allowed_text w.words.now b.answer) t.0 u.0 (subst (λ x. IsAnswerText w lines r.who x t.0) e a.text) b.text)
+    (by_why l w.why lines r w.file.now b.answer (allowed_text w.words.now b.answer) t.0 u.0 (subst (λ x. IsAnswerText w lines r x t.0) e a.text) b.text)
     (a.status ∙ ap allowed_status e ∙ sym b.status)
 
 one_answered : Laws → (w : ListWords) (lines : List Line) (r : Request) (o p : Outcome) → IsAnswered w lines r o → IsAnswered w lines r p → o ≡ p

@@ -9,7 +9,7 @@ ghost use Rattle.sudoers_run_laws.specs.Converted.{IsConverted, IsExpanded, IsFi
 
 use sudoers_check::chains_are;
 use sudoers_cvt_laws::{printed_rules_answer, printed_rules_are_read, second_printing_is_same};
-use sudoers_list::one_listing;
+use sudoers_list::{one_listing, one_reason};
 use sudoers_match::{one_answer, one_runas_default};
 use sudoers_rewrite_laws::{
     expanded_rules_are_read, filtered_rules_are_read, printed_expansion_answers,
@@ -61,6 +61,7 @@ pub fn one_list_outcome()
         → IsListOutcome words policy passwd group other → outcome ≡ other }
 {
     one_listing();
+    one_reason();
     one_answer();
     one_runas_default();
 }

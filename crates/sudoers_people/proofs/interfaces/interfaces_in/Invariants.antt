@@ -1,5 +1,5 @@
 use Rattle.std.proofs.Common.{◌≡◌, ◌++◌, drop, map, option_map}
-use Rattle.sudoers_people.specs.Seen.{texts_shown}
+use Rattle.sudoers_people.specs.Slices.{texts_shown}
 use Rattle.sudoers_people.specs.Person.{interface_in, interfaces_in, together}
 use Rattle.sudoers_people.proofs.interfaces.interfaces_in.Given as goal
 

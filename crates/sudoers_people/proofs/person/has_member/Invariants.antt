@@ -1,6 +1,6 @@
 use Rattle.std.proofs.Common.{◌≡◌, drop, bytes_eq}
 use Rattle.std.specs.List.{list_any}
-use Rattle.sudoers_people.specs.Seen.{texts_shown}
+use Rattle.sudoers_people.specs.Slices.{texts_shown}
 use Rattle.sudoers_people.specs.Person.{has_member}
 use Rattle.sudoers_people.proofs.person.has_member.Given as goal
 

@@ -1,7 +1,7 @@
 use Rattle.std.proofs.Common.{rules, ◌≡◌, ◌+◌, ◌∙◌, ap, length, nat_lt, false, Some, inr}
 use Rattle.sudoers_text.specs.Fault.{text_limit}
 use Rattle.sudoers_people.specs.declared.fault.PeopleFile.TheVariants.{Passwd}
-use Rattle.sudoers_people.specs.Seen.{texts_shown}
+use Rattle.sudoers_people.specs.Slices.{texts_shown}
 use Rattle.sudoers_people.specs.Rows.{account_in}
 use Rattle.sudoers_people.specs.People.{same_user, rows}
 use Rattle.sudoers_people.proofs.Firsts.{names_are_keys, none_read, next_read, next_bad, fault_at}

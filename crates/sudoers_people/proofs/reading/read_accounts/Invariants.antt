@@ -1,5 +1,5 @@
 use Rattle.std.proofs.Common.{drop}
-use Rattle.sudoers_people.specs.Seen.{texts_shown}
+use Rattle.sudoers_people.specs.Slices.{texts_shown}
 use Rattle.sudoers_people.specs.Rows.{account_in}
 use Rattle.sudoers_people.specs.People.{same_user, rows}
 use Rattle.sudoers_people.proofs.Firsts.{IsReadSoFar}

@@ -1,5 +1,5 @@
 use Rattle.std.proofs.Common.{drop}
-use Rattle.sudoers_people.specs.Seen.{texts_shown}
+use Rattle.sudoers_people.specs.Slices.{texts_shown}
 use Rattle.sudoers_people.specs.Rows.{group_in}
 use Rattle.sudoers_people.specs.People.{same_group, rows}
 use Rattle.sudoers_people.proofs.Firsts.{IsReadSoFar}

@@ -2,10 +2,10 @@ use Rattle.std.proofs.Common.{◌≡◌, ◌+◌, suc, List, ◌∷◌, slice_ge
 use Rattle.sudoers_rows.specs.View.{node_shown}
 use Rattle.sudoers_tree.specs.Line.{Line, line_in, line_shown}
 use Rattle.sudoers_match.specs.Specs.{spec_in}
-use Rattle.sudoers_list.specs.Reason.{specs_on}
+use Rattle.sudoers_list.specs.Rule.{specs_on}
 use Rattle.sudoers_list.proofs.Passing.{line_passed, next_at, none_in, other_passed, spec_passed}
-use Rattle.sudoers_list.proofs.reason.find_spec.Goals as goal
-use Rattle.sudoers_list.proofs.reason.find_spec.Goals.{in-Spec+else-left-eq0, in_default}
+use Rattle.sudoers_list.proofs.rule.find_spec.Goals as goal
+use Rattle.sudoers_list.proofs.rule.find_spec.Goals.{in-Spec+else-left-eq0, in_default}
 
 pub loop-line_row-preserved : goal.loop-line_row-preserved
 loop-line_row-preserved c =
