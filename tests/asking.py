@@ -4,11 +4,17 @@ The policy is standard input, and the program runs in a folder with the files `p
 come after those of the setting `words`, and have FILE in them: `-U bob - /bin/ls -l`.
 """
 
+import re
+
 from cases import Case, NoRow, error_of
 from program import Wanted
 
 FILES = ("--passwd", "passwd", "--group-file", "group")
-ALLOWED, DENIED, NO_RULE = b": allowed by: ", b": denied by: ", b"no rule matches\n"
+
+# A reason has a line for the command that decides and, if that is an alias, a line for its member. Each has a place.
+PLACE = rb"[^\n]+:[1-9][0-9]*:[1-9][0-9]*: "
+REASON = re.compile(PLACE + rb"(allowed|denied) by: [^\n]+\n(?:" + PLACE + rb"in Cmnd_Alias [A-Z][A-Z0-9_]*: [^\n]+\n)?")
+NO_RULE = b"no rule matches\n"
 
 # What a row hands in, by itself or by a setting; and what it may have itself.
 NAMES = ("words", "asked", "policy", "passwd", "group")
@@ -45,9 +51,10 @@ def listed(given, answer):
 def reasoned(given, answer):
     """What `--why` writes."""
     text = answer[0]
-    if not text.endswith(b"\n") or (ALLOWED in text) + (DENIED in text) + (text == NO_RULE) != 1:
-        raise NoRow("a reason names a rule or none, and ends in `\\n`")
-    return asked(given, Wanted(text, status=0 if ALLOWED in text else 1))
+    reason = REASON.fullmatch(text)
+    if reason is None and text != NO_RULE:
+        raise NoRow("a reason has the place of a rule, and perhaps that of a member, or it names none; it ends in `\\n`")
+    return asked(given, Wanted(text, status=0 if reason and reason[1] == b"allowed" else 1))
 
 
 def not_listed(given, answer):

@@ -120,6 +120,7 @@ LISTS = (
     "list_of_standard_input",
     "command_for_a_group_is_allowed",
     "why_of_a_denied_command_on_standard_input",
+    "why_of_an_alias_on_standard_input",
     "list_of_a_standard_input_with_an_error",
     "listing_of_a_user_without_rules",
     "listing_of_each_form_of_runas_spec",
@@ -132,6 +133,8 @@ LISTS = (
     "runas_user_and_group_with_both",
     "reason_of_a_command_that_no_rule_names",
     "reason_of_a_negated_alias_that_denies",
+    "reason_of_an_alias_four_deep",
+    "reason_of_all_in_an_alias_in_an_alias",
     "reason_with_everything",
     "reason_in_the_third_line_of_a_rule",
     "rows_of_group_that_say_nothing",
@@ -200,6 +203,7 @@ WORDS = (
     "list_of_a_site_for_a_user_of_a_group",
     "why_of_a_site_that_allows",
     "why_of_a_site_that_denies",
+    "why_of_an_alias_in_a_file",
 )
 
 
@@ -301,9 +305,10 @@ def many_people_case():
     passwd = b"bob:x:1000:1000:::\n" + b"".join(b"u%d:x:%d:%d:::\n" % (3 * (n,)) for n in numbers)
     group = b"".join(b"g%d:x:%d:u%d,bob\n" % (3 * (n,)) for n in numbers)
     words = (*LIST_WORDS, "-u", "u40", "-g", "g40", "--why", "--interfaces", ",".join(["10.0.0.1/8"] * 20), "-", "/a", "x")
-    wanted = Wanted(b"-:1: allowed by: (u40 : g40) /a\n")
+    policy = b"%g40, %g39 ALL = (u40 : g40) /a\n"
+    wanted = Wanted(b"-:1:%d: allowed by: (u40 : g40) /a\n" % (policy.index(b"/a") + 1))
     files = (("passwd", passwd), ("group", group))
-    return cases.Case("why_with_eighty_rows_of_people", words, b"%g40, %g39 ALL = (u40 : g40) /a\n", wanted, files=files)
+    return cases.Case("why_with_eighty_rows_of_people", words, policy, wanted, files=files)
 
 
 def people_at_the_limit(name, device):

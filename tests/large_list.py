@@ -1,7 +1,7 @@
 """`list` at the limits of its three files, of a command and of the aliases that it looks into."""
 
 from cases import Case
-from large import LINE_LIMIT, POLICY_LIMIT, case, chain, full_policy
+from large import ALIAS_LIMIT, LINE_LIMIT, POLICY_LIMIT, case, chain, definitions_in_one_line, full_policy
 from program import Wanted, fault
 
 FILES = ("--passwd", "passwd", "--group-file", "group")
@@ -170,7 +170,20 @@ def command_of_forty_aliases_of_two_members():
 @case
 def why_of_forty_aliases_of_two_members():
     policy = doubled(b"Cmnd_Alias", b"/bin/a") + b"bob ALL=C01\n"
-    return answered(Wanted(b"-:41: allowed by: (root) C01\n"), ("--why", "-", "/bin/a"), policy)
+    wanted = Wanted(b"-:41:9: allowed by: (root) C01\n-:40:18: in Cmnd_Alias C40: /bin/a\n")
+    return answered(wanted, ("--why", "-", "/bin/a"), policy)
+
+
+@case
+def why_of_forty_aliases_beside_forty_that_say_nothing():
+    """The second member of each says nothing, and leads to a number of members that no run could look at one by one."""
+    names = [(b"C%02d" % number, b"D%02d" % number) for number in range(1, 41)]
+    policy = b""
+    for (c, d), (next_c, next_d) in zip(names, names[1:]):
+        policy += b"Cmnd_Alias %s = %s, %s : %s = %s, %s\n" % (c, next_c, next_d, d, next_d, next_d)
+    policy += b"Cmnd_Alias C40 = /bin/a : D40 = /bin/b\nbob ALL=C01\n"
+    wanted = Wanted(b"-:41:9: allowed by: (root) C01\n-:40:18: in Cmnd_Alias C40: /bin/a\n")
+    return answered(wanted, ("--why", "-", "/bin/a"), policy)
 
 
 @case
@@ -186,15 +199,56 @@ def command_after_a_chain_of_aliases():
 
 
 @case
+def why_after_a_chain_of_aliases():
+    policy = chain(b"Cmnd_Alias", 4_096) + b"bob ALL=A1\n"
+    wanted = Wanted(b"-:4097:9: allowed by: (root) SETENV: A1\n-:4096:20: in Cmnd_Alias A4096: ALL\n")
+    return answered(wanted, ("--why", "-", "/bin/a"), policy)
+
+
+@case
+def why_of_the_last_of_very_many_aliases_in_one_line():
+    line = definitions_in_one_line(b"Cmnd_Alias", ALIAS_LIMIT)
+    place = b"1:%d" % (len(line) - len(b"ALL\n") + 1)
+    wanted = Wanted(b"-:2:9: allowed by: (root) SETENV: A4096\n-:%s: in Cmnd_Alias A4096: ALL\n" % place)
+    return answered(wanted, ("--why", "-", "/bin/a"), line + b"bob ALL=A4096\n")
+
+
+@case
+def why_of_the_last_of_very_many_members():
+    policy = b"Cmnd_Alias A=" + b"/b," * 20_000 + b"/a\nbob ALL=A\n"
+    wanted = Wanted(b"-:2:9: allowed by: (root) A\n-:1:60014: in Cmnd_Alias A: /a\n")
+    return answered(wanted, ("--why", "-", "/a"), policy)
+
+
+@case
+def why_of_the_first_of_very_many_members():
+    policy = b"Cmnd_Alias A=/a" + b",/b" * 20_000 + b"\nbob ALL=A\n"
+    wanted = Wanted(b"-:2:9: allowed by: (root) A\n-:1:14: in Cmnd_Alias A: /a\n")
+    return answered(wanted, ("--why", "-", "/a"), policy)
+
+
+@case
+def why_of_the_last_of_very_many_commands():
+    policy = b"bob ALL=" + b"/b," * 20_000 + b"!/a\n"
+    return answered(Wanted(b"-:1:60009: denied by: (root) !/a\n", status=1), ("--why", "-", "/a"), policy)
+
+
+@case
+def why_of_the_last_of_very_many_lines_of_a_rule():
+    policy = b"bob ALL=/a,\\\n" + b"/b,\\\n" * 13_000 + b" /a\n"
+    return answered(Wanted(b"-:13002:2: allowed by: (root) /a\n"), ("--why", "-", "/a"), policy)
+
+
+@case
 def why_of_the_last_of_very_many_rules():
     policy = b"bob ALL=/a\n" * 90_000 + b"bob ALL=!/a\n"
-    return answered(Wanted(b"-:90001: denied by: (root) !/a\n", status=1), ("--why", "-", "/a"), policy)
+    return answered(Wanted(b"-:90001:9: denied by: (root) !/a\n", status=1), ("--why", "-", "/a"), policy)
 
 
 @case
 def why_of_the_first_of_very_many_rules():
     policy = b"bob ALL=/a\n" + b"bob ALL=/b\n" * 90_000
-    return answered(Wanted(b"-:1: allowed by: (root) /a\n"), ("--why", "-", "/a"), policy)
+    return answered(Wanted(b"-:1:9: allowed by: (root) /a\n"), ("--why", "-", "/a"), policy)
 
 
 @case

@@ -300,6 +300,7 @@ def load_every():
 # Tables with one mistake each: the reader has to refuse them.
 BEGIN = "form = script => error\npolicy = # a\\n\n"
 LISTED = "form = asked => listed\nwords =\npolicy =\npasswd =\n"
+REASONED = LISTED.replace("listed", "why") + "group =\n"
 MISTAKES = (
     "",
     "# A comment alone.\n",
@@ -335,8 +336,13 @@ MISTAKES = (
     LISTED + "group =\ntwo_answers: - => a => b\n",
     LISTED + "group =\nno_line_end: - => a\n",
     LISTED + "group =\na: - =>\ngroup = unused\n",
-    LISTED.replace("listed", "why") + "group =\nno_verdict: - => a\\n\n",
-    LISTED.replace("listed", "why") + "group =\nempty_answer: - =>\n",
+    REASONED + "no_verdict: - => a\\n\n",
+    REASONED + "empty_answer: - =>\n",
+    REASONED + "no_column: - => -:1: allowed by: (root) /a\\n\n",
+    REASONED + "no_line_end: - => -:1:1: allowed by: (root) /a\n",
+    REASONED + "member_alone: - => -:1:1: in Cmnd_Alias A: /a\\n\n",
+    REASONED + "member_without_a_place: - => -:1:1: denied by: (root) A\\nin Cmnd_Alias A: /a\\n\n",
+    REASONED + "two_members: - => -:1:1: denied by: (root) A\\n\\{2*-:1:1: in Cmnd_Alias A: /a\\n}\n",
     LISTED.replace("listed", "not listed") + "group =\nempty_answer: - =>\n",
 )
 
