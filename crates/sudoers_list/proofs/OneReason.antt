@@ -1,5 +1,5 @@
 -- The rule that decides hides one member, and a request has one reason.
-use Rattle.std.proofs.Common.{◌≡◌, ◌⊎◌, inl, inr, Bool, ℕ, List, Option, Some, None, refl, sym, ap, subst, ◌∙◌}
+use Rattle.std.proofs.Common.{◌≡◌, ◌⊎◌, inl, inr, Bool, ℕ, List, Option, Some, None, refl, sym, ap, ap₂, subst, ◌∙◌}
 use Rattle.std.proofs.lemmas.Option.{same_Some}
 use Rattle.sudoers_line.specs.declared.node.Atom.{Atom}
 use Rattle.sudoers_line.specs.declared.node.Atom.TheVariants.{Alias}
@@ -87,7 +87,7 @@ module _ (lines : List Line) (test : Atom → Bool) where
   one_innermost outer a b p q =
       let name : a.name ≡ b.name = by (one_way (LeadsInto lines test) one_leads outer a.name b.name p.reached q.reached) in
       let member : a.member ≡ b.member = one_decides b.name a.member b.member (subst (λ x. Decides lines test x a.member) name p.decides) q.decides in
-      cc
+      ap₂ (λ (n : List ℕ) (m : Member). record { name = n; member = m }) name member
     where
       by : Chain (LeadsInto lines test) (λ x. a.name ≡ x) b.name ⊎ Chain (LeadsInto lines test) (λ x. b.name ≡ x) a.name → a.name ≡ b.name
       by (inl c) = at_end a b p.decides p.no_alias c q.decides

@@ -1,5 +1,5 @@
 -- Lists that say something, and their members.
-use Rattle.std.proofs.Common.{◌≡◌, ◌≢◌, ◌&&◌, Bool, true, false, List, [], ◌∷◌, ◌++◌, map, Option, Some, None, if◌then◌else◌, refl, sym, ap, subst, ◌∙◌, append-nil}
+use Rattle.std.proofs.Common.{◌≡◌, ◌≢◌, ◌&&◌, inl, inr, Bool, true, false, List, [], ◌∷◌, ◌++◌, map, Option, Some, None, if◌then◌else◌, refl, sym, ap, subst, ◌∙◌, append-nil}
 use Rattle.std.specs.List.{AllByRecursion}
 use Rattle.sudoers_line.specs.declared.node.Atom.{Atom}
 use Rattle.sudoers_line.specs.declared.node.Kind.TheVariants.{Cmnd}
@@ -20,7 +20,10 @@ later_none : (before after : Option Hit) → later before after ≡ None → (be
 later_none before None e = (e, refl)
 later_none before (Some hit) e = absurd cc
 
-if_some : (t allow all : Bool) → t ≡ true → (if t then Some (record { allow = allow; by_all = all }) else None) ≢ None
+abbrev hit_if : Bool → Bool → Bool → Option Hit
+hit_if t allow all = if t then Some (record { allow = allow; by_all = all }) else None
+
+if_some : (t allow all : Bool) → t ≡ true → hit_if t allow all ≢ None
 if_some true allow all is none = cc
 if_some false allow all is none = cc
 

@@ -18,29 +18,21 @@ abbrev picked : (Tag → Bool) → (Tag → Option Bool) → List Tag → Option
 picked is_it said [] = None
 picked is_it said (name ∷ names) = option_or (picked is_it said names) (if is_it name then said name else None)
 
-none_either : (b : Bool) → None ≡ (if b then None else None)
-none_either true = refl
-none_either false = refl
+none_either : (b : Bool) (rest : Option Bool) → rest ≡ option_or rest (if◌then◌else◌ {A = Option Bool} b None None)
+none_either true rest = sym (or_none rest)
+none_either false rest = sym (or_none rest)
 
-last_picked : (is_it : Tag → Bool) (said : Tag → Option Bool) (names : List Tag)
-    → last_said is_it (filter_map (λ name. option_map (λ (on : Bool). (name, on)) (said name)) names) ≡ picked is_it said names
+abbrev pairs : (Tag → Option Bool) → List Tag → List (Tag × Bool)
+pairs said names = filter_map (λ name. option_map (λ (on : Bool). (name, on)) (said name)) names
+
+one_picked : (is_it : Tag → Bool) (name : Tag) (o rest : Option Bool) (ps : List (Tag × Bool)) → last_said is_it ps ≡ rest
+    → last_said is_it (cons_option (option_map (λ (on : Bool). (name, on)) o) ps) ≡ option_or rest (if is_it name then o else None)
+one_picked is_it name None rest ps e = e ∙ none_either (is_it name) rest
+one_picked is_it name (Some on) rest ps e = ap (λ p. option_or p (if is_it name then Some on else None)) e
+
+last_picked : (is_it : Tag → Bool) (said : Tag → Option Bool) (names : List Tag) → last_said is_it (pairs said names) ≡ picked is_it said names
 last_picked is_it said [] = refl
-last_picked is_it said (name ∷ names) = by (said name) refl
-  where
-    pairs : List (Tag × Bool)
-    pairs = filter_map (λ other. option_map (λ (on : Bool). (other, on)) (said other)) names
-    by : (o : Option Bool) → said name ≡ o
-        → last_said is_it (cons_option (option_map (λ (on : Bool). (name, on)) (said name)) pairs) ≡ option_or (picked is_it said names) (if is_it name then said name else None)
-    by None e =
-        ap (λ p. last_said is_it (cons_option (option_map (λ (on : Bool). (name, on)) p) pairs)) e
-        ∙ last_picked is_it said names
-        ∙ sym (or_none (picked is_it said names))
-        ∙ ap (option_or (picked is_it said names)) (none_either (is_it name))
-        ∙ sym (ap (λ p. option_or (picked is_it said names) (if is_it name then p else None)) e)
-    by (Some on) e =
-        ap (λ p. last_said is_it (cons_option (option_map (λ (b : Bool). (name, b)) p) pairs)) e
-        ∙ ap (λ p. option_or p (if is_it name then Some on else None)) (last_picked is_it said names)
-        ∙ sym (ap (λ p. option_or (picked is_it said names) (if is_it name then p else None)) e)
+last_picked is_it said (name ∷ names) = one_picked is_it name (said name) (picked is_it said names) (pairs said names) (last_picked is_it said names)
 
 said_back : (said : Tag → Option Bool) (t : Tag) → tag_of (listed_tags said) t ≡ picked (λ u. tag_place t == tag_place u) said tag_names
 said_back said t = last_picked (λ u. tag_place t == tag_place u) said tag_names
@@ -62,15 +54,14 @@ tags_back tags =
     rw (each_back said tag.Exec, each_back said tag.Follow, each_back said tag.Intercept, each_back said tag.LogInput,
     each_back said tag.LogOutput, each_back said tag.Mail, each_back said tag.Passwd, each_back said tag.Setenv) refl
 
+pairs_same : (f g : Tag → Option Bool) → ((t : Tag) → f t ≡ g t) → (names : List Tag) → pairs f names ≡ pairs g names
+pairs_same f g same [] = refl
+pairs_same f g same (name ∷ names) =
+    ap (λ o. cons_option (option_map (λ (on : Bool). (name, on)) o) (pairs f names)) (same name)
+    ∙ ap (cons_option (option_map (λ (on : Bool). (name, on)) (g name))) (pairs_same f g same names)
+
 listed_same : (f g : Tag → Option Bool) → ((t : Tag) → f t ≡ g t) → listed_tags f ≡ listed_tags g
-listed_same f g same = by tag_names
-  where
-    by : (names : List Tag) → filter_map (λ name. option_map (λ (on : Bool). (name, on)) (f name)) names
-        ≡ filter_map (λ name. option_map (λ (on : Bool). (name, on)) (g name)) names
-    by [] = refl
-    by (name ∷ names) =
-        ap (λ o. cons_option (option_map (λ (on : Bool). (name, on)) o) (filter_map (λ other. option_map (λ (on : Bool). (other, on)) (f other)) names)) (same name)
-        ∙ ap (cons_option (option_map (λ (on : Bool). (name, on)) (g name))) (by names)
+listed_same f g same = pairs_same f g same tag_names
 
 -- a head with other tags
 abbrev pub tagged : Tags → Head → Head

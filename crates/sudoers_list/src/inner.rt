@@ -113,7 +113,8 @@ fn go_in<'a>(
     ensures { IfOk result (λ inner. IsInnermost numbers.now.policy.now (command_hits command.now) outer.now.name.now (inner_shown inner)) }
 {
     let mut alias = *outer;
-    for _ in 0..numbers.len() {
+    let mut times = numbers.len();
+    while times > 0 {
         let Some(member) = find_last(verdicts, numbers, &alias.members, command)? else {
             unreachable!()
         };
@@ -124,6 +125,7 @@ fn go_in<'a>(
             });
         };
         alias = next;
+        times -= 1;
     }
     unreachable!()
 }

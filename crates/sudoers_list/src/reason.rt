@@ -142,7 +142,7 @@ pub fn explain(
     answer: Option<Answer<'_>>,
     file: &[u8],
 ) -> Result<Vec<u8>, AskFault>
-    requires { IsAnswer policy.now request.now (option_map answer_shown answer.entry) }
+    requires { IsAnswer policy.now request.now (option_map answer_shown answer) }
     ensures text { IfOk result (λ text. IsReason policy.now request.now file.now (option_map answer_shown answer.entry) text.items) }
     ensures straight { IfOk result (λ _. HasReachableCycle policy.now → ⊥) }
     ensures fault { IfErr result (λ fault. (fault ≡ NoMemory) ⊎ ((fault ≡ Cycle) × HasReachableCycle policy.now)) }

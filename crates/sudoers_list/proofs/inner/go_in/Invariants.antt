@@ -1,7 +1,7 @@
-use Rattle.std.proofs.Common.{◌≡◌, ◌-◌, Some, length}
+use Rattle.std.proofs.Common.{◌≡◌, Some}
 use Rattle.sudoers_line.specs.declared.node.Kind.TheVariants.{Cmnd}
 use Rattle.sudoers_rows.specs.View.{members_shown}
-use Rattle.sudoers_tree.specs.Definition.{definitions, members_of}
+use Rattle.sudoers_tree.specs.Definition.{members_of}
 use Rattle.sudoers_check.specs.Chain.{Chain}
 use Rattle.sudoers_hits.specs.Hits.{command_hits}
 use Rattle.sudoers_verdict.specs.Search.{Remembers}
@@ -9,11 +9,14 @@ use Rattle.sudoers_list.specs.Going.{IsWithin}
 use Rattle.sudoers_list.specs.Inner.{LeadsInto, Says}
 use Rattle.sudoers_list.proofs.inner.go_in.Given as goal
 
-abbrev pub invariant-loop-x : goal.invariant-loop-x
-invariant-loop-x l = record {
+abbrev pub invariant-loop-times : goal.invariant-loop-times
+invariant-loop-times l = record {
   remembers : Remembers Cmnd l.numbers.policy.now (command_hits l.command) l.verdicts;
   defined : members_of Cmnd l.alias.name.now l.numbers.policy.now ≡ Some (members_shown l.alias.members);
   says : Says l.numbers.policy.now (command_hits l.command) (members_shown l.alias.members);
   reached : Chain (LeadsInto l.numbers.policy.now (command_hits l.command)) (λ name. l.outer.name.now ≡ name) l.alias.name.now;
-  within : IsWithin l.numbers.policy.now (length (definitions l.numbers.policy.now) - l.i) l.alias.name.now;
+  within : IsWithin l.numbers.policy.now l.times l.alias.name.now;
 }
+
+abbrev pub decreases-loop-times : goal.decreases-loop-times
+decreases-loop-times l = l.times
