@@ -7,6 +7,7 @@ mod HistoryLemmas
 mod InverseLemmas
 mod LastLemmas
 mod MemberLemmas
+mod MemoryLemmas
 mod MoreLemmas
 mod NamedLemmas
 mod PlaceLemmas

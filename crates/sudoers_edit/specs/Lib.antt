@@ -7,6 +7,7 @@ pub mod SpliceEdits
 pub mod Renaming
 pub mod Pruning
 pub mod PruneOrder
+pub mod Memory
 pub mod Editing
 pub mod Undoing
 pub mod LastLine

@@ -14,7 +14,7 @@ use crate::splice_edits::{def_added, def_dropped, member_added, member_dropped};
 use std::alloc::{AllocError, Global};
 use std::marker::Model;
 use sudoers_script::{Edit, Edits, Text};
-use sudoers_tree::Policy;
+use sudoers_tree::{Policy, read_is};
 
 /// An accepted edit, with the edits that take it back.
 #[derive(Debug, Drop)]
@@ -45,6 +45,7 @@ impl Model for Editor {
 
 impl Editor {
     ghost use Rattle.sudoers_edit.specs.Editing.{step, inv, run, run_all, inv_run, first_of, edits_of, Refuses, StopsAt};
+    ghost use Rattle.sudoers_edit.specs.Memory.{TellsMemoryAlone};
     ghost use Rattle.sudoers_edit.specs.Undoing.{TakesLast};
 
     /// The policy, and an empty journal.
@@ -93,7 +94,10 @@ impl Editor {
         // A refusal is the definition's, or want of memory, and changes neither lines nor journal.
         ensures refused { IfErr result (λ fault. Refuses fault (step edit.now self.old.lines)) }
         ensures unchanged { OnErr result (self.new ≡ self.old) }
+        // Want of memory is `NoMemory` alone: no other fault holds it.
+        ensures memory { IfErr result TellsMemoryAlone }
     {
+        read_is();
         let landed = landed(&self.policy, edit)?;
         let edit = edit.copied(self.policy.allocator())?;
         self.journal.reserve(1)?;
@@ -143,6 +147,8 @@ impl Editor {
         ensures accepted { OnOk result (run_all 0 edits.now self.old.lines ≡ Ok self.new.lines) }
         ensures refused { IfErr result (λ refused. StopsAt refused.0 refused.1 edits.now self.old.lines) }
         ensures place { IfErr result (λ refused. refused.0 < length edits.now) }
+        // Want of memory is `NoMemory` alone: no other fault holds it.
+        ensures memory { IfErr result (λ refused. TellsMemoryAlone refused.1) }
         ensures begun { first_of self.new ≡ first_of self.old }
     {
         for (place, edit) in edits.iter().enumerate() {
