@@ -2,5 +2,5 @@ pub mod Passing
 pub mod Speaking
 pub mod TagsSaid
 pub mod Going
-mod Ruled
+pub mod Ruled
 mod OneReason

@@ -41,6 +41,7 @@ module _ {X : Type 0} (Step : X → X → Type 0) where
         go : (v ≡ y) ⊎ ((u : X) × Step v u × Chain Step (λ t. u ≡ t) y) → Chain Step (λ u. y ≡ u) w ⊎ Chain Step (λ u. w ≡ u) y
         go (inl e) = inl (onward y w (here y refl) (subst (λ u. Step u w) e s))
         go (inr r) = inr (subst (λ u. Chain Step (λ t. u ≡ t) y) (one_step v r.0 w r.1 s) r.2)
+
         by : Chain Step (λ u. y ≡ u) v ⊎ Chain Step (λ u. v ≡ u) y → Chain Step (λ u. y ≡ u) w ⊎ Chain Step (λ u. w ≡ u) y
         by (inl a) = inl (onward v w a s)
         by (inr b) = go (first_step v y b)
@@ -79,7 +80,7 @@ module _ (lines : List Line) (test : Atom → Bool) where
           let m : a.member ≡ r.1.0 = one_decides a.name a.member r.1.0 d r.1.1 in
           let next = decides_first r.0 b.name b.member r.2 e in
           let some : alias_of Cmnd lines a.member.atom ≡ Some next.1.members =
-            ap (alias_of Cmnd lines) (ap (λ (x : Member). x.atom) m ∙ r.1.2) ∙ next.1.are_members in
+          ap (alias_of Cmnd lines) (ap (λ (x : Member). x.atom) m ∙ r.1.2) ∙ next.1.are_members in
           let clash : None ≡ Some next.1.members = sym none ∙ some in
           absurd cc
 

@@ -68,6 +68,9 @@ next_at f xs i d h y e = ap (map f) (drop_more xs i d h) ∙ ap (λ z. z ∷ map
 pub parts : (o r b x y m : List ℕ) → ((o ++ r) ++ b) ++ ((x ++ y) ++ m) ≡ o ++ ((((r ++ b) ++ x) ++ y) ++ m)
 parts o r b x y m = simp append_assoc
 
+pub inner_parts : (o p a n b m e : List ℕ) → (((((o ++ p) ++ a) ++ n) ++ b) ++ m) ++ e ≡ o ++ (((((p ++ a) ++ n) ++ b) ++ m) ++ e)
+inner_parts o p a n b m e = simp append_assoc
+
 pub on_ok : {T E : Type 0} (r : Result T E) (P Q : Type 0) → (P → Q) → OnOk r P → OnOk r Q
 on_ok (Ok v) P Q next h = next h
 on_ok (Err e) P Q next h = tt
@@ -156,14 +159,13 @@ pub line_before : (row count left n : ℕ) (l : Line) (ls all : List Line) (want
     → count ≡ lf_count l.text → count ≤ length l.text
     → (slice_get (numbered row all) left ≡ wanted) × (row + length (join (texts all)) ≤ 1048577)
     → (slice_get (numbered (row + count) ls) n ≡ wanted) × (row + count + length (join (texts ls)) ≤ 1048577)
-line_before row count left n l ls all wanted split one counted within inv =
-    (
-      ap (λ k. slice_get (numbered (row + k) ls) n) counted
-          ∙ ap (slice_get (numbered row (l ∷ ls))) (sym one)
-          ∙ ap (λ xs. slice_get (numbered row xs) left) (sym split)
-          ∙ inv.0,
-      rest_fits row count l ls all split within inv.1,
-    )
+line_before row count left n l ls all wanted split one counted within inv = (
+  ap (λ k. slice_get (numbered (row + k) ls) n) counted
+      ∙ ap (slice_get (numbered row (l ∷ ls))) (sym one)
+      ∙ ap (λ xs. slice_get (numbered row xs) left) (sym split)
+      ∙ inv.0,
+  rest_fits row count l ls all split within inv.1,
+)
 
 pub line_here : (row left : ℕ) (l : Line) (ls all : List Line) (wanted : Option (ℕ × Line)) → all ≡ l ∷ ls → left ≡ 0
     → slice_get (numbered row all) left ≡ wanted → Some (row, l) ≡ wanted

@@ -21,7 +21,8 @@ use Rattle.sudoers_match.specs.Last.{IsLast}
 use Rattle.sudoers_match.specs.Rows.{CommandRows, GroupRows, Row, SpecRows, row_of}
 use Rattle.sudoers_match.specs.Specs.{AreJoined, Spec, spec_in, specs_of}
 use Rattle.sudoers_list.specs.Listing.{group_at, groups_in}
-use Rattle.sudoers_list.specs.Inner.{Speaks}
+use Rattle.sudoers_list.specs.Inner.{Inner, IsInner, Speaks}
+use Rattle.sudoers_list.specs.Reason.{IsInnerOf, NamesRule, inner_text, rule_text, rule_with}
 use Rattle.sudoers_list.proofs.Speaking.{says_by}
 use Rattle.sudoers_list.specs.Rule.{Rule, SpecOn, command_at, deciding_rule, rule_in, rule_of, spec_on, specs_on}
 
@@ -190,6 +191,19 @@ rule_speaks lines request a rule is e =
     let r = rule_at lines a w.spec w.group w.command w.there w.here w.this in
     let same : r.0 ≡ rule = same_Some r.0 rule (sym r.1 ∙ e) in
     subst (Speaks lines (command_hits (command_line request))) (sym r.2 ∙ ap (λ (x : Rule). x.command.member) same) w.speaks
+
+-- A text names the rule, whose member decides or hides one that does.
+pub rule_named : (lines : List Line) (r : Request) (file user d text : List ℕ) (a : Answer) (rule : Rule) (inner : Option Inner) → user ≡ r.who.user.name
+    → deciding_rule lines a ≡ Some rule → IsInner lines (command_hits (command_line r)) rule.command.member inner
+    → text ≡ rule_text file user d a.allow rule ++ inner_text file lines inner → NamesRule lines r file d a text
+rule_named lines r file user d text a rule inner same e is t = record {
+  inner = inner;
+  is_inner = subst (λ o. IsInnerOf lines r o inner) (sym e) is;
+  says =
+      t
+      ∙ ap (λ u. rule_text file u d a.allow rule ++ inner_text file lines inner) same
+      ∙ ap (rule_with lines file r.who.user.name d a.allow inner) (sym e);
+}
 
 -- ---- the place of an answer among those that are listed
 

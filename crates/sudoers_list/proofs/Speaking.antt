@@ -1,6 +1,8 @@
 -- Lists that say something, and their members.
-use Rattle.std.proofs.Common.{◌≡◌, ◌≢◌, ◌&&◌, inl, inr, Bool, true, false, List, [], ◌∷◌, ◌++◌, map, Option, Some, None, if◌then◌else◌, refl, sym, ap, subst, ◌∙◌, append-nil}
+use Rattle.std.proofs.Common.{◌≡◌, ◌≢◌, ◌&&◌, inl, inr, ℕ, zero, suc, ◌+◌, ◌<◌, Bool, true, false, List, [], ◌∷◌, ◌++◌, map, Option, Some, None, if◌then◌else◌, refl, sym, ap, subst, ◌∙◌, append-nil, arith, get_or, length, take}
 use Rattle.std.specs.List.{AllByRecursion}
+use Rattle.std.specs.Option.{is_some}
+use Rattle.std.specs.Prelude.{◌↔◌, IsTrue}
 use Rattle.sudoers_line.specs.declared.node.Atom.{Atom}
 use Rattle.sudoers_line.specs.declared.node.Kind.TheVariants.{Cmnd}
 use Rattle.sudoers_line.specs.declared.node.Member.{Member}
@@ -11,6 +13,7 @@ use Rattle.sudoers_verdict.specs.Flat.{Signed, IsFlat, IsLatest, alias_of, has_n
 use Rattle.sudoers_verdict.specs.Flat as flat
 use Rattle.sudoers_verdict.proofs.Flats.{last_append, last_turned}
 use Rattle.sudoers_match.specs.Last.{IsLast}
+use Rattle.sudoers_match.proofs.Lasts.{last_then}
 use Rattle.sudoers_list.specs.Going.{HasFlat}
 use Rattle.sudoers_list.specs.Inner.{Says, Speaks}
 
@@ -76,9 +79,11 @@ module _ (lines : List Line) where
       let same : n ≡ m = cc in
       let end : rest ≡ [] = cc in
       let two : Some others ≡ Some members = sym x ∙ ap (λ (y : Member). alias_of Cmnd lines y.atom) same ∙ is in
-      let all : others ≡ members = cc in
-      (inner, subst (λ ys. IsFlat Cmnd lines ys inner) all i,
-        ap (λ hs. map (turn n.negated) inner ++ hs) (none_flat rest gs f end) ∙ ap (λ (y : Member). map (turn y.negated) inner ++ []) same)
+      let all : others ≡ members = cc in (
+        inner,
+        subst (λ ys. IsFlat Cmnd lines ys inner) all i,
+        ap (λ hs. map (turn n.negated) inner ++ hs) (none_flat rest gs f end) ∙ ap (λ (y : Member). map (turn y.negated) inner ++ []) same,
+      )
 
   module _ (test : Atom → Bool) where
     -- The members of an alias say something where it speaks.
@@ -86,7 +91,7 @@ module _ (lines : List Line) where
     members_say m members is (hit, latest) =
         let w = of_alias (m ∷ []) latest.flat latest.is_flat m members refl is in
         let e : turned m.negated (last_hit test w.0) ≡ Some hit =
-          sym (last_turned test m.negated w.0) ∙ sym (ap (last_hit test) (append-nil (map (turn m.negated) w.0))) ∙ sym (ap (last_hit test) w.2) ∙ latest.is_last in
+        sym (last_turned test m.negated w.0) ∙ sym (ap (last_hit test) (append-nil (map (turn m.negated) w.0))) ∙ sym (ap (last_hit test) w.2) ∙ latest.is_last in
         let inner = turned_some m.negated (last_hit test w.0) hit e in
         (inner.0, record { flat = w.0; is_flat = w.1; is_last = inner.1 })
 
@@ -112,3 +117,43 @@ module _ (lines : List Line) where
     some_last ms (hit, latest) quiet =
         let e : Some hit ≡ None = sym latest.is_last ∙ all_silent ms latest.flat latest.is_flat quiet in
         cc
+
+    -- A member speaks just where its flat list has a hit.
+    pub speaks_if : ((fs gs : List Signed) (ms : List Member) → IsFlat Cmnd lines ms fs → IsFlat Cmnd lines ms gs → fs ≡ gs)
+        → (m : Member) (hit : Option Hit) (b : Bool) → b ≡ is_some hit → IsLatest Cmnd lines test (m ∷ []) hit → IsTrue b ↔ Speaks lines test m
+    speaks_if one m None b e latest = (
+      λ h. let clash : false ≡ true = sym e ∙ h in absurd cc,
+      λ (hit, other).
+          let clash : None ≡ Some hit = sym latest.is_last ∙ ap (last_hit test) (one latest.flat other.flat (m ∷ []) latest.is_flat other.is_flat) ∙ other.is_last in
+          absurd cc,
+    )
+    speaks_if one m (Some hit) b e latest = (λ h. (hit, latest), λ s. e)
+
+-- ---- rows of members
+
+pub row_among : {X Y : Type 0} (f : X → Y) (xs : List X) (i : ℕ) (d : X) → i < length xs → (y : Y) → y ≡ f (get_or xs i d) → Has (map f xs) y
+row_among f [] i d h y e = absurd (omega arith)
+row_among f (x ∷ xs) zero d h y e = inl (sym e)
+row_among f (x ∷ xs) (suc i) d h y e = inr (row_among f xs i d (omega (arith, h)) y e)
+
+pub row_next : {X Y : Type 0} (f : X → Y) (xs : List X) (i : ℕ) (d : X) → i < length xs → (y : Y) → y ≡ f (get_or xs i d)
+    → map f (take (i + 1) xs) ≡ map f (take i xs) ++ y ∷ []
+row_next f [] i d h y e = absurd (omega arith)
+row_next f (x ∷ xs) zero d h y e = ap (λ z. z ∷ []) (sym e)
+row_next f (x ∷ xs) (suc i) d h y e =
+    let one : suc i + 1 ≡ suc (i + 1) = omega arith in
+    ap (λ n. map f (take n (x ∷ xs))) one ∙ ap (λ ys. f x ∷ ys) (row_next f xs i d (omega (arith, h)) y e)
+
+module _ {X : Type 0} (P : X → Type 0) where
+  pub last_yes : (xs : List X) (x : X) (before : Option X) → IsLast P xs before → P x → IsLast P (xs ++ x ∷ []) (Some x)
+  last_yes xs x before is p = (xs, [], refl, p, tt)
+
+  pub last_no : (xs : List X) (x : X) (before : Option X) → IsLast P xs before → (P x → ⊥) → IsLast P (xs ++ x ∷ []) before
+  last_no xs x before is quiet = last_then P xs (x ∷ []) before None is (quiet, tt)
+
+  pub last_has : (xs : List X) (x : X) → IsLast P xs (Some x) → Has xs x
+  last_has xs x is = subst (λ ys. Has ys x) (sym is.2) (middle is.0)
+    where
+      middle : (before : List X) → Has (before ++ x ∷ is.1) x
+      middle [] = inl refl
+      middle (y ∷ before) = inr (middle before)

@@ -51,8 +51,16 @@ each_back said tag.Setenv = said_back said tag.Setenv ∙ simp or_none
 tags_back : (tags : Tags) → tags ≡ tags_of (listed_tags (said_by tags))
 tags_back tags =
     let said = said_by tags in
-    rw (each_back said tag.Exec, each_back said tag.Follow, each_back said tag.Intercept, each_back said tag.LogInput,
-    each_back said tag.LogOutput, each_back said tag.Mail, each_back said tag.Passwd, each_back said tag.Setenv) refl
+    rw (
+      each_back said tag.Exec,
+      each_back said tag.Follow,
+      each_back said tag.Intercept,
+      each_back said tag.LogInput,
+      each_back said tag.LogOutput,
+      each_back said tag.Mail,
+      each_back said tag.Passwd,
+      each_back said tag.Setenv,
+    ) refl
 
 pairs_same : (f g : Tag → Option Bool) → ((t : Tag) → f t ≡ g t) → (names : List Tag) → pairs f names ≡ pairs g names
 pairs_same f g same [] = refl

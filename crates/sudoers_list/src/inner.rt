@@ -23,7 +23,9 @@ use sudoers_line::{Items, Kind};
 use sudoers_match::join_words;
 use sudoers_rows::{Atom, Member, MemberRow, Rows, Tables};
 use sudoers_tree::Policy;
-use sudoers_verdict::{Commands, Decision, Verdicts, flat_then_no_cycle, flattened_is_flat, one_flat};
+use sudoers_verdict::{
+    Commands, Decision, Verdicts, flat_then_no_cycle, flattened_is_flat, one_flat,
+};
 
 /// A member of an alias.
 #[derive(Clone, Copy)]
@@ -92,8 +94,9 @@ fn find_last<'a>(
     let mut last = None;
     let tables = members.tables;
     for row in members.rows {
+        let member = tables.member(row);
         if speaks(verdicts, numbers, tables, row, command)? {
-            last = Some(tables.member(row));
+            last = Some(member);
         }
     }
     Ok(last)

@@ -10,6 +10,8 @@ mod reason;
 mod rule;
 mod spot;
 
-pub use laws::{answer_has_rule, deciding_rule_is_listed, one_listing, one_reason, places_have_groups};
+pub use laws::{
+    answer_has_rule, deciding_rule_is_listed, one_listing, one_reason, places_have_groups,
+};
 pub use listing::list;
 pub use reason::explain;

@@ -41,12 +41,7 @@ fn no_rule(alloc: Global) -> Result<Vec<u8>, AllocError>
 }
 
 /// Appends the place that stands before a message: the file, the physical line and the column.
-fn append_place(
-    alloc: Global,
-    out: &mut Vec<u8>,
-    file: &[u8],
-    spot: Spot,
-) -> Result<(), AllocError>
+fn append_place(alloc: Global, out: &mut Vec<u8>, file: &[u8], spot: Spot) -> Result<(), AllocError>
     ensures { OnOk result (out.new.items ≡ out.old.items ++ placed file.now spot) }
 {
     out.extend_from_slice(file)?;
