@@ -4,6 +4,7 @@ use Rattle.sudoers_tree.specs.declared.fault.ReadFault.{ReadFault}
 use Rattle.sudoers_tree.specs.declared.fault.ReadFault.TheVariants as read
 use Rattle.sudoers_edit.specs.declared.fault.EditFault.{EditFault}
 use Rattle.sudoers_edit.specs.declared.fault.EditFault.TheVariants as edit
+use Rattle.sudoers_edit.specs.Memory.{TellsMemoryAlone}
 use Rattle.sudoers_script.specs.declared.script.ScriptFault.{ScriptFault}
 use Rattle.sudoers_script.specs.declared.script.ScriptFault.TheVariants as script
 use Rattle.sudoers_people.specs.declared.fault.PeopleFault.{PeopleFault}
@@ -25,7 +26,7 @@ DeviceOr P (tool.Layer fault) = P fault
 DeviceOr P tool.NoMark = ⊥
 DeviceOr P tool.InputTooLarge = ⊥
 
--- ---- Want of memory is the one fault `NoMemory`: no layer's fault is it.
+-- ---- Want of memory is the one fault `NoMemory`: no layer's fault is it, nor holds it.
 
 abbrev pub IsPolicyFault : ReadFault → Type 0
 IsPolicyFault read.NoMemory = ⊥
@@ -38,7 +39,7 @@ IsScriptFault fault = Unit {0}
 
 abbrev pub IsRefusal : EditFault → Type 0
 IsRefusal edit.NoMemory = ⊥
-IsRefusal fault = Unit {0}
+IsRefusal fault = TellsMemoryAlone fault
 
 abbrev pub IsPeopleFault : PeopleFault → Type 0
 IsPeopleFault people.NoMemory = ⊥
