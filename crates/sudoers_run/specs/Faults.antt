@@ -5,6 +5,8 @@ use Rattle.sudoers_tree.specs.declared.fault.ReadFault.TheVariants as read
 use Rattle.sudoers_edit.specs.declared.fault.EditFault.{EditFault}
 use Rattle.sudoers_edit.specs.declared.fault.EditFault.TheVariants as edit
 use Rattle.sudoers_edit.specs.Memory.{TellsMemoryAlone}
+use Rattle.sudoers_rewrite.specs.declared.filter_text.FilterFault.{FilterFault}
+use Rattle.sudoers_rewrite.specs.declared.filter_text.FilterFault.TheVariants as filter
 use Rattle.sudoers_script.specs.declared.script.ScriptFault.{ScriptFault}
 use Rattle.sudoers_script.specs.declared.script.ScriptFault.TheVariants as script
 use Rattle.sudoers_people.specs.declared.fault.PeopleFault.{PeopleFault}
@@ -40,6 +42,10 @@ IsScriptFault fault = Unit {0}
 abbrev pub IsRefusal : EditFault → Type 0
 IsRefusal edit.NoMemory = ⊥
 IsRefusal fault = TellsMemoryAlone fault
+
+abbrev pub IsPairFault : FilterFault → Type 0
+IsPairFault filter.NoMemory = ⊥
+IsPairFault fault = Unit {0}
 
 abbrev pub IsPeopleFault : PeopleFault → Type 0
 IsPeopleFault people.NoMemory = ⊥
