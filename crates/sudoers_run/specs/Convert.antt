@@ -21,7 +21,7 @@ use Rattle.sudoers_run.specs.declared.words.ConvertWords.{ConvertWords}
 use Rattle.sudoers_run.specs.declared.fault.LayerFault.{LayerFault}
 use Rattle.sudoers_run.specs.declared.fault.LayerFault.TheVariants as layer
 use Rattle.sudoers_run.specs.declared.fault.ToolFault.{ToolFault}
-use Rattle.sudoers_run.specs.Faults.{DeviceOr, IsPolicyFault}
+use Rattle.sudoers_run.specs.Faults.{DeviceOr, IsPairFault, IsPolicyFault}
 use Rattle.sudoers_run.specs.Program.{TellsLayer}
 
 -- rules as the text of a policy, if it is within the limits; or as JSON, if all their texts are UTF-8
@@ -81,7 +81,7 @@ form_fault form.Json = NotUtf8
 
 -- the faults of a filter
 abbrev pub IsFilterFault : LayerFault → Type 0
-IsFilterFault (layer.Filter fault) = Unit {0}
+IsFilterFault (layer.Filter fault) = IsPairFault fault
 IsFilterFault (layer.Policy fault) = ⊥
 IsFilterFault (layer.Convert fault) = ⊥
 IsFilterFault (layer.Script fault) = ⊥
@@ -108,7 +108,7 @@ abbrev pub IsRulesFault : ConvertWords → LayerFault → Type 0
 IsRulesFault words (layer.Policy fault) = IsPolicyFault fault
 IsRulesFault words layer.NoMemory = Unit {0}
 IsRulesFault words (layer.Convert fault) = IsConversionFault words fault
-IsRulesFault words (layer.Filter fault) = filter_in (filter_text words) ≡ Err (layer.Filter fault)
+IsRulesFault words (layer.Filter fault) = IsPairFault fault × (filter_in (filter_text words) ≡ Err (layer.Filter fault))
 IsRulesFault words (layer.Script fault) = ⊥
 IsRulesFault words (layer.Edit place fault) = ⊥
 IsRulesFault words (layer.People fault) = ⊥

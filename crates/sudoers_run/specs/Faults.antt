@@ -4,6 +4,9 @@ use Rattle.sudoers_tree.specs.declared.fault.ReadFault.{ReadFault}
 use Rattle.sudoers_tree.specs.declared.fault.ReadFault.TheVariants as read
 use Rattle.sudoers_edit.specs.declared.fault.EditFault.{EditFault}
 use Rattle.sudoers_edit.specs.declared.fault.EditFault.TheVariants as edit
+use Rattle.sudoers_edit.specs.Memory.{TellsMemoryAlone}
+use Rattle.sudoers_rewrite.specs.declared.filter_text.FilterFault.{FilterFault}
+use Rattle.sudoers_rewrite.specs.declared.filter_text.FilterFault.TheVariants as filter
 use Rattle.sudoers_script.specs.declared.script.ScriptFault.{ScriptFault}
 use Rattle.sudoers_script.specs.declared.script.ScriptFault.TheVariants as script
 use Rattle.sudoers_people.specs.declared.fault.PeopleFault.{PeopleFault}
@@ -25,7 +28,7 @@ DeviceOr P (tool.Layer fault) = P fault
 DeviceOr P tool.NoMark = ⊥
 DeviceOr P tool.InputTooLarge = ⊥
 
--- ---- Want of memory is the one fault `NoMemory`: no layer's fault is it.
+-- ---- Want of memory is the one fault `NoMemory`: no layer's fault is it, nor holds it.
 
 abbrev pub IsPolicyFault : ReadFault → Type 0
 IsPolicyFault read.NoMemory = ⊥
@@ -38,7 +41,11 @@ IsScriptFault fault = Unit {0}
 
 abbrev pub IsRefusal : EditFault → Type 0
 IsRefusal edit.NoMemory = ⊥
-IsRefusal fault = Unit {0}
+IsRefusal fault = TellsMemoryAlone fault
+
+abbrev pub IsPairFault : FilterFault → Type 0
+IsPairFault filter.NoMemory = ⊥
+IsPairFault fault = Unit {0}
 
 abbrev pub IsPeopleFault : PeopleFault → Type 0
 IsPeopleFault people.NoMemory = ⊥
