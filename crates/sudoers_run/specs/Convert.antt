@@ -21,7 +21,8 @@ use Rattle.sudoers_run.specs.declared.words.ConvertWords.{ConvertWords}
 use Rattle.sudoers_run.specs.declared.fault.LayerFault.{LayerFault}
 use Rattle.sudoers_run.specs.declared.fault.LayerFault.TheVariants as layer
 use Rattle.sudoers_run.specs.declared.fault.ToolFault.{ToolFault}
-use Rattle.sudoers_run.specs.Faults.{DeviceOr, IsPairFault, IsPolicyFault}
+use Rattle.sudoers_edit.specs.Memory.{IsOfText}
+use Rattle.sudoers_run.specs.Faults.{DeviceOr, IsPairFault}
 use Rattle.sudoers_run.specs.Program.{TellsLayer}
 
 -- rules as the text of a policy, if it is within the limits; or as JSON, if all their texts are UTF-8
@@ -105,7 +106,7 @@ IsConversionFault words fault =
 
 -- The faults of converting a file. A fault of a filter is that of the words.
 abbrev pub IsRulesFault : ConvertWords → LayerFault → Type 0
-IsRulesFault words (layer.Policy fault) = IsPolicyFault fault
+IsRulesFault words (layer.Policy fault) = IsOfText fault
 IsRulesFault words layer.NoMemory = Unit {0}
 IsRulesFault words (layer.Convert fault) = IsConversionFault words fault
 IsRulesFault words (layer.Filter fault) = IsPairFault fault × (filter_in (filter_text words) ≡ Err (layer.Filter fault))

@@ -1,7 +1,4 @@
 -- What is said of the faults of a command.
-use Rattle.sudoers_text.specs.declared.fault.TextFault.TheVariants as text
-use Rattle.sudoers_tree.specs.declared.fault.ReadFault.{ReadFault}
-use Rattle.sudoers_tree.specs.declared.fault.ReadFault.TheVariants as read
 use Rattle.sudoers_edit.specs.declared.fault.EditFault.{EditFault}
 use Rattle.sudoers_edit.specs.declared.fault.EditFault.TheVariants as edit
 use Rattle.sudoers_edit.specs.Memory.{TellsMemoryAlone}
@@ -28,12 +25,7 @@ DeviceOr P (tool.Layer fault) = P fault
 DeviceOr P tool.NoMark = ⊥
 DeviceOr P tool.InputTooLarge = ⊥
 
--- ---- Want of memory is the one fault `NoMemory`: no layer's fault is it, nor holds it.
-
-abbrev pub IsPolicyFault : ReadFault → Type 0
-IsPolicyFault read.NoMemory = ⊥
-IsPolicyFault (read.Text text.NoMemory) = ⊥
-IsPolicyFault fault = Unit {0}
+-- ---- Want of memory is the one fault `NoMemory`. No fault of a layer is it or holds it. For a policy `IsOfText` says so.
 
 abbrev pub IsScriptFault : ScriptFault → Type 0
 IsScriptFault script.NoMemory = ⊥

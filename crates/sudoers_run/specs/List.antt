@@ -25,7 +25,8 @@ use Rattle.sudoers_list.specs.Listing.{IsListing}
 use Rattle.sudoers_list.specs.Reason.{IsReason}
 use Rattle.sudoers_run.specs.Device.{Rose, TakesAtMost, counted_by}
 use Rattle.sudoers_run.specs.Program.{pull_limit}
-use Rattle.sudoers_run.specs.Faults.{DeviceOr, IsPeopleFault, IsPolicyFault, IsQuestionFault, IsWhoFault}
+use Rattle.sudoers_edit.specs.Memory.{IsOfText}
+use Rattle.sudoers_run.specs.Faults.{DeviceOr, IsPeopleFault, IsQuestionFault, IsWhoFault}
 use Rattle.sudoers_run.specs.declared.words.ListWords.{ListWords}
 use Rattle.sudoers_run.specs.declared.fault.LayerFault.{LayerFault}
 use Rattle.sudoers_run.specs.declared.fault.LayerFault.TheVariants as layer
@@ -161,7 +162,7 @@ TellsList w fault policy passwd group =
 
 -- the faults of files and words
 abbrev pub IsAskFault : LayerFault → Type 0
-IsAskFault (layer.Policy fault) = IsPolicyFault fault
+IsAskFault (layer.Policy fault) = IsOfText fault
 IsAskFault (layer.People fault) = IsPeopleFault fault
 IsAskFault (layer.Who fault) = IsWhoFault fault
 IsAskFault (layer.Ask fault) = IsQuestionFault fault

@@ -15,7 +15,8 @@ use Rattle.sudoers_run.specs.declared.fault.LayerFault.TheVariants as layer
 use Rattle.sudoers_run.specs.declared.fault.ToolFault.{ToolFault}
 use Rattle.sudoers_run.specs.declared.fault.ToolFault.TheVariants as tool
 use Rattle.sudoers_run.specs.Device.{TakesAtMost, TakesExactly}
-use Rattle.sudoers_run.specs.Faults.{IsPolicyFault, IsScriptFault, IsRefusal}
+use Rattle.sudoers_edit.specs.Memory.{IsOfText}
+use Rattle.sudoers_run.specs.Faults.{IsScriptFault, IsRefusal}
 use Rattle.sudoers_script.specs.Physical.{physical_lines}
 use Rattle.sudoers_edit.specs.Editing.{run_all, inv_run}
 use Rattle.sudoers_script.specs.Script.{edit_limit, spelling}
@@ -157,7 +158,7 @@ IsReadFault tool.NoMark = ⊥
 -- the faults of the input of `edit`: of its script, of its policy, or of an edit
 abbrev pub IsInputFault : LayerFault → Type 0
 IsInputFault (layer.Script fault) = IsScriptFault fault
-IsInputFault (layer.Policy fault) = IsPolicyFault fault
+IsInputFault (layer.Policy fault) = IsOfText fault
 IsInputFault (layer.Edit place fault) = IsRefusal fault
 IsInputFault layer.NoMemory = Unit {0}
 IsInputFault (layer.Convert fault) = ⊥

@@ -11,7 +11,8 @@ use Rattle.sudoers_run.specs.declared.fault.LayerFault.TheVariants as layer
 use Rattle.sudoers_run.specs.declared.fault.ToolFault.{ToolFault}
 use Rattle.sudoers_run.specs.declared.fault.ToolFault.TheVariants as tool
 use Rattle.sudoers_run.specs.Device.{TakesAtMost, TakesExactly}
-use Rattle.sudoers_run.specs.Faults.{DeviceOr, IsPolicyFault}
+use Rattle.sudoers_edit.specs.Memory.{IsOfText}
+use Rattle.sudoers_run.specs.Faults.{DeviceOr}
 use Rattle.sudoers_run.specs.Program.{TellsLayer}
 use Rattle.sudoers_run.specs.Shown.{shown}
 
@@ -29,7 +30,7 @@ TellsShow fault input = DeviceOr (λ (said : LayerFault). TellsLayer said (show_
 
 -- the faults of a file
 abbrev pub IsFileFault : LayerFault → Type 0
-IsFileFault (layer.Policy fault) = IsPolicyFault fault
+IsFileFault (layer.Policy fault) = IsOfText fault
 IsFileFault layer.NoMemory = Unit {0}
 IsFileFault (layer.Script fault) = ⊥
 IsFileFault (layer.Edit place fault) = ⊥
