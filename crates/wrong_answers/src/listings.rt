@@ -5,12 +5,12 @@ ghost use Rattle.std.specs.Option.{option_map};
 ghost use Rattle.sudoers_check.specs.Chains.{HasReachableCycle};
 ghost use Rattle.sudoers_list.specs.Listing.{IsListing};
 ghost use Rattle.sudoers_list.specs.Reason.{IsReason};
-ghost use Rattle.sudoers_match.specs.Answer.{answer_shown};
+ghost use Rattle.sudoers_match.specs.Answer.{IsAnswer, answer_shown};
 ghost use Rattle.sudoers_verdict.specs.declared.verdict.AskFault.TheVariants.{Cycle, NoMemory};
 
 use std::alloc::Global;
 use sudoers_list::{explain, list};
-use sudoers_match::{Answer, AskFault, Who};
+use sudoers_match::{Answer, AskFault, Request, Who};
 use sudoers_tree::Policy;
 
 /// Returns what `who` may run on his host, as a text.
@@ -34,13 +34,14 @@ pub fn list_rules(alloc: Global, policy: &Policy, who: &Who) -> Result<Vec<u8>, 
 pub fn explain_answer(
     alloc: Global,
     policy: &Policy,
-    who: &Who,
+    request: &Request,
     answer: Option<Answer<'_>>,
     file: &[u8],
 ) -> Result<Vec<u8>, AskFault>
-    ensures text { IfOk result (λ text. IsReason policy.now who.now file.now (option_map answer_shown answer.entry) text.items) }
+    requires { IsAnswer policy.now request.now (option_map answer_shown answer) }
+    ensures text { IfOk result (λ text. IsReason policy.now request.now file.now (option_map answer_shown answer.entry) text.items) }
     ensures straight { IfOk result (λ _. HasReachableCycle policy.now → ⊥) }
     ensures fault { IfErr result (λ fault. (fault ≡ NoMemory) ⊎ ((fault ≡ Cycle) × HasReachableCycle policy.now)) }
 {
-    explain(alloc, policy, who, answer, file)
+    explain(alloc, policy, request, answer, file)
 }

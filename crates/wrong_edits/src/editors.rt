@@ -1,11 +1,24 @@
-//! Several edits, and undoing one.
+//! Edits applied and undone.
 
-ghost use Rattle.std.specs.Prelude.{◌≡◌, ◌<◌, [], length, take, Some, Ok, IfErr, OnOk, OnErr, MatchResult, true, false};
+ghost use Rattle.std.specs.Prelude.{◌≡◌, ◌<◌, [], length, take, Some, Ok, IfOk, IfErr, OnOk, OnErr, MatchResult, true, false};
 ghost use Rattle.sudoers_edit.specs.declared.fault.EditFault.TheVariants as EditFault;
-ghost use Rattle.sudoers_edit.specs.Editing.{run, run_all, StopsAt};
+ghost use Rattle.sudoers_edit.specs.Editing.{first_of, run, run_all, step, Refuses, StopsAt};
 ghost use Rattle.sudoers_edit.specs.Undoing.{TakesLast};
 
-use sudoers_edit::{Edit, EditFault, Editor};
+use std::alloc::AllocError;
+use sudoers_edit::{Edit, EditFault, Editor, Edits};
+
+/// Applies `edit`.
+///
+/// # Errors
+///
+/// The first cause for which the edit is refused, or memory ran out.
+pub fn apply_edit(editor: &mut Editor, edit: &Edit) -> Result<(), EditFault>
+    ensures step { OnOk result (step edit.now editor.old.lines ≡ Ok editor.new.lines) }
+    ensures refused { IfErr result (λ fault. Refuses fault (step edit.now editor.old.lines)) }
+{
+    editor.apply(edit)
+}
 
 /// Applies `edits` in their order.
 ///
@@ -20,6 +33,17 @@ pub fn apply_edits(editor: &mut Editor, edits: &[Edit]) -> Result<(), (usize, Ed
     ensures place { IfErr result (λ refused. refused.0 < length edits.now) }
 {
     editor.apply_all(edits)
+}
+
+/// Returns the edits that undo all accepted ones.
+///
+/// # Errors
+///
+/// Memory ran out.
+pub fn edits_back(editor: &Editor) -> Result<Edits, AllocError>
+    ensures restores { IfOk result (λ edits. run edits editor.now.lines ≡ Some (first_of editor.now)) }
+{
+    editor.inverse()
 }
 
 /// Undoes the last edit. Returns `false` if there is none.

@@ -4,5 +4,5 @@
 mod editors;
 mod scripts;
 
-pub use editors::{apply_edits, undo_edit};
+pub use editors::{apply_edit, apply_edits, edits_back, undo_edit};
 pub use scripts::{edits_of_script, script_of_edits};
