@@ -10,3 +10,4 @@ pub mod Left
 pub mod Plain
 pub mod Stamps
 pub mod Open
+pub mod Ends
