@@ -11,3 +11,4 @@ pub mod Plain
 pub mod Stamps
 pub mod Open
 pub mod Ends
+pub mod Unclosed

@@ -137,7 +137,7 @@ fn matches_at_end(
     )
 }
 
-/// Matches a `*` and the items of `pattern` up to its next `*`. The first `*` takes as few bytes as it can.
+/// Matches a `*` and the items of `pattern` up to its next `*`. Of all runs that the first `*` may take, it takes the shortest.
 fn find_star<'a>(
     pattern: &'a [u8],
     text: &'a [u8],
