@@ -1,8 +1,12 @@
 -- What is left to match behind the last `*`.
-use Rattle.std.proofs.Common.{◌≡◌, ℕ, true, List, [], ◌∷◌, ◌++◌, refl, sym, subst}
+use Rattle.std.proofs.Common.{◌≡◌, ℕ, Bool, true, List, [], ◌∷◌, ◌++◌, ◌≤◌, length, arith, refl, sym, subst}
 use Rattle.sudoers_hits.specs.declared.wildcards.GlobMode.{GlobMode}
+use Rattle.sudoers_hits.specs.declared.wildcards.Run.{Run}
+use Rattle.sudoers_hits.specs.declared.wildcards.Run.TheVariants as run
+use Rattle.sudoers_hits.specs.Folded.{read}
 use Rattle.sudoers_hits.specs.Wildcard.{Star, may_take, items_of}
-use Rattle.sudoers_hits.specs.Run.{ToStar, IsLeft, ItemsMatch, Matches}
+use Rattle.sudoers_hits.specs.Run.{ToStar, IsLeft, ItemsMatch, Matches, Outcome, SoFar, to_go}
+use Rattle.sudoers_hits.proofs.AsRead.{read_length}
 use Rattle.sudoers_hits.proofs.Items.{take_then, behind_take}
 use Rattle.sudoers_hits.proofs.Stars.{last_star, star_before, byte_more, byte_before}
 
@@ -47,3 +51,29 @@ no_match mode pattern text behind rest l n h m =
 
 pub match_here : (mode : GlobMode) (pattern text behind rest : List ℕ) → IsLeft mode pattern text behind rest → Matches mode behind rest → Matches mode pattern text
 match_here mode pattern text behind rest l m = l.from ([], rest, refl, tt, m)
+
+-- ---- outcomes, as they follow one another
+
+pub first_run : (mode : GlobMode) (lower : Bool) (pattern text : List ℕ) (r : Run) → Outcome mode lower pattern text r → SoFar mode lower (read lower pattern) (read lower text) r
+first_run mode lower pattern text run.Matched o = o
+first_run mode lower pattern text run.Failed o = o
+first_run mode lower pattern text (run.Star behind rest) o = first_star mode (read lower pattern) (read lower text) (read lower behind.now) (read lower rest.now) o
+
+pub next_run : (mode : GlobMode) (lower : Bool) (pattern text behind rest : List ℕ) (r : Run) → IsLeft mode pattern text behind rest → SoFar mode lower (42 ∷ behind) rest r
+    → SoFar mode lower pattern text r
+next_run mode lower pattern text behind rest run.Matched l s = l.from s
+next_run mode lower pattern text behind rest run.Failed l s = λ m. s (l.to m)
+next_run mode lower pattern text behind rest (run.Star after last) l s = record { to = λ m. s.to (l.to m); from = λ m. l.from (s.from m) }
+
+-- behind a `*`
+pub found_run : (mode : GlobMode) (lower : Bool) (pattern text ys : List ℕ) (r : Run) → IsLeft mode (42 ∷ read lower pattern) ys (read lower pattern) (read lower text)
+    → (r ≡ run.Failed → ⊥) → Outcome mode lower pattern text r → SoFar mode lower (42 ∷ read lower pattern) ys r
+found_run mode lower pattern text ys run.Matched l n o = match_here mode (42 ∷ read lower pattern) ys (read lower pattern) (read lower text) l o
+found_run mode lower pattern text ys run.Failed l n o = absurd (n refl)
+found_run mode lower pattern text ys (run.Star behind rest) l n o =
+    next_star mode (42 ∷ read lower pattern) ys (read lower pattern) (read lower text) (read lower behind.now) (read lower rest.now) l o
+
+pub run_shorter : (mode : GlobMode) (lower : Bool) (pattern text : List ℕ) (r : Run) → Outcome mode lower pattern text r → to_go r ≤ length pattern
+run_shorter mode lower pattern text run.Matched o = omega arith
+run_shorter mode lower pattern text run.Failed o = omega arith
+run_shorter mode lower pattern text (run.Star behind rest) o = omega (arith, o.shorter, read_length lower behind.now, read_length lower pattern)

@@ -10,3 +10,5 @@ pub mod Left
 pub mod Plain
 pub mod Stamps
 pub mod Open
+pub mod Ends
+pub mod Unclosed

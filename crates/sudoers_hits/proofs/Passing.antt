@@ -1,10 +1,17 @@
 -- How far items that take one byte each go.
-use Rattle.std.proofs.Common.{◌≡◌, ◌≢◌, ℕ, ◌<◌, true, false, List, [], ◌∷◌, ◌++◌, drop, refl, sym, ap, subst, ◌∙◌, append_assoc}
+use Rattle.std.proofs.Common.{◌≡◌, ◌≢◌, ℕ, ◌+◌, ◌≤◌, ◌<◌, true, false, List, [], ◌∷◌, ◌++◌, length, drop, arith, refl, sym, ap, subst, ◌∙◌, append_assoc}
 use Rattle.std.proofs.lemmas.Bool.{false≢true}
+use Rattle.std.proofs.lemmas.List.{length-drop}
 use Rattle.sudoers_hits.specs.declared.wildcards.GlobMode.{GlobMode}
 use Rattle.sudoers_hits.specs.Wildcard.{Star, takes, item_at, items_of}
 use Rattle.sudoers_hits.specs.Run.{Passed, ItemsMatch, Matches}
 use Rattle.sudoers_hits.proofs.Items.{items_front, one_byte, take_then, take_one, behind_take}
+
+pub some_left : (xs : List ℕ) (i : ℕ) → i < length xs → drop i xs ≢ []
+some_left xs i h e = omega (arith, length-drop i xs, ap length e)
+
+pub within_more : (pattern : List ℕ) (at len : ℕ) → at < length pattern → len ≤ length (drop at pattern) → at + len ≤ length pattern
+within_more pattern at len h k = omega (arith, k, length-drop at pattern)
 
 pub none_passed : (mode : GlobMode) (pattern text : List ℕ) → Passed mode pattern text pattern text
 none_passed mode pattern text = record { items = []; bytes = []; pattern_is = refl; text_is = refl; take = refl }

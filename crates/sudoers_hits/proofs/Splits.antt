@@ -8,15 +8,15 @@ use Rattle.sudoers_hits.specs.declared.wildcards.GlobMode.{GlobMode}
 use Rattle.sudoers_hits.specs.Wildcard.{Item, Star, Byte, Any, Set, may_take, takes, splits, is_empty, items_of, items_match, matches}
 use Rattle.sudoers_hits.specs.Run.{MayStand, ItemsMatch, Matches}
 
-left_of : (p q : Bool) → (p && q) ≡ true → p ≡ true
+pub left_of : (p q : Bool) → (p && q) ≡ true → p ≡ true
 left_of true q e = refl
 left_of false q e = e
 
-right_of : (p q : Bool) → (p && q) ≡ true → q ≡ true
+pub right_of : (p q : Bool) → (p && q) ≡ true → q ≡ true
 right_of true q e = e
 right_of false q e = absurd (false≢true e)
 
-both : (p q : Bool) → p ≡ true → q ≡ true → (p && q) ≡ true
+pub both : (p q : Bool) → p ≡ true → q ≡ true → (p && q) ≡ true
 both true q e f = f
 both false q e f = absurd (false≢true e)
 

@@ -1,5 +1,5 @@
 -- A device of the proof, which no public contract cites: what is known of the sets of a pattern.
-use Rattle.std.specs.Prelude.{◌≡◌, ◌≢◌, ◌<◌, ◌≤◌, ◌+◌, ℕ, Bool, List, length, drop, get_or, Some, None}
+use Rattle.std.specs.Prelude.{◌≡◌, ◌≢◌, ◌<◌, ◌≤◌, ◌+◌, ℕ, Bool, List, length, drop, get_or, Some, None, IfSome}
 use Rattle.sudoers_hits.specs.declared.wildcards.GlobMode.{GlobMode}
 use Rattle.sudoers_hits.specs.declared.wildcards.Run.{Run}
 use Rattle.sudoers_hits.specs.declared.wildcards.Run.TheVariants as run
@@ -7,6 +7,7 @@ use Rattle.sudoers_hits.specs.declared.front.Front.{Front}
 use Rattle.sudoers_hits.specs.declared.known.KnownSets.{KnownSets}
 use Rattle.sudoers_hits.specs.Folded.{read}
 use Rattle.sudoers_hits.specs.Wildcard.{takes, item_at}
+use Rattle.sudoers_hits.specs.Sets.{set_at}
 
 -- What begins a pattern: how long it is, and whether it takes this byte.
 pub record IsFront (mode : GlobMode) (lower : Bool) (pattern : List ℕ) (b : ℕ) (front : Front) : Type 0 where
@@ -30,3 +31,4 @@ pub record AreKnown (mode : GlobMode) (lower : Bool) (pattern : List ℕ) (known
   pub tail : IsTail known.tail pattern
   pub front : (b : ℕ) (t : Bool) → b < 256 → get_or known.takes b None ≡ Some t
       → IsFront mode lower (drop known.at pattern) b (record { len = known.len; takes = t })
+  pub unclosed : IfSome known.unclosed (λ place. set_at (read lower (drop place pattern)) ≡ None)

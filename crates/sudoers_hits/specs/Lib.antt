@@ -4,6 +4,7 @@ pub mod Sets
 pub mod Seen
 pub mod Wildcard
 pub mod Run
+pub mod Count
 pub mod Known
 pub mod Network
 pub mod Hits

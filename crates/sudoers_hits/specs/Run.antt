@@ -1,5 +1,5 @@
 -- A device of the proof, which no public contract cites: matching as a relation, and how far a pattern goes up to its next `*`.
-use Rattle.std.specs.Prelude.{◌≡◌, ◌≤◌, ◌<◌, ℕ, true, Bool, List, [], ◌∷◌, ◌++◌, length}
+use Rattle.std.specs.Prelude.{◌≡◌, ◌≤◌, ◌<◌, ℕ, suc, true, Bool, List, [], ◌∷◌, ◌++◌, length}
 use Rattle.sudoers_hits.specs.declared.wildcards.GlobMode.{GlobMode}
 use Rattle.sudoers_hits.specs.declared.wildcards.Run.{Run}
 use Rattle.sudoers_hits.specs.declared.wildcards.Run.TheVariants as run
@@ -56,3 +56,15 @@ pub record Passed (mode : GlobMode) (pattern text left rest : List ℕ) : Type 0
 pub record IsLeft (mode : GlobMode) (pattern text behind rest : List ℕ) : Type 0 where
   pub to : Matches mode pattern text → ItemsMatch mode (Star ∷ items_of behind) rest
   pub from : ItemsMatch mode (Star ∷ items_of behind) rest → Matches mode pattern text
+
+-- what an outcome says of the whole: of a text that goes up to a `*`, what is left
+abbrev pub SoFar : GlobMode → Bool → List ℕ → List ℕ → Run → Type 0
+SoFar mode lower pattern text run.Matched = Matches mode pattern text
+SoFar mode lower pattern text run.Failed = Matches mode pattern text → ⊥
+SoFar mode lower pattern text (run.Star behind rest) = IsLeft mode pattern text (read lower behind.now) (read lower rest.now)
+
+-- how much is left of the pattern, and one more where it goes on
+abbrev pub to_go : Run → ℕ
+to_go run.Matched = 0
+to_go run.Failed = 0
+to_go (run.Star behind rest) = suc (length behind.now)

@@ -1,13 +1,15 @@
 //! What is known of the sets of a pattern, so that none is read again for each byte of a text.
 
-ghost use Rattle.std.specs.Prelude.{◌≡◌, ◌≢◌, ◌<◌, ◌≤◌, ◌+◌, ◌-◌, Bool, List, ℕ, length, drop, get_or, None, IfSome};
+ghost use Rattle.std.specs.Prelude.{◌≡◌, ◌≢◌, ◌<◌, ◌≤◌, ◌+◌, ◌-◌, Bool, List, ℕ, length, drop, get_or, None, IfSome, IsTrue};
 ghost use Rattle.sudoers_hits.specs.declared.wildcards.GlobMode.{GlobMode as GlobModeOf};
-ghost use Rattle.sudoers_hits.specs.Wildcard.{takes, item_at, Star};
+ghost use Rattle.sudoers_hits.specs.Wildcard.{takes, bracket, item_at as item_of, Star, Byte};
+ghost use Rattle.sudoers_hits.specs.Sets.{set_at};
 ghost use Rattle.sudoers_hits.specs.Folded.{read};
 ghost use Rattle.sudoers_hits.specs.Known.{AreKnown, IsFront, IsTail};
 
 use crate::class::fold;
 use crate::front::{Front, front_at};
+use crate::set::item_at;
 use crate::wildcards::GlobMode;
 
 /// What is known of the sets of a pattern.
@@ -21,6 +23,8 @@ pub struct KnownSets {
     len: usize,
     /// Which bytes it takes, as far as that was asked.
     takes: [Option<bool>; 256],
+    /// Where an item begins of a set that nothing closes, if one is known.
+    unclosed: Option<usize>,
 }
 
 impl KnownSets {
@@ -33,19 +37,21 @@ impl KnownSets {
             at: 0,
             len: 0,
             takes: unknown(),
+            unclosed: None,
         }
     }
 
-    /// Forgets the one set. What is left is right of each pattern with such last bytes.
+    /// Forgets the sets. What is left is right of each pattern with such last bytes.
     pub fn forget(&mut self)
         ensures known { (mode : GlobModeOf) (lower : Bool) (pattern : List ℕ) → IsTail self.old.tail pattern → AreKnown mode lower pattern self.new }
         ensures tail { self.new.tail ≡ self.old.tail }
     {
         self.takes = unknown();
+        self.unclosed = None;
     }
 
     /// Returns what begins at `at`, as `front_at` does. A set is read once for each byte that it is asked of, and none is read where no
-    /// `]` follows.
+    /// `]` follows, or where it is known that none closes it.
     pub fn front(
         &mut self,
         pattern: &[u8],
@@ -55,7 +61,7 @@ impl KnownSets {
         lower: bool,
     ) -> Front
         requires within { at < length pattern.now }
-        requires no_star { (item_at (read lower (drop at pattern.now))).0 ≢ Star }
+        requires no_star { (item_of (read lower (drop at pattern.now))).0 ≢ Star }
         requires known { AreKnown mode lower pattern.now self.old }
         ensures front { IsFront mode lower (drop at pattern.now) byte result }
         ensures known { AreKnown mode lower pattern.now self.new }
@@ -71,9 +77,32 @@ impl KnownSets {
         if let Some(front) = self.find(at, byte) {
             return front;
         }
+        let first = first_item(pattern, at, lower);
+        if self.is_unclosed(pattern, first, mode, lower) {
+            return Front::one(byte == b'[');
+        }
         let front = front_at(rest, byte, mode, lower);
         self.keep(at, byte, front);
+        if front.len == 1 {
+            self.unclosed = Some(first);
+        }
         front
+    }
+
+    /// Returns whether it is known that nothing closes a set whose first item begins at `first`.
+    fn is_unclosed(&mut self, pattern: &[u8], first: usize, mode: GlobMode, lower: bool) -> bool
+        requires within { first ≤ length pattern.now }
+        requires known { AreKnown mode lower pattern.now self.old }
+        ensures unclosed { IsTrue result → set_at (read lower (drop first pattern.now)) ≡ None }
+        ensures known { AreKnown mode lower pattern.now self.new }
+        ensures tail { self.new.tail ≡ self.old.tail }
+    {
+        let Some(place) = self.unclosed else {
+            return false;
+        };
+        let place = pass_items(pattern, place, first, lower);
+        self.unclosed = Some(place);
+        place == first
     }
 
     /// Returns the set that begins at `at`, if it is known whether it takes `byte`.
@@ -108,6 +137,34 @@ impl KnownSets {
         self.len = front.len;
         self.takes[byte as usize] = Some(front.takes);
     }
+}
+
+/// Returns where the first item of a set begins whose `[` stands at `at`.
+fn first_item(pattern: &[u8], at: usize, lower: bool) -> usize
+    requires { at < length pattern.now }
+    ensures within { result ≤ length pattern.now }
+    ensures unclosed { set_at (read lower (drop result pattern.now)) ≡ None → bracket (read lower (drop (at + 1) pattern.now)) ≡ (Byte 91, 1) }
+    ensures closed { (bracket (read lower (drop (at + 1) pattern.now))).1 ≡ 1 → set_at (read lower (drop result pattern.now)) ≡ None }
+{
+    if at + 1 < pattern.len() && fold(lower, pattern[at + 1]) == b'!' {
+        at + 2
+    } else {
+        at + 1
+    }
+}
+
+/// Returns where an item of a set begins that nothing closes, at `first` or behind it. One of its items begins at `place`.
+fn pass_items(pattern: &[u8], place: usize, first: usize, lower: bool) -> usize
+    requires within { first ≤ length pattern.now }
+    requires unclosed { set_at (read lower (drop place pattern.now)) ≡ None }
+    ensures { set_at (read lower (drop result pattern.now)) ≡ None }
+{
+    let mut place = place;
+    while place < first {
+        let (_, len) = item_at(&pattern[place..], lower);
+        place += len;
+    }
+    place
 }
 
 /// Returns a table in which no byte is known.

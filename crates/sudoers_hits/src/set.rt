@@ -62,7 +62,7 @@ fn upper_bound(bytes: &[u8], lower: bool) -> Option<(u8, usize)>
 }
 
 /// Returns the item that begins `bytes`, and its length.
-fn item_at(bytes: &[u8], lower: bool) -> (SetItem, usize)
+pub fn item_at(bytes: &[u8], lower: bool) -> (SetItem, usize)
     requires { bytes.now ≢ [] }
     ensures item { result ≡ set_item (read lower bytes.now) }
     ensures some { 0 < result.1 }

@@ -1,10 +1,12 @@
 //! Patterns with wildcards.
 
-ghost use Rattle.std.specs.Prelude.{◌≡◌, ◌↔◌, IsTrue};
+ghost use Rattle.std.specs.Prelude.{◌≡◌, ◌↔◌, ◌≤◌, ◌∷◌, length, IsTrue, IfSome};
+ghost use Rattle.std.specs.List.{list_all};
 ghost use Rattle.sudoers_hits.specs.Wildcard.{may_take, matches};
 ghost use Rattle.sudoers_hits.specs.Known.{AreKnown, IsTailBehind};
-ghost use Rattle.sudoers_hits.specs.Folded.{read};
-ghost use Rattle.sudoers_hits.specs.Run.{Outcome, Matches};
+ghost use Rattle.sudoers_hits.specs.Folded.{folded, read};
+ghost use Rattle.sudoers_hits.specs.Run.{Outcome, SoFar, to_go, Matches};
+ghost use Rattle.sudoers_hits.specs.Count.{Count};
 
 use crate::class::fold;
 use crate::known::KnownSets;
@@ -27,6 +29,13 @@ impl GlobMode {
             GlobMode::Path => byte != b'/',
             GlobMode::Args => true,
         }
+    }
+
+    /// Returns whether wildcards may take all the bytes.
+    fn may_take_all(self, bytes: &[u8], lower: bool) -> bool
+        ensures { result ≡ list_all (λ b. may_take self (folded lower b)) bytes.now }
+    {
+        bytes.iter().all(|byte| self.may_take(fold(lower, *byte)))
     }
 }
 
@@ -77,33 +86,99 @@ fn up_to_star<'a>(
     }
 }
 
-/// Returns whether `text` matches `pattern`. Of several `*` the last alone is tried again, each time with a byte more.
+/// Returns how many items `pattern` has, if no `*` is among them. It counts no further than one more than `most`.
+fn count_items(
+    pattern: &[u8],
+    most: usize,
+    mode: GlobMode,
+    lower: bool,
+    known: &mut KnownSets,
+) -> Option<usize>
+    requires known { AreKnown mode lower pattern.now known.old }
+    ensures count { IfSome result (Count (read lower pattern.now) most) }
+    ensures known { AreKnown mode lower pattern.now known.new }
+{
+    let mut at = 0;
+    let mut count = 0;
+    while at < pattern.len() && count <= most {
+        if fold(lower, pattern[at]) == b'*' {
+            return None;
+        }
+        at += known.front(pattern, at, 0, mode, lower).len;
+        count += 1;
+    }
+    Some(count)
+}
+
+/// Returns whether `text` ends with bytes that match `pattern`, and a `*` may take those before them. `pattern` has `count` items, and
+/// no `*`: each takes one byte.
+fn matches_at_end(
+    pattern: &[u8],
+    text: &[u8],
+    count: usize,
+    mode: GlobMode,
+    lower: bool,
+    known: &mut KnownSets,
+) -> bool
+    requires known { AreKnown mode lower pattern.now known.old }
+    requires count { Count (read lower pattern.now) (length text.now) count }
+    ensures { IsTrue result ↔ Matches mode (42 ∷ read lower pattern.now) (read lower text.now) }
+{
+    if text.len() < count {
+        return false;
+    }
+    let place = text.len() - count;
+    if !mode.may_take_all(&text[..place], lower) {
+        return false;
+    }
+    matches!(
+        up_to_star(pattern, &text[place..], mode, lower, known),
+        Run::Matched
+    )
+}
+
+/// Matches a `*` and the items of `pattern` up to its next `*`. Of all runs that the first `*` may take, it takes the shortest.
+fn find_star<'a>(
+    pattern: &'a [u8],
+    text: &'a [u8],
+    mode: GlobMode,
+    lower: bool,
+    known: &mut KnownSets,
+) -> Run<'a>
+    requires known { AreKnown mode lower pattern.now known.old }
+    ensures outcome { SoFar mode lower (42 ∷ read lower pattern.now) (read lower text.now) result }
+    ensures shorter { to_go result ≤ length pattern.now }
+    ensures behind { IsTailBehind known.new.tail result }
+{
+    let mut text = text;
+    loop {
+        match up_to_star(pattern, text, mode, lower, known) {
+            Run::Failed => {
+                if text.is_empty() || !mode.may_take(fold(lower, text[0])) {
+                    return Run::Failed;
+                }
+                text = &text[1..];
+            }
+            run => return run,
+        }
+    }
+}
+
+/// Returns whether `text` matches `pattern`. Of several `*` the last alone is tried again, each time with a byte more. What is behind the
+/// last of all is tried at the end of the text alone.
 fn is_match(pattern: &[u8], text: &[u8], mode: GlobMode, lower: bool) -> bool
     ensures { IsTrue result ↔ Matches mode (read lower pattern.now) (read lower text.now) }
 {
     let mut known = KnownSets::of(pattern);
-    let (mut pattern, mut text) = match up_to_star(pattern, text, mode, lower, &mut known) {
-        Run::Matched => return true,
-        Run::Failed => return false,
-        Run::Star(pattern, text) => (pattern, text),
-    };
-    known.forget();
-    loop {
-        match up_to_star(pattern, text, mode, lower, &mut known) {
-            Run::Matched => return true,
-            Run::Star(behind, rest) => {
-                pattern = behind;
-                text = rest;
-                known.forget();
-            }
-            Run::Failed => {
-                if text.is_empty() || !mode.may_take(fold(lower, text[0])) {
-                    return false;
-                }
-                text = &text[1..];
-            }
+    let mut run = up_to_star(pattern, text, mode, lower, &mut known);
+    while let Run::Star(pattern, text) = run {
+        known.forget();
+        if let Some(count) = count_items(pattern, text.len(), mode, lower, &mut known) {
+            return matches_at_end(pattern, text, count, mode, lower, &mut known);
         }
+        run = find_star(pattern, text, mode, lower, &mut known);
     }
+    matches!(run, Run::Matched)
 }
 
 /// Returns whether `text` matches `pattern` (sudoers(5), Wildcards).

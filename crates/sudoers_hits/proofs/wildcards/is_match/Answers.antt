@@ -1,69 +1,19 @@
-use Rattle.std.proofs.Common.{◌≡◌, ℕ, ◌<◌, Bool, true, false, List, ◌∷◌, length, drop, get_or, sym, ap, subst, ◌∙◌, arith}
-use Rattle.std.proofs.lemmas.List.{drop_more}
-use Rattle.std.proofs.lemmas.Bool.Decides.{nat_tests}
-use Rattle.std.proofs.lemmas.Bool.{false≢true}
-use Rattle.sudoers_hits.specs.declared.wildcards.GlobMode.{GlobMode}
-use Rattle.sudoers_hits.specs.Folded.{folded, read}
-use Rattle.sudoers_hits.specs.Wildcard.{may_take}
-use Rattle.sudoers_hits.specs.Run.{IsLeft}
-use Rattle.sudoers_hits.proofs.AsRead.{read_length, read_rest, read_at}
-use Rattle.sudoers_hits.proofs.Left.{first_star, next_star, next_byte, no_match}
+use Rattle.std.proofs.Common.{subst}
+use Rattle.sudoers_hits.specs.Known.{IsTailBehind}
+use Rattle.sudoers_hits.proofs.Left.{first_run}
 use Rattle.sudoers_hits.proofs.wildcards.is_match.Goals as goal
-use Rattle.sudoers_hits.proofs.wildcards.is_match.Goals.{then-is_empty-via-then-is_empty, then-is_empty-via-else-is_empty+then-not-may_take}
 
-pub up_to_star-requires : goal.up_to_star-requires
-up_to_star-requires c = record { known = c.of-known.ensures c.args.mode c.args.lower }
+pub up_to_star-run-requires : goal.up_to_star-run-requires
+up_to_star-run-requires c = record { known = c.of-known.ensures c.args.mode c.args.lower }
 
-pub loop-behind-init : goal.loop-behind-init
-loop-behind-init c =
-    let lower = c.args.lower in
-    record {
-      left = first_star c.args.mode (read lower c.args.pattern.now) (read lower c.args.text.now) (read lower c.in-Star.pattern.now) (read lower c.in-Star.text.now) c.in-Star.ensures.outcome;
-      known = c.forget.ensures.known c.args.mode lower c.in-Star.pattern.now c.in-Star.ensures.behind;
-    }
+pub loop-run-init : goal.loop-run-init
+loop-run-init c = record {
+  so_far = first_run c.args.mode c.args.lower c.args.pattern.now c.args.text.now c.up_to_star-run.result c.up_to_star-run.ensures.outcome;
+  behind = c.up_to_star-run.ensures.behind;
+}
 
-pub loop-behind-preserved-in-Star-up_to_star : goal.loop-behind-preserved-in-Star-up_to_star
-loop-behind-preserved-in-Star-up_to_star c =
-    let lower = c.args.lower in
-    record {
-      left = next_star c.args.mode (read lower c.args.pattern.now) (read lower c.args.text.now) (read lower c.loop-behind.pattern.now) (read lower c.loop-behind.text.now)
-          (read lower c.in-Star-up_to_star.behind.now) (read lower c.in-Star-up_to_star.rest.now) c.loop-behind.invariant.left c.in-Star-up_to_star.ensures.outcome;
-      known = c.forget-in-Star-up_to_star.ensures.known c.args.mode lower c.in-Star-up_to_star.behind.now c.in-Star-up_to_star.ensures.behind;
-    }
-
-none_read : (lower : Bool) (rest : List ℕ) → length rest ≡ 0 → (b : ℕ) (last : List ℕ) → read lower rest ≡ b ∷ last → ⊥
-none_read lower rest e b last f = let g = ap length f in omega (arith, read_length lower rest, g)
-
--- where the first byte is none that a wildcard may take, and there is one
-other_read : (mode : GlobMode) (lower : Bool) (rest : List ℕ) (c : ℕ) (t : Bool) → 0 < length rest → c ≡ folded lower (get_or rest 0 0) → t ≡ may_take mode c → t ≡ false
-    → (b : ℕ) (last : List ℕ) → read lower rest ≡ b ∷ last → may_take mode b ≡ true → ⊥
-other_read mode lower rest c t some is e f b last g h =
-    let same : get_or (read lower rest) 0 0 ≡ b = ap (λ xs. get_or xs 0 0) g in
-    false≢true (sym f ∙ e ∙ ap (may_take mode) (is ∙ sym (read_at lower rest 0 some) ∙ same) ∙ h)
-
-pub returns-then-is_empty : goal.returns-then-is_empty
-returns-then-is_empty c =
-    let lower = c.args.lower in
-    let mode = c.args.mode in let pattern = read lower c.args.pattern.now in let text = read lower c.args.text.now in let behind = read lower c.loop-behind.pattern.now in
-    let rest = c.loop-behind.text.now in (
-      λ h. absurd (false≢true h),
-      λ m. absurd (no_match mode pattern text behind (read lower rest) c.loop-behind.invariant.left c.in-Failed-up_to_star.ensures.outcome
-          (elim c.then-is_empty.branch [
-            | then-is_empty-via-then-is_empty w ↦ (λ b last e h. none_read lower rest (let t = w.if-is_empty.true in grind (arith, nat_tests)) b last e)
-            | then-is_empty-via-else-is_empty+then-not-may_take w ↦ other_read mode lower rest w.fold.result w.may_take.result (let t = w.if-is_empty.false in grind (arith, nat_tests)) w.fold.ensures w.may_take.ensures w.if-not-may_take.true
-          ]) m),
-    )
-
-pub loop-behind-preserved : goal.loop-behind-preserved
-loop-behind-preserved c =
-    let lower = c.args.lower in
-    let mode = c.args.mode in let pattern = read lower c.args.pattern.now in let text = read lower c.args.text.now in let behind = read lower c.loop-behind.pattern.now in
-    let rest = c.loop-behind.text.now in let ys = read lower rest in
-    let some : 0 < length rest = grind (arith, nat_tests) in
-    record {
-      left = subst (IsLeft mode pattern text behind) (sym (read_rest lower rest 1))
-          (next_byte mode pattern text behind ys (drop 1 ys) (get_or ys 0 0) c.loop-behind.invariant.left c.in-Failed-up_to_star.ensures.outcome
-          (drop_more ys 0 0 (omega (arith, read_length lower rest, some)))
-          (ap (λ b. may_take mode b) (read_at lower rest 0 some ∙ sym c.fold.ensures) ∙ sym c.may_take.ensures ∙ c.if-not-may_take.false));
-      known = c.in-Failed-up_to_star.ensures.known;
-    }
+pub count_items-requires : goal.count_items-requires
+count_items-requires c = record {
+  known = c.forget.ensures.known c.args.mode c.args.lower c.in-Star.pattern.now
+      (subst (IsTailBehind c.loop-run.known.tail) c.in-Star.is c.loop-run.invariant.behind);
+}

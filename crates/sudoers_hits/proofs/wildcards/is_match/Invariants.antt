@@ -1,14 +1,13 @@
-use Rattle.std.proofs.Common.{◌+◌, length}
 use Rattle.sudoers_hits.specs.Folded.{read}
-use Rattle.sudoers_hits.specs.Run.{IsLeft}
-use Rattle.sudoers_hits.specs.Known.{AreKnown}
+use Rattle.sudoers_hits.specs.Run.{SoFar, to_go}
+use Rattle.sudoers_hits.specs.Known.{IsTailBehind}
 use Rattle.sudoers_hits.proofs.wildcards.is_match.Given as goal
 
-abbrev pub invariant-loop-behind : goal.invariant-loop-behind
-invariant-loop-behind l = record {
-  left : IsLeft l.mode (read l.lower l.fn.pattern) (read l.lower l.fn.text) (read l.lower l.pattern) (read l.lower l.text);
-  known : AreKnown l.mode l.lower l.pattern l.known;
+abbrev pub invariant-loop-run : goal.invariant-loop-run
+invariant-loop-run l = record {
+  so_far : SoFar l.mode l.lower (read l.lower l.fn.pattern) (read l.lower l.fn.text) l.run;
+  behind : IsTailBehind l.known.tail l.run;
 }
 
-abbrev pub decreases-loop-behind : goal.decreases-loop-behind
-decreases-loop-behind l = length l.pattern + length l.text
+abbrev pub decreases-loop-run : goal.decreases-loop-run
+decreases-loop-run l = to_go l.run

@@ -1,20 +1,14 @@
-use Rattle.std.proofs.Common.{◌≡◌, ◌≢◌, ℕ, ◌+◌, ◌-◌, ◌≤◌, ◌<◌, Bool, true, false, List, [], ◌∷◌, ◌++◌, length, drop, take, get_or, sym, ap, subst, ◌∙◌, arith}
+use Rattle.std.proofs.Common.{◌≡◌, ◌≢◌, ℕ, ◌+◌, ◌-◌, ◌<◌, Bool, true, false, List, ◌∷◌, ◌++◌, length, drop, take, get_or, sym, ap, subst, ◌∙◌, arith}
 use Rattle.std.proofs.lemmas.List.{drop_more, drop-drop, drop_all, length-drop, drop-map}
 use Rattle.std.proofs.lemmas.Bool.{not-true, not-false}
 use Rattle.sudoers_hits.specs.declared.wildcards.GlobMode.{GlobMode}
 use Rattle.sudoers_hits.specs.Folded.{folded, read}
 use Rattle.sudoers_hits.specs.Wildcard.{takes, item_at, items_of}
 use Rattle.sudoers_hits.specs.Run.{Passed, ToStar, ItemsMatch, Matches}
-use Rattle.sudoers_hits.proofs.AsRead.{read_length, read_rest, read_at}
-use Rattle.sudoers_hits.proofs.Passing.{pass_one, all_passed, not_passed, none_left, no_byte, other_byte}
+use Rattle.sudoers_hits.proofs.AsRead.{read_length, read_rest, read_at, other_read}
+use Rattle.sudoers_hits.proofs.Passing.{some_left, within_more, pass_one, all_passed, not_passed, none_left, no_byte, other_byte}
 use Rattle.sudoers_hits.proofs.Items.{no_star, item_some}
 use Rattle.sudoers_hits.proofs.wildcards.up_to_star.Goals as goal
-
-some_left : (xs : List ℕ) (i : ℕ) → i < length xs → drop i xs ≢ []
-some_left xs i h e = omega (arith, length-drop i xs, ap length e)
-
-within_more : (pattern : List ℕ) (at len : ℕ) → at < length pattern → len ≤ length (drop at pattern) → at + len ≤ length pattern
-within_more pattern at len h k = omega (arith, k, length-drop at pattern)
 
 at_star : (mode : GlobMode) (xs ys : List ℕ) (at place : ℕ) → Passed mode xs ys (drop at xs) (drop place ys) → at < length xs → get_or xs at 0 ≡ 42
     → ToStar mode xs ys (drop (at + 1) xs) (drop place ys)
@@ -50,9 +44,6 @@ told mode lower pattern text at place b t u h is e f =
     ap (λ c. takes mode (item_at (drop at (read lower pattern))).0 c) (read_at lower text place h ∙ sym is)
     ∙ ap (λ xs. takes mode (item_at xs).0 b) (drop-map (folded lower) at pattern) ∙ sym e ∙ f
 
-other : (lower : Bool) (pattern : List ℕ) (at b : ℕ) → at < length pattern → b ≡ folded lower (get_or pattern at 0) → (b ≡ 42 → ⊥) → get_or (read lower pattern) at 0 ≢ 42
-other lower pattern at b h is n e = n (is ∙ sym (read_at lower pattern at h) ∙ e)
-
 pub returns-then-fold-eq42-clause-outcome : goal.returns-then-fold-eq42-clause-outcome
 returns-then-fold-eq42-clause-outcome c =
     let lower = c.args.lower in let pattern = c.args.pattern.now in let text = c.args.text.now in let at = c.loop-at.at in let place = c.loop-at.place in
@@ -69,7 +60,7 @@ returns-then-place-text-clause-outcome c =
     let within : at < length xs = omega (arith, read_length lower pattern, c.loop-at-test.true) in
     not_passed c.args.mode xs ys (drop at xs) (drop place ys) c.loop-at.invariant.passed
     (no_byte c.args.mode (drop at xs) (drop place ys) (some_left xs at within)
-    (no_star xs at within (other lower pattern at c.fold.result c.loop-at-test.true c.fold.ensures c.if-fold-eq42.false))
+    (no_star xs at within (other_read lower pattern at c.fold.result c.loop-at-test.true c.fold.ensures c.if-fold-eq42.false))
     (item_some (drop at xs)) (drop_all place ys (omega (arith, read_length lower text, c.if-place-text.true))))
 
 pub returns-then-not-front-clause-outcome : goal.returns-then-not-front-clause-outcome
@@ -77,7 +68,7 @@ returns-then-not-front-clause-outcome c =
     let lower = c.args.lower in let pattern = c.args.pattern.now in let text = c.args.text.now in let at = c.loop-at.at in let place = c.loop-at.place in
     let inside : place < length text = omega arith in
     refused c.args.mode (read lower pattern) (read lower text) at place (omega (arith, read_length lower pattern, c.loop-at-test.true)) (omega (arith, read_length lower text, inside))
-    (other lower pattern at c.fold.result c.loop-at-test.true c.fold.ensures c.if-fold-eq42.false)
+    (other_read lower pattern at c.fold.result c.loop-at-test.true c.fold.ensures c.if-fold-eq42.false)
     (told c.args.mode lower pattern text at place c.fold-in-loop-at.result c.front-front.result.takes false inside c.fold-in-loop-at.ensures c.front-front.ensures.front.takes (not-true c.front-front.result.takes c.if-not-front.true))
     c.loop-at.invariant.passed
 
