@@ -100,7 +100,7 @@ fn command_word<'a>(alloc: Global) -> Arg<'a> {
     Arg::new(alloc, "WORD")
         .num_args(0..)
         .trailing_var_arg(true)
-        .help("Command and its arguments; without a command all that the user may run is listed")
+        .help("Command and its arguments; without a command the rules of the user are listed")
 }
 
 /// What the command line asks for.
