@@ -9,9 +9,9 @@ ghost use Rattle.sudoers_reader.specs.Answer.{ReadsAs};
 use crate::cursor::{Cursor, Halted};
 use crate::lists::list;
 use crate::members::push;
-use sudoers_rows::{DefRow, NodeRow, Range, Tables, keep_rows, keep_text, place};
 use std::alloc::{AllocError, Global};
 use sudoers_line::Kind;
+use sudoers_rows::{DefRow, NodeRow, Range, Tables, keep_rows, keep_text, place};
 
 /// Reads a definition of an alias of this kind.
 #[tactic(auto, unfolding(crate::specs::Descent::def))]

@@ -15,11 +15,10 @@ ghost use Rattle.sudoers_reader.specs.Answer.{ReadsAs, Tells, word_in};
 use crate::cursor::{Cursor, Halted};
 use crate::digests::digests;
 use crate::members::signs;
-use crate::words::WordRow;
-use sudoers_rows::{ArgsRow, AtomRow, MemberRow, NONE, Range, Tables, keep_args, place};
-use crate::words::word;
+use crate::words::{WordRow, word};
 use std::alloc::Global;
 use sudoers_line::{Args, Part, with_argument};
+use sudoers_rows::{ArgsRow, AtomRow, MemberRow, NONE, Range, Tables, keep_args, place};
 
 /// Reads the arguments behind the first, and returns all of them, and where the last ends.
 fn more_arguments(

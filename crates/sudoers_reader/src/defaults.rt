@@ -11,8 +11,8 @@ ghost use Rattle.sudoers_reader.specs.Answer.{ReadsAs};
 use crate::cursor::{Cursor, Halted};
 use crate::lists::scope_list;
 use crate::params::params;
-use sudoers_rows::{NodeRow, ScopeRow, Tables};
 use std::alloc::Global;
+use sudoers_rows::{NodeRow, ScopeRow, Tables};
 
 /// Reads a scope, directly behind the word that ends at this byte.
 #[tactic(auto, unfolding(crate::specs::Descent::scope))]

@@ -8,8 +8,8 @@ ghost use Rattle.sudoers_reader.specs.Answer.{ReadsAs};
 
 use crate::cursor::{Cursor, Halted};
 use crate::members::push;
-use sudoers_rows::{DigestRow, NONE, Range, Tables, keep_rows, keep_text};
 use std::alloc::{AllocError, Global};
+use sudoers_rows::{DigestRow, NONE, Range, Tables, keep_rows, keep_text};
 
 /// Reads a digest.
 #[tactic(auto, unfolding(crate::specs::Descent::digest))]

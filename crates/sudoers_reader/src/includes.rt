@@ -9,9 +9,9 @@ ghost use Rattle.sudoers_rows.specs.Tables.{Grown, KeepsSome, node_in, text_in};
 ghost use Rattle.sudoers_reader.specs.Answer.{ReadsAs};
 
 use crate::cursor::{Cursor, Halted};
-use sudoers_rows::{NodeRow, Tables, Text, keep_text};
 use std::alloc::{AllocError, Global};
 use sudoers_line::{Part, path_value};
+use sudoers_rows::{NodeRow, Tables, Text, keep_text};
 
 /// Keeps what the token is as a path, if it may be one.
 fn keep_path(

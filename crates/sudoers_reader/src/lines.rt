@@ -10,9 +10,9 @@ use crate::aliases::alias;
 use crate::cursor::{Cursor, Halted};
 use crate::defaults::defaults;
 use crate::includes::include;
-use sudoers_rows::{NodeRow, Tables};
 use crate::specs_of_users::spec;
 use std::alloc::Global;
+use sudoers_rows::{NodeRow, Tables};
 
 /// Finds that no token is left behind what was read.
 fn ended(cursor: &mut Cursor<'_>, tables: &Tables, row: NodeRow) -> Result<NodeRow, Halted>

@@ -9,9 +9,9 @@ ghost use Rattle.sudoers_reader.specs.Answer.{ReadsAs};
 use crate::commands::{command, scope_command};
 use crate::cursor::{Cursor, Halted};
 use crate::members::{members, push};
-use sudoers_rows::{MemberRow, Range, Tables, keep_rows};
 use std::alloc::{AllocError, Global};
 use sudoers_line::Kind;
+use sudoers_rows::{MemberRow, Range, Tables, keep_rows};
 
 /// Reads a comma and a command.
 fn next_command(

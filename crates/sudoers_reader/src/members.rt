@@ -9,9 +9,9 @@ ghost use Rattle.sudoers_rows.specs.Tables.{Grown, IsRange, member_in, members_i
 ghost use Rattle.sudoers_reader.specs.Answer.{ReadsAs};
 
 use crate::cursor::{Cursor, Halted};
-use sudoers_rows::{MemberRow, NONE, Range, Tables, keep_member, keep_rows, place};
 use std::alloc::{AllocError, Global};
 use sudoers_line::Kind;
+use sudoers_rows::{MemberRow, NONE, Range, Tables, keep_member, keep_rows, place};
 
 /// Passes signs, and returns whether their number is odd.
 pub fn signs(cursor: &mut Cursor<'_>) -> bool

@@ -11,9 +11,9 @@ ghost use Rattle.sudoers_reader.specs.Answer.{ReadsAs};
 
 use crate::cursor::{Cursor, Halted};
 use crate::members::push;
-use sudoers_rows::{OptionRow, Range, Tables, TagRow, Text, keep_rows, keep_text};
 use std::alloc::{AllocError, Global};
 use sudoers_line::{OptionName, Part, option_value};
+use sudoers_rows::{OptionRow, Range, Tables, TagRow, Text, keep_rows, keep_text};
 
 /// Keeps what the token is as the value of this option, if it may be one.
 fn keep_value(

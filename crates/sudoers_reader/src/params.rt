@@ -10,9 +10,9 @@ ghost use Rattle.sudoers_reader.specs.Answer.{ReadsAs};
 
 use crate::cursor::{Cursor, Halted};
 use crate::members::{push, signs};
-use sudoers_rows::{ParamRow, Range, SettingRow, Tables, Text, keep_rows, keep_text};
 use std::alloc::{AllocError, Global};
 use sudoers_line::Part;
+use sudoers_rows::{ParamRow, Range, SettingRow, Tables, Text, keep_rows, keep_text};
 
 /// Keeps the value that the token writes.
 fn keep_value(alloc: Global, tables: &mut Tables, part: &Part<'_>) -> Result<Text, AllocError>

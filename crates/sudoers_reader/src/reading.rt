@@ -16,7 +16,6 @@ ghost use Rattle.sudoers_rows.specs.Tables.{Grown};
 use crate::cursor::{Cursor, Halted};
 use crate::laws::{one_reading, outcome_is};
 use crate::lines::line as read_whole;
-use sudoers_rows::{Node, NodeRow, Tables};
 use std::alloc::{AllocError, Global};
 use std::boxed::Box;
 use std::fmt;
@@ -24,6 +23,7 @@ use std::marker::Model;
 use sudoers_line::{
     Awaited, LineFault, Part, Why, cause_of, ends_with, no_fault, one_fault, part_of,
 };
+use sudoers_rows::{Node, NodeRow, Tables};
 use sudoers_text::{Token, TokenKind, line_mode, tokens};
 
 /// Returns how many bytes the line end has with which the line ends.

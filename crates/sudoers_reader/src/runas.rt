@@ -10,9 +10,9 @@ ghost use Rattle.sudoers_reader.specs.Answer.{ReadsAs};
 
 use crate::cursor::{Cursor, Halted};
 use crate::members::members;
-use sudoers_rows::{NONE, Range, RunasRow, Tables};
 use std::alloc::Global;
 use sudoers_line::Kind;
+use sudoers_rows::{NONE, Range, RunasRow, Tables};
 
 /// Reads the runas users, if any.
 #[tactic(auto, unfolding(crate::specs::Descent::runas_users))]

@@ -10,10 +10,10 @@ use crate::commands::command;
 use crate::cursor::{Cursor, Halted};
 use crate::members::{members, push};
 use crate::options::{options, tags};
-use sudoers_rows::{CommandRow, GroupRow, NodeRow, Range, Tables, keep_rows};
 use crate::runas::maybe_runas;
 use std::alloc::{AllocError, Global};
 use sudoers_line::Kind;
+use sudoers_rows::{CommandRow, GroupRow, NodeRow, Range, Tables, keep_rows};
 
 /// Reads a command with what stands before it.
 #[tactic(auto, unfolding(crate::specs::Descent::cmd_spec))]

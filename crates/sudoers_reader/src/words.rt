@@ -11,9 +11,9 @@ ghost use Rattle.sudoers_rows.specs.Tables.{Grown, KeepsSome, Lasts, atom_in, di
 ghost use Rattle.sudoers_reader.specs.Answer.{ReadsAs, Tells, word_in};
 
 use crate::cursor::{Cursor, Halted};
-use sudoers_rows::{AtomRow, MemberRow, Range, Tables, keep_atom, place};
 use std::alloc::{AllocError, Global};
 use sudoers_line::{Part, bare_command, ends_with};
+use sudoers_rows::{AtomRow, MemberRow, Range, Tables, keep_atom, place};
 
 /// A command by its word; whether the word leaves room for arguments.
 #[derive(Clone, Copy)]
