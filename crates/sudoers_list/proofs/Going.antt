@@ -1,5 +1,5 @@
 -- A walk from alias to alias ends.
-use Rattle.std.proofs.Common.{◌≡◌, ◌⊎◌, inl, inr, Bool, ℕ, zero, suc, List, [], ◌∷◌, ◌++◌, map, Some, None, refl, sym, ap, subst, ◌∙◌}
+use Rattle.std.proofs.Common.{◌≡◌, inl, inr, Bool, ℕ, zero, suc, List, [], ◌∷◌, ◌++◌, map, Some, None, refl, sym, ap, subst, ◌∙◌}
 use Rattle.std.specs.List.{AllByRecursion}
 use Rattle.sudoers_line.specs.declared.node.Atom.TheVariants.{Alias}
 use Rattle.sudoers_line.specs.declared.node.Kind.TheVariants.{Cmnd}
@@ -10,7 +10,7 @@ use Rattle.sudoers_check.specs.Chain.{Has}
 use Rattle.sudoers_verdict.specs.Flat.{Signed, IsFlat, alias_of, signed, turn}
 use Rattle.sudoers_verdict.specs.Flat as flat
 use Rattle.sudoers_verdict.specs.Flattened.{replaced_by, replaced_once, replaced_times, turned_member}
-use Rattle.sudoers_list.specs.Going.{IsWithin, Names, NamesNone}
+use Rattle.sudoers_list.specs.Going.{IsWithin, NamesNone}
 
 has_front : {Y : Type 0} (xs ys : List Y) (y : Y) → Has xs y → Has (xs ++ ys) y
 has_front [] ys y h = absurd h

@@ -11,7 +11,7 @@ use Rattle.sudoers_check.specs.Chain.{Has}
 use Rattle.sudoers_hits.specs.declared.asked.Who.{Who}
 use Rattle.sudoers_match.specs.declared.groups.GroupPlace.{GroupPlace}
 use Rattle.sudoers_hits.specs.declared.request.Request.{Request}
-use Rattle.sudoers_line.specs.declared.node.Kind.TheVariants.{User, Host, Cmnd}
+use Rattle.sudoers_line.specs.declared.node.Kind.TheVariants.{User, Host}
 use Rattle.sudoers_hits.specs.Hits.{user_hits, host_hits, command_hits}
 use Rattle.sudoers_match.specs.Allows.{Allows}
 use Rattle.sudoers_match.specs.Answer.{Answer, Fits, IsAnswer, command_line, is_hit, told}

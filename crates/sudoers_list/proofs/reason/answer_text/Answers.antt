@@ -1,4 +1,4 @@
-use Rattle.std.proofs.Common.{◌≡◌, ℕ, List, ◌++◌, Option, Some, None, sym, ap, subst, ◌∙◌, append-nil, Vec, Global}
+use Rattle.std.proofs.Common.{◌≡◌, ℕ, List, ◌++◌, Option, Some, sym, ap, ◌∙◌, append-nil, Vec, Global}
 use Rattle.std.specs.Option.{option_map}
 use Rattle.sudoers_match.specs.Answer.{Answer, answer_shown}
 use Rattle.sudoers_list.specs.declared.inner.Inner.{Inner as InnerHeld}

@@ -1,4 +1,4 @@
-use Rattle.std.proofs.Common.{◌≡◌, ℕ, List, ◌++◌, codes, Option, Some, option_and_then, slice_get, sym, ap, ◌∙◌, append_assoc, false}
+use Rattle.std.proofs.Common.{◌≡◌, ℕ, List, ◌++◌, codes, Option, Some, option_and_then, slice_get, sym, ap, ◌∙◌, false}
 use Rattle.sudoers_line.specs.declared.node.Kind.TheVariants.{Cmnd}
 use Rattle.sudoers_rows.specs.View.{member_shown}
 use Rattle.sudoers_tree.specs.declared.place.Place.{Place}

@@ -1,4 +1,4 @@
-use Rattle.std.proofs.Common.{◌≡◌, ◌+◌, ◌-◌, drop, map, arith, rules}
+use Rattle.std.proofs.Common.{◌+◌, ◌-◌, drop, map, arith, rules}
 use Rattle.sudoers_line.specs.declared.node.CmdSpec.{CmdSpec}
 use Rattle.sudoers_rows.specs.Tables.{command_in}
 use Rattle.sudoers_rows.specs.View.{command_shown}

@@ -1,4 +1,4 @@
-use Rattle.std.proofs.Common.{◌≡◌, Option, Some, option_and_then, slice_get, sym, ap, ap₂, ◌∙◌}
+use Rattle.std.proofs.Common.{Option, Some, option_and_then, sym, ap, ap₂, ◌∙◌}
 use Rattle.std.specs.Option.{option_map}
 use Rattle.sudoers_line.specs.declared.node.HostGroup.{HostGroup}
 use Rattle.sudoers_line.specs.declared.node.CmdSpec.{CmdSpec}
@@ -8,7 +8,7 @@ use Rattle.sudoers_match.specs.Answer.{Answer, answer_shown}
 use Rattle.sudoers_match.specs.Heads.{Head}
 use Rattle.sudoers_list.specs.declared.spot.Spot.{Spot}
 use Rattle.sudoers_list.specs.Inside.{spec_shown}
-use Rattle.sudoers_list.specs.Rule.{Rule, SpecOn, command_at, rule_in, rule_of}
+use Rattle.sudoers_list.specs.Rule.{SpecOn, command_at, rule_in, rule_of}
 use Rattle.sudoers_list.proofs.TagsSaid.{answered_is, is_tagged, tagged}
 use Rattle.sudoers_list.proofs.rule.find_rule.Goals as goal
 
