@@ -1,8 +1,8 @@
 //! What `edit` writes.
 
 ghost use Rattle.std.specs.Io.KnownBytes.{Appends};
-ghost use Rattle.std.specs.Prelude.{◌≡◌, IfOk, IfErr, IfSome, IsOkAnd};
-ghost use Rattle.sudoers_run.specs.Program.{output_of, TellsTool};
+ghost use Rattle.std.specs.Prelude.{◌≡◌, IfOk, IfSome, IsOkAnd};
+ghost use Rattle.sudoers_run.specs.Program.{output_of};
 
 use std::alloc::Global;
 use sudoers_run::{Sink, Source, ToolFault, run_edit};
@@ -19,7 +19,6 @@ pub fn edit_policy<R: Source, W: Sink>(
 ) -> Result<u8, ToolFault>
     ensures ok { IfOk result (λ status. (status ≡ 0) × IfSome (R.remaining reader.old) (λ input.
         IsOkAnd (output_of input) (Appends (W.contents writer.old) (W.contents writer.new)))) }
-    ensures fault { IfErr result (λ fault. IfSome (R.remaining reader.old) (TellsTool fault)) }
 {
     run_edit(alloc, reader, writer)
 }

@@ -4,8 +4,10 @@
 #![tactic(auto)]
 
 mod asking;
+mod before_errors;
 mod checking;
 mod converting;
+mod devices;
 mod editing;
 mod failing;
 mod faults;
@@ -14,10 +16,15 @@ mod order;
 mod quiet;
 mod showing;
 mod stopping;
+mod told_errors;
 
 pub use asking::list_rules;
+pub use before_errors::{
+    check_before_errors, convert_before_errors, edit_before_errors, list_before_errors,
+};
 pub use checking::check_policy;
 pub use converting::convert_policy;
+pub use devices::list_devices;
 pub use editing::edit_policy;
 pub use failing::show_or_fail;
 pub use faults::text_of_fault;
@@ -26,3 +33,6 @@ pub use order::list_in_order;
 pub use quiet::check_quietly;
 pub use showing::show_policy;
 pub use stopping::edit_within_limit;
+pub use told_errors::{
+    check_told_errors, convert_told_errors, edit_told_errors, list_told_errors, show_told_errors,
+};

@@ -1,0 +1,79 @@
+//! What stands in the output before an error: nothing.
+
+ghost use Rattle.sudoers_run.specs.Device.{Writes};
+
+use std::alloc::Global;
+use sudoers_run::{
+    ConvertWords, ListWords, Sink, Source, ToolFault, run_check, run_convert, run_edit, run_list,
+};
+
+/// Reads a script and a policy, and writes the edited policy. Before an error it writes nothing.
+///
+/// # Errors
+///
+/// Those of `run_edit`.
+pub fn edit_before_errors<R: Source, W: Sink>(
+    alloc: Global,
+    reader: &mut R,
+    writer: &mut W,
+) -> Result<u8, ToolFault>
+    ensures writes { Writes result (W.Sink.failures writer.old) (W.Sink.failures writer.new)
+        (W.contents writer.old) (W.contents writer.new) }
+{
+    run_edit(alloc, reader, writer)
+}
+
+/// Reads a policy file, and writes what is noted of it. Before an error it writes nothing.
+///
+/// # Errors
+///
+/// Those of `run_check`.
+pub fn check_before_errors<R: Source, W: Sink>(
+    alloc: Global,
+    reader: &mut R,
+    file: &[u8],
+    quiet: bool,
+    strict: bool,
+    writer: &mut W,
+) -> Result<u8, ToolFault>
+    ensures writes { Writes result (W.Sink.failures writer.old) (W.Sink.failures writer.new)
+        (W.contents writer.old) (W.contents writer.new) }
+{
+    run_check(alloc, reader, file, quiet, strict, writer)
+}
+
+/// Reads a policy file, and writes its rules in another form. Before an error it writes nothing.
+///
+/// # Errors
+///
+/// Those of `run_convert`.
+pub fn convert_before_errors<R: Source, W: Sink>(
+    alloc: Global,
+    reader: &mut R,
+    words: &ConvertWords<'_>,
+    writer: &mut W,
+) -> Result<u8, ToolFault>
+    ensures writes { Writes result (W.Sink.failures writer.old) (W.Sink.failures writer.new)
+        (W.contents writer.old) (W.contents writer.new) }
+{
+    run_convert(alloc, reader, words, writer)
+}
+
+/// Reads a policy, passwd and group, and writes what a user may run. Before an error it writes nothing.
+///
+/// # Errors
+///
+/// Those of `run_list`.
+pub fn list_before_errors<P: Source, U: Source, G: Source, W: Sink>(
+    alloc: Global,
+    policy: &mut P,
+    passwd: &mut U,
+    group: &mut G,
+    words: &ListWords<'_>,
+    writer: &mut W,
+) -> Result<u8, ToolFault>
+    ensures writes { Writes result (W.Sink.failures writer.old) (W.Sink.failures writer.new)
+        (W.contents writer.old) (W.contents writer.new) }
+{
+    run_list(alloc, policy, passwd, group, words, writer)
+}

@@ -1,0 +1,110 @@
+//! Which error a command tells, and what a failed write leaves: a beginning of the output.
+
+ghost use Rattle.std.specs.Prelude.{◌≡◌, ℕ, List, Ok, Err, IfErr, IfSome, IsOkAnd};
+ghost use Rattle.sudoers_run.specs.Check.{check_output, IsCheckFault};
+ghost use Rattle.sudoers_run.specs.Convert.{convert_output, TellsConvert};
+ghost use Rattle.sudoers_run.specs.Device.{AppendsFront};
+ghost use Rattle.sudoers_run.specs.List.{OfTexts, IsListOutcome, TellsList};
+ghost use Rattle.sudoers_run.specs.Program.{output_of, TellsTool};
+ghost use Rattle.sudoers_run.specs.Show.{show_output, TellsShow};
+ghost use Rattle.sudoers_run.specs.declared.fault.ToolFault.TheVariants as ToolFault;
+
+use std::alloc::Global;
+use sudoers_run::{
+    ConvertWords, ListWords, Sink, Source, ToolFault, run_check, run_convert, run_edit, run_list,
+    run_show,
+};
+
+/// Reads a policy file, and writes its lines.
+///
+/// # Errors
+///
+/// Those of `run_show`: the first fault of the file, or of a device. With `Write`, what is written is a beginning.
+pub fn show_told_errors<R: Source, W: Sink>(
+    alloc: Global,
+    reader: &mut R,
+    writer: &mut W,
+) -> Result<u8, ToolFault>
+    ensures fault { IfErr result (λ fault. IfSome (R.remaining reader.old) (TellsShow fault)) }
+    ensures front { result ≡ Err ToolFault.Write → IfSome (R.remaining reader.old) (λ input.
+        IsOkAnd (show_output input) (AppendsFront (W.contents writer.old) (W.contents writer.new))) }
+{
+    run_show(alloc, reader, writer)
+}
+
+/// Reads a script and a policy, and writes the undo script and the edited policy.
+///
+/// # Errors
+///
+/// Those of `run_edit`: the first fault of the input, or of a device. With `Write`, what is written is a beginning.
+pub fn edit_told_errors<R: Source, W: Sink>(
+    alloc: Global,
+    reader: &mut R,
+    writer: &mut W,
+) -> Result<u8, ToolFault>
+    ensures fault { IfErr result (λ fault. IfSome (R.remaining reader.old) (TellsTool fault)) }
+    ensures front { result ≡ Err ToolFault.Write → IfSome (R.remaining reader.old) (λ input.
+        IsOkAnd (output_of input) (AppendsFront (W.contents writer.old) (W.contents writer.new))) }
+{
+    run_edit(alloc, reader, writer)
+}
+
+/// Reads a policy file, and writes what is noted of it, also that it is no policy.
+///
+/// # Errors
+///
+/// Those of `run_check`: of the devices and of memory alone. With `Write`, what is written is a beginning.
+pub fn check_told_errors<R: Source, W: Sink>(
+    alloc: Global,
+    reader: &mut R,
+    file: &[u8],
+    quiet: bool,
+    strict: bool,
+    writer: &mut W,
+) -> Result<u8, ToolFault>
+    ensures named { IfErr result IsCheckFault }
+    ensures front { result ≡ Err ToolFault.Write → IfSome (R.remaining reader.old) (λ input.
+        AppendsFront (W.contents writer.old) (W.contents writer.new) (check_output file.now quiet strict input)) }
+{
+    run_check(alloc, reader, file, quiet, strict, writer)
+}
+
+/// Reads a policy file, and writes its rules in another form.
+///
+/// # Errors
+///
+/// Those of `run_convert`: the first fault of the file, the filter or the rules, or of a device. With `Write`, what is
+/// written is a beginning.
+pub fn convert_told_errors<R: Source, W: Sink>(
+    alloc: Global,
+    reader: &mut R,
+    words: &ConvertWords<'_>,
+    writer: &mut W,
+) -> Result<u8, ToolFault>
+    ensures fault { IfErr result (λ fault. IfSome (R.remaining reader.old) (TellsConvert words.now fault)) }
+    ensures front { result ≡ Err ToolFault.Write → IfSome (R.remaining reader.old) (λ input.
+        IsOkAnd (convert_output words.now input) (AppendsFront (W.contents writer.old) (W.contents writer.new))) }
+{
+    run_convert(alloc, reader, words, writer)
+}
+
+/// Reads a policy, passwd and group, and writes what a user may run.
+///
+/// # Errors
+///
+/// Those of `run_list`: the first fault of the files or of the words, or of a device. With `Write`, what is written is a
+/// beginning.
+pub fn list_told_errors<P: Source, U: Source, G: Source, W: Sink>(
+    alloc: Global,
+    policy: &mut P,
+    passwd: &mut U,
+    group: &mut G,
+    words: &ListWords<'_>,
+    writer: &mut W,
+) -> Result<u8, ToolFault>
+    ensures fault { IfErr result (λ fault. OfTexts (P.remaining policy.old) (U.remaining passwd.old) (G.remaining group.old) (TellsList words.now fault)) }
+    ensures front { result ≡ Err ToolFault.Write → OfTexts (P.remaining policy.old) (U.remaining passwd.old) (G.remaining group.old) (λ p u g.
+        (text : List ℕ) × ((status : ℕ) × IsListOutcome words.now p u g (Ok (text, status))) × AppendsFront (W.contents writer.old) (W.contents writer.new) text) }
+{
+    run_list(alloc, policy, passwd, group, words, writer)
+}
