@@ -20,6 +20,7 @@ or an error in that column. Its column `Request` has what bob asks on the host h
 options of `list` and a command. PEOPLE are the users and groups.
 
 The pages of PAGES_OF_CRATES have a link to the README of each crate that they are about.
+The tables of docs/AUDIT.md are what scripts/audit prints.
 """
 
 import functools
@@ -29,6 +30,7 @@ import re
 import shlex
 import shutil
 import subprocess
+import sys
 import tempfile
 from dataclasses import dataclass, field
 
@@ -42,7 +44,7 @@ PATTERNS = ("README.md", "docs/*.md", "crates/*/README.md", "tests/README.md", "
 SECONDS = 60
 
 # How many lines a document has at most, where it is short on purpose.
-LIMITS = {"README.md": 160, "docs/ARCHITECTURE.md": 115}
+LIMITS = {"README.md": 160, "docs/ARCHITECTURE.md": 115, "docs/AUDIT.md": 90}
 
 # Commands of `console` blocks, and what runs them: a word of each command line, in order, has to be its beginning.
 ELSEWHERE = (
@@ -59,6 +61,7 @@ ELSEWHERE = (
     "rt ",  # the gate
     "tests/run",  # these tests
     "scripts/try_edit",  # the gate tries all edits
+    "scripts/audit ",  # run_audit
     "git clone",
 )
 
@@ -78,6 +81,10 @@ BOB_ON_H1 = ("-U", "bob", "--host", "h1", "--interfaces", "10.0.0.1/8")
 # The pages that have a link to crates, and the beginnings of the names of these crates.
 PAGES_OF_CRATES = {"docs/ARCHITECTURE.md": "", "docs/TRUST.md": "sudoers_"}
 PROGRAM = "sudoers_tool"
+
+# The page that holds what a script prints, and the lines around that.
+AUDIT = "docs/AUDIT.md"
+AUDIT_MARKS = ("<!-- what scripts/audit prints -->\n", "<!-- its end -->\n")
 
 PRINTS = re.compile(r"`(check|show|convert -f (?:json|sudoers)(?: [^`]+)?)` prints")
 ESCAPES = {"n": b"\n", "r": b"\r", "t": b"\t", "0": b"\0", "\\": b"\\", "|": b"|"}
@@ -317,6 +324,37 @@ def run_crates(tally):
         tally.note(f"{page}, crates", [f"there is no link to {crate}" for crate in wanted if crate not in linked])
 
 
+def audited(*words):
+    """Returns what scripts/audit prints, or why it stopped."""
+    path = os.path.join(TOP, "scripts", "audit")
+    done = subprocess.run([sys.executable, path, *words], capture_output=True, timeout=SECONDS, check=False)
+    return (done.stdout if done.returncode == 0 else done.stderr).decode()
+
+
+def run_audit(tally):
+    """AUDIT shows what scripts/audit prints; the files of each command have as many lines; what has contracts is there."""
+    with open(os.path.join(TOP, AUDIT), encoding="utf-8") as file:
+        page = file.read()
+    printed, shown = audited(), page.partition(AUDIT_MARKS[0])[2].partition(AUDIT_MARKS[1])[0]
+    stale = [f"the page lacks {line}" for line in printed.split("\n") if line not in shown.split("\n")]
+    stale += ["the page has other lines"] if not stale and printed != shown else []
+    tally.note(f"{AUDIT}, tables", stale and [*stale, "scripts/audit --write puts them into the page"])
+    rows = [cells_of(line) for line in printed.split("\n")]
+    sums = next((row for row in rows if row[:1] == ["**sum**"]), [])
+    for command, total in list(zip(rows[0], sums))[1:-1]:
+        lines = re.findall(r"^ *(\d+)  crates/", audited(*command.split()), re.MULTILINE)
+        tally.note(f"{AUDIT}, files of {command}", difference("lines", int(total), sum(map(int, lines))))
+    code = ""
+    for path in glob.glob(os.path.join(TOP, "crates", "sudoers_*", "src", "*.rt")):
+        with open(path, encoding="utf-8") as file:
+            code += file.read()
+    cells = [cell for line in page.split("\n") if line.startswith("| ") for cell in cells_of(line)[1:]]
+    cited = sorted(set(re.findall(r"`(\w+)`", " ".join(cells))))
+    form = r"^(?:pub fn|pub trait|    ensures) {}\b"
+    missing = [name for name in cited if not re.search(form.format(name), code, re.MULTILINE)]
+    tally.note(f"{AUDIT}, contracts", [f"nothing has the contract or the clause {name}" for name in missing])
+
+
 def names():
     """Returns the names of all documents."""
     paths = [path for pattern in PATTERNS for path in sorted(glob.glob(os.path.join(TOP, pattern)))]
@@ -327,6 +365,7 @@ def run_all(program, tally):
     """Runs what all documents show, and looks for the tests that they name."""
     named_cases.run_all(tally)
     run_crates(tally)
+    run_audit(tally)
     if not visudo():
         tally.skip("documents, what sudo answers", f"visudo of sudo {SUDO.decode()} is not installed")
     for name in names():
