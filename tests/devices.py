@@ -5,6 +5,7 @@ the number counted up until nothing was met any more; the run in which nothing
 was met has to answer as the program does with ample memory and honest devices.
 """
 
+import os
 import subprocess
 
 import cases
@@ -313,9 +314,33 @@ def run_writes(program, tally):
     run_under_library(program, tally, lambda stand, chosen: check_writes(stand, chosen.read))
 
 
-def run_memory(program, tally):
-    """Runs the program with growths of memory refused."""
-    run_under_library(program, tally, lambda stand, chosen: check_memory(stand, (*chosen.read, *chosen.words)))
+def command_of(case):
+    """Returns the command of a case. Without words it is `edit`."""
+    return os.fsdecode(case.words[0]) if case.words else "edit"
+
+
+def run_memory_of(program, tally, is_asked):
+    """Runs the commands that `is_asked` names with growths of memory refused."""
+
+    def check(stand, chosen):
+        check_memory(stand, [case for case in (*chosen.read, *chosen.words) if is_asked(command_of(case))])
+
+    run_under_library(program, tally, check)
+
+
+def run_memory_of_edits(program, tally):
+    """Runs `edit` with growths of memory refused."""
+    run_memory_of(program, tally, lambda command: command == "edit")
+
+
+def run_memory_of_lists(program, tally):
+    """Runs `list` with growths of memory refused."""
+    run_memory_of(program, tally, lambda command: command == "list")
+
+
+def run_memory_of_files(program, tally):
+    """Runs the other commands with growths of memory refused."""
+    run_memory_of(program, tally, lambda command: command not in ("edit", "list"))
 
 
 def run_memory_of_many(program, tally):
