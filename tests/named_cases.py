@@ -29,7 +29,7 @@ def unquoted(text):
 
 def pages():
     """The documents, by their paths below the top."""
-    return sorted(path for page in PAGES for path in glob.glob(page, root_dir=TOP))
+    return sorted(os.path.relpath(path, TOP) for page in PAGES for path in glob.glob(os.path.join(TOP, page)))
 
 
 def names_of(text):
