@@ -23,7 +23,7 @@ pub fn one_listing()
     one_runas_default();
 }
 
-/// The answer to a request has one text that tells why.
+/// A request with its answer has at most one text of `explain`.
 pub fn one_reason()
     ensures { (lines : List LineOf) (request : RequestOf) (file : List ℕ) (answer : Option AnswerOf) (text other : List ℕ)
         → IsReason lines request file answer text → IsReason lines request file answer other → text ≡ other }

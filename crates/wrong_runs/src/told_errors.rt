@@ -1,4 +1,4 @@
-//! Which error a command tells, and what a failed write leaves: a beginning of the output.
+//! The error that a command returns, and the beginning of the output that a failed write leaves.
 
 ghost use Rattle.std.specs.Prelude.{◌≡◌, ℕ, List, Ok, Err, IfErr, IfSome, IsOkAnd};
 ghost use Rattle.sudoers_run.specs.Check.{check_output, IsCheckFault};
