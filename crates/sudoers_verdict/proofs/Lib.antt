@@ -12,3 +12,4 @@ pub mod Depth
 pub mod Exists
 pub mod Said
 pub mod Alike
+pub mod Roots

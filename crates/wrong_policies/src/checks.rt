@@ -1,11 +1,10 @@
-//! What is noted of a policy, and whether a reachable alias is cyclic.
+//! What is noted of a policy.
 
-ghost use Rattle.std.specs.Prelude.{◌≡◌, ◌↔◌, IsTrue, IfOk};
-ghost use Rattle.sudoers_check.specs.Chains.{HasReachableCycle};
+ghost use Rattle.std.specs.Prelude.{◌≡◌, IfOk};
 ghost use Rattle.sudoers_check.specs.Report.{is_fine, report_of, report_text as text_of_report};
 
 use std::alloc::{AllocError, Global};
-use sudoers_check::{Report, check, reachable_cycle, report_text};
+use sudoers_check::{Report, check, report_text};
 use sudoers_tree::Policy;
 
 /// Returns what is noted of `policy`.
@@ -40,15 +39,4 @@ pub fn report_of_policy(
     ensures { IfOk result (λ text. text.items ≡ text_of_report file.now strict report.now) }
 {
     report_text(alloc, report, file, strict)
-}
-
-/// Returns whether an alias that a specification or a Defaults line leads to is cyclic.
-///
-/// # Errors
-///
-/// Memory ran out.
-pub fn find_cycle(alloc: Global, policy: &Policy) -> Result<bool, AllocError>
-    ensures { IfOk result (λ cycle. IsTrue cycle ↔ HasReachableCycle policy.now) }
-{
-    reachable_cycle(alloc, policy)
 }
