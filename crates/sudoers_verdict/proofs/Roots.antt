@@ -13,12 +13,12 @@ use Rattle.sudoers_tree.specs.Line.{Line}
 use Rattle.sudoers_tree.specs.Definition.{definitions, is_kind}
 use Rattle.sudoers_tree.specs.Mention.{of_kind}
 use Rattle.sudoers_tree.proofs.ListedMembers.{members_are_listed}
-use Rattle.sudoers_check.specs.Chain.{Has, Chain}
-use Rattle.sudoers_check.specs.Chains.{name_in, names_in, Joins, roots_in, roots, HasReachableCycle}
+use Rattle.sudoers_check.specs.Chain.{Has}
+use Rattle.sudoers_check.specs.Chains.{name_in, names_in, roots_in, roots, HasReachableCycle}
 use Rattle.sudoers_check.specs.Numbers.{number_of}
-use Rattle.sudoers_check.proofs.Chains.{from_more, from_one}
+use Rattle.sudoers_check.proofs.Chains.{from_one}
 use Rattle.sudoers_check.proofs.Lists.{place_of}
-use Rattle.sudoers_check.proofs.Named.{has_append, has_front, has_back, has_flat, flat_has, same_kind, kind_itself}
+use Rattle.sudoers_check.proofs.Named.{has_append, has_front, has_back, flat_has, same_kind, kind_itself}
 use Rattle.sudoers_verdict.specs.declared.cycle.ByKind.{ByKind}
 use Rattle.sudoers_verdict.specs.declared.walk.Verdicts.{Verdicts}
 use Rattle.sudoers_verdict.specs.Cycle.{LeadsToCycle}
@@ -26,6 +26,7 @@ use Rattle.sudoers_verdict.specs.Flat.{Signed, IsFlat, none, one, many}
 use Rattle.sudoers_verdict.specs.Search.{Remembers, FindsCycle, members_at}
 use Rattle.sudoers_verdict.specs.Roots.{alias_called, called, rooted, LeadToCycle, AreRemembered, Finds, Tells}
 use Rattle.sudoers_verdict.proofs.Numbered.{alias_some, alias_none}
+use Rattle.sudoers_verdict.proofs.Straight.{list_reaches}
 use Rattle.sudoers_verdict.proofs.Whole.{to_cycle}
 
 -- ---- one alias
@@ -120,15 +121,7 @@ module _ (lines : List Line) where
   pub is_reachable : (line : Line) → Has lines line → LeadToCycle lines (rooted line.node) → HasReachableCycle lines
   is_reachable line stands h =
       let a : AliasMember = h.alias in
-      let l = h.leads in
-      let among = has_flat (λ (x : Line). roots_in a.kind x.node) lines line a.name stands (stands_rooted line.node a h.among) in
-      record {
-        alias = l.alias;
-        stands = l.stands;
-        reached = subst (λ j. Chain (Joins j (definitions lines)) (Has (roots j lines)) l.alias.def.name) (sym l.of_kind)
-            (from_more (Has (names_in (called a.name))) (Has (roots a.kind lines)) (λ name own. elim own [ inl e ↦ subst (Has (roots a.kind lines)) e among | inr no ↦ absurd no ]) l.alias.def.name l.reached);
-        cyclic = l.cyclic;
-      }
+      list_reaches lines line stands a.kind (called a.name) (λ name own. elim own [ inl e ↦ subst (Has (roots_in a.kind line.node)) e (stands_rooted line.node a h.among) | inr no ↦ absurd no ]) h.leads
 
   pub reachable_is : HasReachableCycle lines → (line : Line) × Has lines line × LeadToCycle lines (rooted line.node)
   reachable_is h =
