@@ -56,7 +56,7 @@ module _ (k : Kind) (lines : List Line) (name : List ℕ) where
 
 -- an alias of this kind and name stands among these
 abbrev Stands : Kind → List ℕ → List AliasMember → Type 0
-Stands k name as = (a : AliasMember) × Has as a × (a.kind ≡ k) × (a.name ≡ name)
+Stands k name aliases = (a : AliasMember) × Has aliases a × (a.kind ≡ k) × (a.name ≡ name)
 
 stands_first : (k : Kind) (name : List ℕ) (m : Member) (a : Atom) → Has (name_in a) name → Stands k name (alias_of k m a)
 stands_first k name m (atom.Alias n) (inl e) = (record { kind = k; name = n; stop = m.stop }, inl refl, refl, e)
@@ -71,19 +71,18 @@ name_first j m other a h = absurd h
 -- the names of a kind are those of aliases
 named_stands : (k : Kind) (name : List ℕ) (ls : List Listed) → Has (names_in (of_kind k ls)) name → Stands k name (aliases_among ls)
 named_stands k name [] h = absurd h
-named_stands k name (l ∷ ls) h = by (is_kind k l.0) refl h
+named_stands k name (l ∷ ls) h =
+    by (is_kind k l.0) refl (λ g. let s = named_stands k name ls g in (s.0, has_back (alias_of l.0 l.1 l.1.atom) (aliases_among ls) s.0 s.1, s.2, s.3)) h
   where
-    rest : Has (names_in (of_kind k ls)) name → Stands k name (aliases_among (l ∷ ls))
-    rest g = let s = named_stands k name ls g in (s.0, has_back (alias_of l.0 l.1 l.1.atom) (aliases_among ls) s.0 s.1, s.2, s.3)
-
-    by : (b : Bool) → is_kind k l.0 ≡ b → Has (names_in (if b then l.1 ∷ of_kind k ls else of_kind k ls)) name → Stands k name (aliases_among (l ∷ ls))
-    by true t g = elim (has_append (name_in l.1.atom) (names_in (of_kind k ls)) name g) [
+    by : (b : Bool) → is_kind k l.0 ≡ b → (Has (names_in (of_kind k ls)) name → Stands k name (aliases_among (l ∷ ls)))
+        → Has (names_in (if b then l.1 ∷ of_kind k ls else of_kind k ls)) name → Stands k name (aliases_among (l ∷ ls))
+    by true t rest g = elim (has_append (name_in l.1.atom) (names_in (of_kind k ls)) name g) [
       | inl first ↦
           let s = stands_first l.0 name l.1 l.1.atom first in
           (s.0, has_front (alias_of l.0 l.1 l.1.atom) (aliases_among ls) s.0 s.1, s.2 ∙ sym (same_kind k l.0 t), s.3)
       | inr later ↦ rest later
     ]
-    by false t g = rest g
+    by false t rest g = rest g
 
 -- and the other way
 stands_named : (ls : List Listed) (a : AliasMember) → Has (aliases_among ls) a → Has (names_in (of_kind a.kind ls)) a.name
@@ -121,7 +120,7 @@ module _ (lines : List Line) where
   pub is_reachable : (line : Line) → Has lines line → LeadToCycle lines (rooted line.node) → HasReachableCycle lines
   is_reachable line stands h =
       let a : AliasMember = h.alias in
-      list_reaches lines line stands a.kind (called a.name) (λ name own. elim own [ inl e ↦ subst (Has (roots_in a.kind line.node)) e (stands_rooted line.node a h.among) | inr no ↦ absurd no ]) h.leads
+      list_reaches lines line stands a.kind (called a.name) (λ name own. elim own [ inl e ↦ subst (Has (roots_in a.kind line.node)) e (stands_rooted line.node a h.among) | inr none_other ↦ absurd none_other ]) h.leads
 
   pub reachable_is : HasReachableCycle lines → (line : Line) × Has lines line × LeadToCycle lines (rooted line.node)
   reachable_is h =

@@ -32,9 +32,9 @@ rooted node.Comment = []
 rooted (node.Include dir path) = []
 
 -- One of the aliases leads to a cyclic one.
-pub record LeadToCycle (lines : List Line) (as : List AliasMember) : Type 0 where
+pub record LeadToCycle (lines : List Line) (aliases : List AliasMember) : Type 0 where
   pub alias : AliasMember
-  pub among : Has as alias
+  pub among : Has aliases alias
   pub leads : LeadsToCycle alias.kind lines (called alias.name)
 
 -- No alias of any kind is open, and no atom is hit.

@@ -1,4 +1,4 @@
-use Rattle.std.proofs.Common.{◌≡◌, Some, None, sym, ap, subst, ◌∙◌, option_map}
+use Rattle.std.proofs.Common.{false, sym, ap, subst, ◌∙◌, option_map}
 use Rattle.sudoers_verdict.specs.declared.alias.Alias.{Alias}
 use Rattle.sudoers_verdict.specs.Search.{Settles}
 use Rattle.sudoers_verdict.proofs.Roots.{finds, ends_undefined, ends_flat}
