@@ -5,9 +5,9 @@ ghost use Rattle.sudoers_check.specs.Chains.{HasReachableCycle};
 ghost use Rattle.sudoers_verdict.specs.declared.verdict.AskFault.TheVariants.{Cycle, NoMemory};
 
 use std::alloc::Global;
-use sudoers_check::{Numbers, reachable_cycle};
+use sudoers_check::Numbers;
 use sudoers_tree::Policy;
-use sudoers_verdict::AskFault;
+use sudoers_verdict::{AskFault, reachable_cycle};
 
 /// Returns the numbers of the definitions of `policy`, none of whose reachable aliases is cyclic.
 ///

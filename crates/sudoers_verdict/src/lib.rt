@@ -2,6 +2,7 @@
 #![tactic(auto)]
 
 mod alias;
+mod cycle;
 mod deciding;
 mod kind;
 mod kinds;
@@ -10,6 +11,7 @@ mod policies;
 mod verdict;
 mod walk;
 
+pub use cycle::reachable_cycle;
 pub use deciding::decide;
 pub use kind::MemberKind;
 pub use kinds::{Commands, Groups, Hosts, Users};
