@@ -1,5 +1,5 @@
 -- Chains of steps.
-use Rattle.std.proofs.Common.{List, [], ◌∷◌, inl, refl}
+use Rattle.std.proofs.Common.{[], ◌∷◌, inl, refl}
 use Rattle.sudoers_check.specs.Chain.{Has, Chain, here, onward}
 
 -- a chain from some comes from more

@@ -7,12 +7,12 @@ use Rattle.sudoers_tree.specs.Line.{Line}
 use Rattle.sudoers_tree.specs.Definition.{definitions}
 use Rattle.sudoers_check.specs.Chain.{Has, Chain, here, onward}
 use Rattle.sudoers_check.proofs.Chains.{from_more}
+use Rattle.sudoers_check.proofs.Lists.{get-set}
 use Rattle.sudoers_verdict.specs.Flat.{Signed, signed, turn, IsFlat}
 use Rattle.sudoers_verdict.proofs.Depth.{FlatIn, none, one, many, is_flat}
 use Rattle.sudoers_verdict.specs.Search.{number_in, members_at, aliases_in, Leads, LeadsRound}
 use Rattle.sudoers_verdict.specs.Cycle.{LeadsToCycle}
 use Rattle.sudoers_verdict.proofs.Named.{round_is}
-use Rattle.sudoers_verdict.proofs.Places.{get-set}
 use Rattle.sudoers_verdict.proofs.Cycles.{front_none, front_some}
 use Rattle.sudoers_verdict.proofs.Numbered.{alias_some, alias_none, number_within}
 

@@ -1,6 +1,5 @@
 -- An alias that a line mentions leads to a cyclic one exactly if a reachable alias is cyclic.
-use Rattle.std.proofs.Common.{◌≡◌, ◌⊎◌, inl, inr, ℕ, ◌+◌, ◌<◌, ◌≤◌, Bool, true, false, List, [], ◌∷◌, length, Option, Some, None, Result, Ok, Err, IfOk, slice_get, if◌then◌else◌, refl, sym, ap, subst, ◌∙◌, arith}
-use Rattle.std.specs.List.{flat_map}
+use Rattle.std.proofs.Common.{◌≡◌, inl, inr, ℕ, ◌<◌, ◌≤◌, Bool, true, false, List, [], ◌∷◌, length, Some, None, slice_get, if◌then◌else◌, refl, sym, ap, subst, ◌∙◌, arith}
 use Rattle.std.proofs.lemmas.Option.{slice_get_within}
 use Rattle.sudoers_line.specs.declared.node.Kind.{Kind}
 use Rattle.sudoers_line.specs.declared.node.Atom.{Atom}
@@ -19,12 +18,10 @@ use Rattle.sudoers_check.specs.Numbers.{number_of}
 use Rattle.sudoers_check.proofs.Chains.{from_one}
 use Rattle.sudoers_check.proofs.Lists.{place_of}
 use Rattle.sudoers_check.proofs.Named.{has_append, has_front, has_back, flat_has, same_kind, kind_itself}
-use Rattle.sudoers_verdict.specs.declared.cycle.ByKind.{ByKind}
-use Rattle.sudoers_verdict.specs.declared.walk.Verdicts.{Verdicts}
 use Rattle.sudoers_verdict.specs.Cycle.{LeadsToCycle}
 use Rattle.sudoers_verdict.specs.Flat.{Signed, IsFlat, none, one, many}
-use Rattle.sudoers_verdict.specs.Search.{Remembers, FindsCycle, members_at}
-use Rattle.sudoers_verdict.specs.Roots.{alias_called, called, rooted, LeadToCycle, AreRemembered, Finds, Tells}
+use Rattle.sudoers_verdict.specs.Search.{FindsCycle, members_at}
+use Rattle.sudoers_verdict.specs.Roots.{alias_called, called, rooted, LeadToCycle}
 use Rattle.sudoers_verdict.proofs.Numbered.{alias_some, alias_none}
 use Rattle.sudoers_verdict.proofs.Straight.{list_reaches}
 use Rattle.sudoers_verdict.proofs.Whole.{to_cycle}
@@ -44,13 +41,6 @@ module _ (k : Kind) (lines : List Line) (name : List ℕ) where
     -- one whose members have a flat list
     pub ends_flat : (n : ℕ) → number_of k name (definitions lines) ≡ Some n → (fs : List Signed) → IsFlat k lines (members_at lines n) fs → LeadsToCycle k lines (called name) → ⊥
     ends_flat n e fs f = no_cycle (called name) _ (many (alias_called name) [] (members_at lines n) fs [] (alias_some k lines (atom.Alias name) n e) f none)
-
-  -- the verdicts of its kind among those of all
-  pub told : {E : Type 0} (verdicts : Verdicts) (known : ByKind) → (Remembers k lines (λ _. false) verdicts → AreRemembered lines known)
-      → (r : Result Bool E) → IfOk r (Finds k lines name verdicts) → IfOk r (Tells lines (LeadsToCycle k lines (called name)) known)
-  told verdicts known among (Ok true) h = h
-  told verdicts known among (Ok false) h = (among h.0, h.1)
-  told verdicts known among (Err x) h = tt
 
 -- ---- aliases and names
 

@@ -1,4 +1,4 @@
-use Rattle.std.proofs.Common.{List, true, false, length, refl, sym, subst, arith, get_or, below_more}
+use Rattle.std.proofs.Common.{List, true, false, refl, sym, subst, arith, get_or, below_more}
 use Rattle.std.proofs.lemmas.Bool.{false≢true}
 use Rattle.sudoers_rows.specs.View.{node_shown}
 use Rattle.sudoers_tree.specs.Line.{Line, line_in, lines_shown}
