@@ -1,6 +1,7 @@
 //! What lists of users, hosts and commands say, their aliases replaced.
 #![tactic(auto)]
 
+mod acyclic;
 mod alias;
 mod deciding;
 mod kind;
@@ -10,6 +11,7 @@ mod policies;
 mod verdict;
 mod walk;
 
+pub use acyclic::Acyclic;
 pub use deciding::decide;
 pub use kind::MemberKind;
 pub use kinds::{Commands, Groups, Hosts, Users};
