@@ -8,10 +8,10 @@ ghost use Rattle.sudoers_list.specs.Listing.{group_at, groups_at, groups_in};
 use std::alloc::{AllocError, Global};
 use sudoers_match::GroupPlace;
 use sudoers_rows::{GroupRow, HostGroup, Node, Rows};
-use sudoers_tree::Policy;
+use sudoers_verdict::Acyclic;
 
 /// Returns the host groups of each user specification.
-fn groups_in<'a>(alloc: Global, policy: &'a Policy) -> Result<Vec<Rows<'a, GroupRow>>, AllocError>
+fn groups_in<'a>(alloc: Global, policy: &Acyclic<'a>) -> Result<Vec<Rows<'a, GroupRow>>, AllocError>
     ensures { IfOk result (λ specs. map groups_shown specs.items ≡ groups_in policy.now) }
 {
     let mut specs = Vec::new(alloc);
@@ -40,7 +40,7 @@ fn group_at<'a>(specs: &[Rows<'a, GroupRow>], place: GroupPlace) -> Option<HostG
 /// Memory ran out.
 pub fn groups_at<'a>(
     alloc: Global,
-    policy: &'a Policy,
+    policy: &Acyclic<'a>,
     places: &[GroupPlace],
 ) -> Result<Vec<HostGroup<'a>>, AllocError>
     ensures { IfOk result (λ groups. map group_shown groups.items ≡ groups_at policy.now places.now) }

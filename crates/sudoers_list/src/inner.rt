@@ -17,14 +17,12 @@ ghost use Rattle.sudoers_list.specs.Inner.{IsInner, IsInnermost, Says, Speaks};
 ghost use Rattle.sudoers_list.specs.Inside.{inner_shown};
 
 use std::alloc::{AllocError, Global};
-use sudoers_check::Numbers;
 use sudoers_hits::{CommandLine, Request};
 use sudoers_line::{Items, Kind};
 use sudoers_match::join_words;
 use sudoers_rows::{Atom, Member, MemberRow, Rows, Tables};
-use sudoers_tree::Policy;
 use sudoers_verdict::{
-    Commands, Decision, Verdicts, flat_then_no_cycle, flattened_is_flat, one_flat,
+    Acyclic, Commands, Decision, Verdicts, flat_then_no_cycle, flattened_is_flat, one_flat,
 };
 
 /// A member of an alias.
@@ -42,38 +40,38 @@ struct Alias<'a> {
 }
 
 /// Returns the alias of commands that `member` names, if it is defined.
-fn find_alias<'a>(policy: &'a Policy, member: &Member<'a>) -> Option<Alias<'a>>
+fn find_alias<'a>(policy: &Acyclic<'a>, member: &Member<'a>) -> Option<Alias<'a>>
     ensures members { option_map (λ alias. members_shown alias.members) result ≡ alias_of OfCommands policy.now (atom_shown member.now.atom) }
     ensures name { IfSome result (λ alias. atom_shown member.now.atom ≡ AliasOf alias.name.now) }
 {
     let Atom::Alias(name) = member.atom else {
         return None;
     };
-    let members = policy.members(Kind::Cmnd, name)?;
+    let members = policy.policy().members(Kind::Cmnd, name)?;
     Some(Alias { name, members })
 }
 
 /// Returns whether the member of `row` says something of `command`.
 fn speaks<'a>(
     verdicts: &mut Verdicts<'a>,
-    numbers: &Numbers<'a>,
+    policy: &Acyclic<'a>,
     tables: &'a Tables,
     row: &MemberRow,
     command: &CommandLine,
 ) -> Result<bool, AllocError>
-    requires verdicts { Remembers OfCommands numbers.now.policy.now (command_hits command.now) verdicts.old }
-    requires flat { HasFlat numbers.now.policy.now (member_in tables.now row.now ∷ []) }
-    ensures kept { IfOk result (λ _. Remembers OfCommands numbers.now.policy.now (command_hits command.now) verdicts.new) }
-    ensures speaks { IfOk result (λ speaks. IsTrue speaks ↔ Speaks numbers.now.policy.now (command_hits command.now) (member_in tables.now row.now)) }
+    requires verdicts { Remembers OfCommands policy.now (command_hits command.now) verdicts.old }
+    requires flat { HasFlat policy.now (member_in tables.now row.now ∷ []) }
+    ensures kept { IfOk result (λ _. Remembers OfCommands policy.now (command_hits command.now) verdicts.new) }
+    ensures speaks { IfOk result (λ speaks. IsTrue speaks ↔ Speaks policy.now (command_hits command.now) (member_in tables.now row.now)) }
 {
-    numbers.policy.is_policy();
+    policy.is_acyclic();
     flat_then_no_cycle();
     one_flat();
     let member = Rows {
         tables,
         rows: std::slice::from_ref(row),
     };
-    match verdicts.latest::<Commands>(numbers, Kind::Cmnd, &member, command)? {
+    match verdicts.latest::<Commands>(policy.numbers(), Kind::Cmnd, &member, command)? {
         Decision::Latest(hit) => Ok(hit.is_some()),
         Decision::Cyclic => unreachable!(),
     }
@@ -82,20 +80,20 @@ fn speaks<'a>(
 /// Returns the last member of `members` that says something of `command`, if there is one.
 fn find_last<'a>(
     verdicts: &mut Verdicts<'a>,
-    numbers: &Numbers<'a>,
+    policy: &Acyclic<'a>,
     members: &Rows<'a, MemberRow>,
     command: &CommandLine,
 ) -> Result<Option<Member<'a>>, AllocError>
-    requires verdicts { Remembers OfCommands numbers.now.policy.now (command_hits command.now) verdicts.old }
-    requires flat { HasFlat numbers.now.policy.now (members_shown members.now) }
-    ensures kept { IfOk result (λ _. Remembers OfCommands numbers.now.policy.now (command_hits command.now) verdicts.new) }
-    ensures last { IfOk result (λ last. IsLast (Speaks numbers.now.policy.now (command_hits command.now)) (members_shown members.now) (option_map member_shown last)) }
+    requires verdicts { Remembers OfCommands policy.now (command_hits command.now) verdicts.old }
+    requires flat { HasFlat policy.now (members_shown members.now) }
+    ensures kept { IfOk result (λ _. Remembers OfCommands policy.now (command_hits command.now) verdicts.new) }
+    ensures last { IfOk result (λ last. IsLast (Speaks policy.now (command_hits command.now)) (members_shown members.now) (option_map member_shown last)) }
 {
     let mut last = None;
     let tables = members.tables;
     for row in members.rows {
         let member = tables.member(row);
-        if speaks(verdicts, numbers, tables, row, command)? {
+        if speaks(verdicts, policy, tables, row, command)? {
             last = Some(member);
         }
     }
@@ -105,23 +103,23 @@ fn find_last<'a>(
 /// Returns the member that decides of `command`, and the innermost alias in which it stands, where a rule names the alias `outer`.
 fn go_in<'a>(
     verdicts: &mut Verdicts<'a>,
-    numbers: &Numbers<'a>,
+    policy: &Acyclic<'a>,
     outer: &Alias<'a>,
     command: &CommandLine,
 ) -> Result<Inner<'a>, AllocError>
-    requires verdicts { Remembers OfCommands numbers.now.policy.now (command_hits command.now) verdicts.old }
-    requires defined { members_of OfCommands outer.now.name.now numbers.now.policy.now ≡ Some (members_shown outer.now.members) }
-    requires says { Says numbers.now.policy.now (command_hits command.now) (members_shown outer.now.members) }
-    requires within { IsWithin numbers.now.policy.now (length (definitions numbers.now.policy.now)) outer.now.name.now }
-    ensures { IfOk result (λ inner. IsInnermost numbers.now.policy.now (command_hits command.now) outer.now.name.now (inner_shown inner)) }
+    requires verdicts { Remembers OfCommands policy.now (command_hits command.now) verdicts.old }
+    requires defined { members_of OfCommands outer.now.name.now policy.now ≡ Some (members_shown outer.now.members) }
+    requires says { Says policy.now (command_hits command.now) (members_shown outer.now.members) }
+    requires within { IsWithin policy.now (length (definitions policy.now)) outer.now.name.now }
+    ensures { IfOk result (λ inner. IsInnermost policy.now (command_hits command.now) outer.now.name.now (inner_shown inner)) }
 {
     let mut alias = *outer;
-    let mut times = numbers.len();
+    let mut times = policy.numbers().len();
     while times > 0 {
-        let Some(member) = find_last(verdicts, numbers, &alias.members, command)? else {
+        let Some(member) = find_last(verdicts, policy, &alias.members, command)? else {
             unreachable!()
         };
-        let Some(next) = find_alias(numbers.policy, &member) else {
+        let Some(next) = find_alias(policy, &member) else {
             return Ok(Inner {
                 name: alias.name,
                 member,
@@ -140,23 +138,22 @@ fn go_in<'a>(
 /// Memory ran out.
 pub fn innermost<'a>(
     alloc: Global,
-    policy: &'a Policy,
+    policy: &Acyclic<'a>,
     request: &Request,
     member: &Member<'a>,
 ) -> Result<Option<Inner<'a>>, AllocError>
     requires { Speaks policy.now (command_hits (command_line request.now)) (member_shown member.now) }
     ensures { IfOk result (λ inner. IsInner policy.now (command_hits (command_line request.now)) (member_shown member.now) (option_map inner_shown inner)) }
 {
-    policy.is_policy();
+    policy.is_acyclic();
     flattened_is_flat();
     let Some(outer) = find_alias(policy, member) else {
         return Ok(None);
     };
-    let numbers = Numbers::new(alloc, policy)?;
-    let mut verdicts = Verdicts::new(alloc, &numbers)?;
+    let mut verdicts = policy.verdicts(alloc)?;
     let command = CommandLine {
         path: Items::from_slice(alloc, request.command.as_slice())?,
         args: Items::from_vec(join_words(alloc, request.args.as_slice())?),
     };
-    Ok(Some(go_in(&mut verdicts, &numbers, &outer, &command)?))
+    Ok(Some(go_in(&mut verdicts, policy, &outer, &command)?))
 }

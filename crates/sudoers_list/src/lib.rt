@@ -13,5 +13,5 @@ mod spot;
 pub use laws::{
     answer_has_rule, deciding_rule_is_listed, one_listing, one_reason, places_have_groups,
 };
-pub use listing::list;
-pub use reason::explain;
+pub use listing::{list, list_rules};
+pub use reason::{explain, explain_answer};

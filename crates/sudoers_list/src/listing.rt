@@ -4,16 +4,17 @@ ghost use Rattle.std.specs.Prelude.{◌≡◌, ◌⊎◌, ◌++◌, map, OnOk, I
 ghost use Rattle.sudoers_rows.specs.View.{group_shown};
 ghost use Rattle.sudoers_check.specs.Chains.{HasReachableCycle};
 ghost use Rattle.sudoers_verdict.specs.declared.verdict.AskFault.TheVariants.{Cycle, NoMemory};
+ghost use Rattle.sudoers_match.specs.Default.{IsRunasDefault};
 ghost use Rattle.sudoers_list.specs.Listing.{IsListing, heading, stop, verb};
 
 use crate::groups::groups_at;
 use crate::lines::{Names, append_groups, append_plain};
 use std::alloc::{AllocError, Global};
 use sudoers_hits::Who;
-use sudoers_match::{host_groups, runas_default};
+use sudoers_match::{find_default, find_host_groups};
 use sudoers_rows::{HostGroup, Tables};
 use sudoers_tree::Policy;
-use sudoers_verdict::AskFault;
+use sudoers_verdict::{Acyclic, AskFault};
 
 /// Returns what stands before the name of the host.
 fn verb(groups: &[HostGroup<'_>]) -> &'static [u8]
@@ -62,8 +63,27 @@ pub fn list(alloc: Global, policy: &Policy, who: &Who) -> Result<Vec<u8>, AskFau
     ensures straight { IfOk result (λ _. HasReachableCycle policy.now → ⊥) }
     ensures fault { IfErr result (λ fault. (fault ≡ NoMemory) ⊎ ((fault ≡ Cycle) × HasReachableCycle policy.now)) }
 {
-    let default = runas_default(alloc, policy, who)?;
-    let places = host_groups(alloc, policy, who)?;
+    let policy = Acyclic::new(alloc, policy)?;
+    let default = find_default(alloc, &policy, who)?;
+    Ok(list_rules(alloc, &policy, who, default)?)
+}
+
+/// Returns what `who` may run, as [`list`] does, of a policy none of whose reachable aliases is cyclic. `default` is the user as whom
+/// a command runs where nothing else is said.
+///
+/// # Errors
+///
+/// Memory ran out.
+pub fn list_rules(
+    alloc: Global,
+    policy: &Acyclic<'_>,
+    who: &Who,
+    default: &[u8],
+) -> Result<Vec<u8>, AllocError>
+    requires { IsRunasDefault policy.now who.now default.now }
+    ensures { IfOk result (λ text. IsListing policy.now who.now text.items) }
+{
+    let places = find_host_groups(alloc, policy, who)?;
     let groups = groups_at(alloc, policy, places.as_slice())?;
     let names = Names {
         user: who.user.name.as_slice(),

@@ -5,6 +5,7 @@ ghost use Rattle.std.specs.Option.{option_map};
 ghost use Rattle.sudoers_check.specs.Chains.{HasReachableCycle};
 ghost use Rattle.sudoers_verdict.specs.declared.verdict.AskFault.TheVariants.{Cycle, NoMemory};
 ghost use Rattle.sudoers_match.specs.Answer.{IsAnswer, answer_shown};
+ghost use Rattle.sudoers_match.specs.Default.{IsRunasDefault};
 ghost use Rattle.sudoers_match.specs.Heads.{Head as HeadOf};
 ghost use Rattle.sudoers_match.specs.IsHead.{IsHead};
 ghost use Rattle.sudoers_list.specs.Inside.{inner_shown, rule_held};
@@ -17,10 +18,10 @@ use crate::spot::{Spot, spot_in};
 use std::alloc::{AllocError, Global};
 use sudoers_hits::Request;
 use sudoers_line::Kind;
-use sudoers_match::{Answer, runas_default};
+use sudoers_match::{Answer, find_default};
 use sudoers_print::{append_member, append_number};
 use sudoers_tree::Policy;
-use sudoers_verdict::AskFault;
+use sudoers_verdict::{Acyclic, AskFault};
 
 /// Returns what stands before the rule.
 fn verdict_words(allow: bool) -> &'static [u8]
@@ -79,16 +80,16 @@ fn rule_text(
 fn append_inner(
     alloc: Global,
     out: &mut Vec<u8>,
-    policy: &Policy,
+    policy: &Acyclic<'_>,
     inner: &Inner<'_>,
     file: &[u8],
 ) -> Result<(), AllocError>
     ensures { OnOk result (out.new.items ≡ out.old.items ++ inner_text file.now policy.now (Some (inner_shown inner.now))) }
 {
-    let Some(place) = policy.definition(Kind::Cmnd, inner.name) else {
+    let Some(place) = policy.policy().definition(Kind::Cmnd, inner.name) else {
         return Ok(());
     };
-    let Some(at) = find_line(policy, place.line) else {
+    let Some(at) = find_line(policy.policy(), place.line) else {
         return Ok(());
     };
     let spot = spot_in(at.row, at.line.text, inner.member.start);
@@ -103,7 +104,7 @@ fn append_inner(
 /// Returns the rule that gives an answer as a text, and the member that decides if an alias hides it.
 fn answer_text(
     alloc: Global,
-    policy: &Policy,
+    policy: &Acyclic<'_>,
     request: &Request,
     names: &Names<'_>,
     answer: &Answer<'_>,
@@ -113,7 +114,7 @@ fn answer_text(
     requires user { names.now.user.now ≡ request.now.who.user.name }
     ensures { IfOk result (λ text. NamesRule policy.now request.now file.now names.now.default.now (answer_shown answer.now) text.items) }
 {
-    let Some(rule) = find_rule(policy, answer) else {
+    let Some(rule) = find_rule(policy.policy(), answer) else {
         return no_rule(alloc);
     };
     let mut text = rule_text(alloc, names, &rule, answer.allow, file)?;
@@ -142,13 +143,35 @@ pub fn explain(
     ensures straight { IfOk result (λ _. HasReachableCycle policy.now → ⊥) }
     ensures fault { IfErr result (λ fault. (fault ≡ NoMemory) ⊎ ((fault ≡ Cycle) × HasReachableCycle policy.now)) }
 {
-    let default = runas_default(alloc, policy, &request.who)?;
+    let policy = Acyclic::new(alloc, policy)?;
+    let default = find_default(alloc, &policy, &request.who)?;
+    Ok(explain_answer(alloc, &policy, request, default, answer, file)?)
+}
+
+/// Returns why `request` has this answer, as [`explain`] does, of a policy none of whose reachable aliases is cyclic. `default` is the
+/// user as whom a command runs where nothing else is said.
+///
+/// # Errors
+///
+/// Memory ran out.
+pub fn explain_answer(
+    alloc: Global,
+    policy: &Acyclic<'_>,
+    request: &Request,
+    default: &[u8],
+    answer: Option<Answer<'_>>,
+    file: &[u8],
+) -> Result<Vec<u8>, AllocError>
+    requires default { IsRunasDefault policy.now request.now.who default.now }
+    requires answer { IsAnswer policy.now request.now (option_map answer_shown answer) }
+    ensures { IfOk result (λ text. IsReason policy.now request.now file.now (option_map answer_shown answer.entry) text.items) }
+{
     let names = Names {
         user: request.who.user.name.as_slice(),
         default,
     };
     match answer {
-        Some(answer) => Ok(answer_text(alloc, policy, request, &names, &answer, file)?),
-        None => Ok(no_rule(alloc)?),
+        Some(answer) => answer_text(alloc, policy, request, &names, &answer, file),
+        None => no_rule(alloc),
     }
 }

@@ -8,9 +8,8 @@ ghost use Rattle.sudoers_match.specs.Allows.{Permits};
 ghost use Rattle.sudoers_match.specs.Straight.{IsStraight};
 
 use std::alloc::AllocError;
-use sudoers_check::Numbers;
 use sudoers_tree::{Kind, MemberRow, Rows};
-use sudoers_verdict::{Decision, Hit, MemberKind, Verdict, Verdicts, one_verdict};
+use sudoers_verdict::{Acyclic, Decision, Hit, MemberKind, Verdict, Verdicts, one_verdict};
 
 /// Returns what the list `members` says of `asked`. The list leads to no cyclic alias.
 ///
@@ -19,17 +18,17 @@ use sudoers_verdict::{Decision, Hit, MemberKind, Verdict, Verdicts, one_verdict}
 /// Memory ran out.
 pub fn find_hit<'a, K: MemberKind>(
     verdicts: &mut Verdicts<'a>,
-    numbers: &Numbers<'a>,
+    policy: &Acyclic<'a>,
     kind: Kind,
     members: &Rows<'_, MemberRow>,
     asked: &K::Asked,
 ) -> Result<Option<Hit>, AllocError>
-    requires verdicts { Remembers kind numbers.now.policy.now (K.test asked.now) verdicts.old }
-    requires straight { IsStraight kind numbers.now.policy.now (members_shown members.now) }
-    ensures kept { IfOk result (λ _. Remembers kind numbers.now.policy.now (K.test asked.now) verdicts.new) }
-    ensures hit { IfOk result (λ hit. IsLatest kind numbers.now.policy.now (K.test asked.now) (members_shown members.now) hit) }
+    requires verdicts { Remembers kind policy.now (K.test asked.now) verdicts.old }
+    requires straight { IsStraight kind policy.now (members_shown members.now) }
+    ensures kept { IfOk result (λ _. Remembers kind policy.now (K.test asked.now) verdicts.new) }
+    ensures hit { IfOk result (λ hit. IsLatest kind policy.now (K.test asked.now) (members_shown members.now) hit) }
 {
-    match verdicts.latest::<K>(numbers, kind, members, asked)? {
+    match verdicts.latest::<K>(policy.numbers(), kind, members, asked)? {
         Decision::Latest(hit) => Ok(hit),
         Decision::Cyclic => unreachable!(),
     }
@@ -42,18 +41,18 @@ pub fn find_hit<'a, K: MemberKind>(
 /// Memory ran out.
 pub fn allows<'a, K: MemberKind>(
     verdicts: &mut Verdicts<'a>,
-    numbers: &Numbers<'a>,
+    policy: &Acyclic<'a>,
     kind: Kind,
     members: &Rows<'_, MemberRow>,
     asked: &K::Asked,
 ) -> Result<bool, AllocError>
-    requires verdicts { Remembers kind numbers.now.policy.now (K.test asked.now) verdicts.old }
-    requires straight { IsStraight kind numbers.now.policy.now (members_shown members.now) }
-    ensures kept { IfOk result (λ _. Remembers kind numbers.now.policy.now (K.test asked.now) verdicts.new) }
-    ensures allowed { IfOk result (λ allowed. Permits kind numbers.now.policy.now (K.test asked.now) (members_shown members.now) allowed) }
+    requires verdicts { Remembers kind policy.now (K.test asked.now) verdicts.old }
+    requires straight { IsStraight kind policy.now (members_shown members.now) }
+    ensures kept { IfOk result (λ _. Remembers kind policy.now (K.test asked.now) verdicts.new) }
+    ensures allowed { IfOk result (λ allowed. Permits kind policy.now (K.test asked.now) (members_shown members.now) allowed) }
 {
     one_verdict();
-    let hit = find_hit::<K>(verdicts, numbers, kind, members, asked)?;
+    let hit = find_hit::<K>(verdicts, policy, kind, members, asked)?;
     match Verdict::of(hit) {
         Verdict::Allow => Ok(true),
         _ => Ok(false),

@@ -9,6 +9,7 @@ ghost use Rattle.sudoers_hits.specs.Hits.{user_hits, host_hits};
 ghost use Rattle.sudoers_check.specs.Chains.{HasReachableCycle};
 ghost use Rattle.sudoers_verdict.specs.declared.verdict.AskFault.TheVariants.{Cycle, TooLong, NoMemory};
 ghost use Rattle.sudoers_match.specs.Allows.{Allows};
+ghost use Rattle.sudoers_match.specs.Default.{IsRunasDefault};
 ghost use Rattle.sudoers_match.specs.Answer.{Answers, IsAnswer, answer_shown, argument_limit, joined};
 ghost use Rattle.sudoers_match.specs.Heads.{Head as HeadOf, no_head};
 ghost use Rattle.sudoers_match.specs.IsHead.{IsHead};
@@ -24,13 +25,12 @@ use crate::moment::is_in_time;
 use crate::question::{Asked, Question};
 use crate::request::join_words;
 use crate::rules::{Answer, Place, tell};
-use crate::straight::number_straight;
 use std::alloc::{AllocError, Global};
 use sudoers_hits::{CommandLine, Request};
 use sudoers_line::Items;
 use sudoers_rows::HostGroup;
 use sudoers_tree::{GroupRow, Kind, MemberRow, Node, Policy, Rows};
-use sudoers_verdict::{AskFault, Commands, Hosts, Users, Verdicts, flat_or_cycle, one_flat};
+use sudoers_verdict::{Acyclic, AskFault, Commands, Hosts, Users, flat_or_cycle, one_flat};
 
 /// The greatest length of the arguments of a request, joined by single spaces.
 const ARGUMENT_LIMIT: usize = 65_536;
@@ -53,7 +53,28 @@ pub fn answer<'a>(
     ensures fault { IfErr result (λ fault. (fault ≡ NoMemory) ⊎ (((fault ≡ Cycle) × HasReachableCycle policy.now)
         ⊎ ((fault ≡ TooLong) × (HasReachableCycle policy.now → ⊥) × (argument_limit < length (joined request.now.args))))) }
 {
-    let numbers = number_straight(alloc, policy)?;
+    let policy = Acyclic::new(alloc, policy)?;
+    let default = find_default(alloc, &policy, &request.who)?;
+    find_answer(alloc, &policy, request, default)
+}
+
+/// Returns what [`answer`] does, of a policy none of whose reachable aliases is cyclic. `default` is the user as whom a command runs
+/// where nothing else is said.
+///
+/// # Errors
+///
+/// `TooLong`: the arguments, joined by single spaces, are longer than 65,536 bytes. `NoMemory`: memory ran out.
+pub fn find_answer<'a>(
+    alloc: Global,
+    policy: &Acyclic<'a>,
+    request: &Request,
+    default: &'a [u8],
+) -> Result<Option<Answer<'a>>, AskFault>
+    requires { IsRunasDefault policy.now request.now.who default.now }
+    ensures answer { IfOk result (λ answer. IsAnswer policy.now request.now (option_map answer_shown answer)) }
+    ensures short { IfOk result (λ _. length (joined request.now.args) ≤ argument_limit) }
+    ensures fault { IfErr result (λ fault. (fault ≡ NoMemory) ⊎ ((fault ≡ TooLong) × (argument_limit < length (joined request.now.args)))) }
+{
     let args = join_words(alloc, request.args.as_slice())?;
     if args.len() > ARGUMENT_LIMIT {
         return Err(AskFault::TooLong);
@@ -62,31 +83,28 @@ pub fn answer<'a>(
         path: Items::from_slice(alloc, request.command.as_slice())?,
         args: Items::from_vec(args),
     };
-    let mut users = Verdicts::new(alloc, &numbers)?;
-    let mut hosts = Verdicts::new(alloc, &numbers)?;
-    let default = find_default(&mut users, &mut hosts, &numbers, &request.who)?;
-    let mut question = Question::new(alloc, &numbers, request, default, users, hosts)?;
+    let mut question = Question::new(alloc, policy, request, default)?;
     let asked = Asked {
-        numbers: &numbers,
+        policy,
         request,
         command: &command,
     };
-    Ok(find_answer(&mut question, &asked)?)
+    Ok(answer_in_policy(&mut question, &asked)?)
 }
 
 /// Returns the answer of the last row that fits.
-fn find_answer<'a>(
+fn answer_in_policy<'a>(
     question: &mut Question<'a>,
     asked: &Asked<'a, '_>,
 ) -> Result<Option<Answer<'a>>, AllocError>
-    requires question { IsQuestion asked.now.numbers.now.policy.now asked.now.request.now question.old }
-    requires straight { HasReachableCycle asked.now.numbers.now.policy.now → ⊥ }
-    ensures { IfOk result (λ answer. IsAnswer asked.now.numbers.now.policy.now asked.now.request.now (option_map answer_shown answer)) }
+    requires { IsQuestion asked.now.policy.now asked.now.request.now question.old }
+    ensures { IfOk result (λ answer. IsAnswer asked.now.policy.now asked.now.request.now (option_map answer_shown answer)) }
 {
+    asked.policy.is_acyclic();
     flat_or_cycle();
     let mut latest = None;
     let mut spec = 0;
-    let lines = asked.numbers.policy.lines();
+    let lines = asked.policy.lines();
     for row in lines.rows {
         if let Node::Spec { users, groups } = lines.tables.node(&row.node) {
             let found = answer_in_spec(question, asked, spec, &users, &groups)?;
@@ -105,16 +123,16 @@ fn answer_in_spec<'a>(
     users: &Rows<'_, MemberRow>,
     groups: &Rows<'a, GroupRow>,
 ) -> Result<Option<Answer<'a>>, AllocError>
-    requires question { IsQuestion asked.now.numbers.now.policy.now asked.now.request.now question.old }
-    requires users { IsStraight OfUsers asked.now.numbers.now.policy.now (members_shown users.now) }
-    requires groups { GroupsAreStraight asked.now.numbers.now.policy.now (groups_shown groups.now) }
-    ensures kept { IfOk result (λ _. IsQuestion asked.now.numbers.now.policy.now asked.now.request.now question.new) }
+    requires question { IsQuestion asked.now.policy.now asked.now.request.now question.old }
+    requires users { IsStraight OfUsers asked.now.policy.now (members_shown users.now) }
+    requires groups { GroupsAreStraight asked.now.policy.now (groups_shown groups.now) }
+    ensures kept { IfOk result (λ _. IsQuestion asked.now.policy.now asked.now.request.now question.new) }
     ensures answer { IfOk result (λ answer. (rows : List Row)
-        → SpecRows asked.now.numbers.now.policy.now spec (spec_of (members_shown users.now) (groups_shown groups.now)) rows
-        → Answers asked.now.numbers.now.policy.now asked.now.request.now rows (option_map answer_shown answer)) }
+        → SpecRows asked.now.policy.now spec (spec_of (members_shown users.now) (groups_shown groups.now)) rows
+        → Answers asked.now.policy.now asked.now.request.now rows (option_map answer_shown answer)) }
 {
     let user = &asked.request.who.user;
-    if !allows::<Users>(&mut question.users, asked.numbers, Kind::User, users, user)? {
+    if !allows::<Users>(&mut question.users, asked.policy, Kind::User, users, user)? {
         return Ok(None);
     }
     let mut latest = None;
@@ -138,19 +156,19 @@ fn answer_in_group<'a>(
     group: &HostGroup<'a>,
     head: &mut Head<'a>,
 ) -> Result<Option<Answer<'a>>, AllocError>
-    requires question { IsQuestion asked.now.numbers.now.policy.now asked.now.request.now question.old }
-    requires straight { GroupIsStraight asked.now.numbers.now.policy.now (group_shown group.now) }
+    requires question { IsQuestion asked.now.policy.now asked.now.request.now question.old }
+    requires straight { GroupIsStraight asked.now.policy.now (group_shown group.now) }
     requires head { IsHead head.old no_head }
-    ensures kept { IfOk result (λ _. IsQuestion asked.now.numbers.now.policy.now asked.now.request.now question.new) }
+    ensures kept { IfOk result (λ _. IsQuestion asked.now.policy.now asked.now.request.now question.new) }
     ensures answer { IfOk result (λ answer. (users : List MemberOf)
-        → Allows OfUsers asked.now.numbers.now.policy.now (user_hits asked.now.request.now.who.user) users
-        → (rows : List Row) → GroupRows asked.now.numbers.now.policy.now spec users host_group (group_shown group.now) rows
-        → Answers asked.now.numbers.now.policy.now asked.now.request.now rows (option_map answer_shown answer)) }
+        → Allows OfUsers asked.now.policy.now (user_hits asked.now.request.now.who.user) users
+        → (rows : List Row) → GroupRows asked.now.policy.now spec users host_group (group_shown group.now) rows
+        → Answers asked.now.policy.now asked.now.request.now rows (option_map answer_shown answer)) }
 {
     let who = &asked.request.who;
     if !allows::<Hosts>(
         &mut question.hosts,
-        asked.numbers,
+        asked.policy,
         Kind::Host,
         &group.hosts,
         who,
@@ -189,11 +207,11 @@ fn permits_runas<'a>(
     head: &Head<'a>,
     permitted: &mut Option<bool>,
 ) -> Result<bool, AllocError>
-    requires question { IsQuestion asked.now.numbers.now.policy.now asked.now.request.now question.old }
-    requires straight { RunasIsStraight asked.now.numbers.now.policy.now (option_map runas_shown head.now.runas) }
-    requires permitted { PermittedIs asked.now.numbers.now.policy.now asked.now.request.now (option_map runas_shown head.now.runas) permitted.old }
-    ensures kept { IfOk result (λ _. IsQuestion asked.now.numbers.now.policy.now asked.now.request.now question.new) }
-    ensures permits { IfOk result (λ allowed. RunasPermits asked.now.numbers.now.policy.now asked.now.request.now.who asked.now.request.now.target asked.now.request.now.target_group (option_map runas_shown head.now.runas) allowed) }
+    requires question { IsQuestion asked.now.policy.now asked.now.request.now question.old }
+    requires straight { RunasIsStraight asked.now.policy.now (option_map runas_shown head.now.runas) }
+    requires permitted { PermittedIs asked.now.policy.now asked.now.request.now (option_map runas_shown head.now.runas) permitted.old }
+    ensures kept { IfOk result (λ _. IsQuestion asked.now.policy.now asked.now.request.now question.new) }
+    ensures permits { IfOk result (λ allowed. RunasPermits asked.now.policy.now asked.now.request.now.who asked.now.request.now.target asked.now.request.now.target_group (option_map runas_shown head.now.runas) allowed) }
     ensures permitted { IfOk result (λ allowed. permitted.new ≡ Some allowed) }
 {
     if let Some(allowed) = *permitted {
@@ -214,18 +232,18 @@ fn answer_of_command<'a>(
     permitted: &mut Option<bool>,
     member: &Rows<'_, MemberRow>,
 ) -> Result<Option<Answer<'a>>, AllocError>
-    requires question { IsQuestion asked.now.numbers.now.policy.now asked.now.request.now question.old }
-    requires runas { RunasIsStraight asked.now.numbers.now.policy.now (option_map runas_shown head.now.runas) }
-    requires permitted { PermittedIs asked.now.numbers.now.policy.now asked.now.request.now (option_map runas_shown head.now.runas) permitted.old }
-    requires member { IsStraight OfCommands asked.now.numbers.now.policy.now (members_shown member.now) }
-    ensures kept { IfOk result (λ _. IsQuestion asked.now.numbers.now.policy.now asked.now.request.now question.new) }
-    ensures permitted { IfOk result (λ _. PermittedIs asked.now.numbers.now.policy.now asked.now.request.now (option_map runas_shown head.now.runas) permitted.new) }
+    requires question { IsQuestion asked.now.policy.now asked.now.request.now question.old }
+    requires runas { RunasIsStraight asked.now.policy.now (option_map runas_shown head.now.runas) }
+    requires permitted { PermittedIs asked.now.policy.now asked.now.request.now (option_map runas_shown head.now.runas) permitted.old }
+    requires member { IsStraight OfCommands asked.now.policy.now (members_shown member.now) }
+    ensures kept { IfOk result (λ _. IsQuestion asked.now.policy.now asked.now.request.now question.new) }
+    ensures permitted { IfOk result (λ _. PermittedIs asked.now.policy.now asked.now.request.now (option_map runas_shown head.now.runas) permitted.new) }
     ensures answer { IfOk result (λ answer. (users hosts : List MemberOf)
-        → Allows OfUsers asked.now.numbers.now.policy.now (user_hits asked.now.request.now.who.user) users
-        → Allows OfHosts asked.now.numbers.now.policy.now (host_hits asked.now.request.now.who) hosts
+        → Allows OfUsers asked.now.policy.now (user_hits asked.now.request.now.who.user) users
+        → Allows OfHosts asked.now.policy.now (host_hits asked.now.request.now.who) hosts
         → (h : HeadOf) → IsHead head.now h → (m : MemberOf) → members_shown member.now ≡ m ∷ []
-        → (rows : List Row) → CommandRows asked.now.numbers.now.policy.now place.spec place.host_group users hosts place.command (h, m) rows
-        → Answers asked.now.numbers.now.policy.now asked.now.request.now rows (option_map answer_shown answer)) }
+        → (rows : List Row) → CommandRows asked.now.policy.now place.spec place.host_group users hosts place.command (h, m) rows
+        → Answers asked.now.policy.now asked.now.request.now rows (option_map answer_shown answer)) }
 {
     one_flat();
     if !is_in_time(asked.request.moment, &head.options) {
@@ -236,7 +254,7 @@ fn answer_of_command<'a>(
     }
     let hit = find_hit::<Commands>(
         &mut question.commands,
-        asked.numbers,
+        asked.policy,
         Kind::Cmnd,
         member,
         asked.command,

@@ -15,12 +15,10 @@ ghost use Rattle.sudoers_match.specs.Asked.{Counts, IsLatestDefault};
 ghost use Rattle.sudoers_match.specs.Straight.{ScopeIsStraight};
 
 use crate::allowing::allows;
-use crate::straight::number_straight;
 use std::alloc::{AllocError, Global};
-use sudoers_check::Numbers;
 use sudoers_hits::Who;
 use sudoers_tree::{Kind, Node, Operator, Param, ParamRow, Policy, Rows, Scope, Setting};
-use sudoers_verdict::{AskFault, Hosts, Users, Verdicts};
+use sudoers_verdict::{Acyclic, AskFault, Hosts, Users, Verdicts};
 
 /// Returns the value to which `param` sets runas_default, if it sets it.
 fn read_setting<'a>(param: &Param<'a>) -> Option<&'a [u8]>
@@ -66,35 +64,30 @@ pub fn runas_default<'a>(alloc: Global, policy: &'a Policy, who: &Who) -> Result
     ensures straight { IfOk result (λ _. HasReachableCycle policy.now → ⊥) }
     ensures fault { IfErr result (λ fault. (fault ≡ NoMemory) ⊎ ((fault ≡ Cycle) × HasReachableCycle policy.now)) }
 {
-    let numbers = number_straight(alloc, policy)?;
-    let mut users_said = Verdicts::new(alloc, &numbers)?;
-    let mut hosts_said = Verdicts::new(alloc, &numbers)?;
-    Ok(find_default(&mut users_said, &mut hosts_said, &numbers, who)?)
+    let policy = Acyclic::new(alloc, policy)?;
+    Ok(find_default(alloc, &policy, who)?)
 }
 
-/// Returns the same in a policy none of whose reachable aliases is cyclic.
+/// Returns what [`runas_default`] does, of a policy none of whose reachable aliases is cyclic.
 ///
 /// # Errors
 ///
 /// Memory ran out.
 pub fn find_default<'a>(
-    users: &mut Verdicts<'a>,
-    hosts: &mut Verdicts<'a>,
-    numbers: &Numbers<'a>,
+    alloc: Global,
+    policy: &Acyclic<'a>,
     who: &Who,
 ) -> Result<&'a [u8], AllocError>
-    requires users { Remembers OfUsers numbers.now.policy.now (user_hits who.now.user) users.old }
-    requires hosts { Remembers OfHosts numbers.now.policy.now (host_hits who.now) hosts.old }
-    requires straight { HasReachableCycle numbers.now.policy.now → ⊥ }
-    ensures users { IfOk result (λ _. Remembers OfUsers numbers.now.policy.now (user_hits who.now.user) users.new) }
-    ensures hosts { IfOk result (λ _. Remembers OfHosts numbers.now.policy.now (host_hits who.now) hosts.new) }
-    ensures name { IfOk result (λ name. IsRunasDefault numbers.now.policy.now who.now name.now) }
+    ensures { IfOk result (λ name. IsRunasDefault policy.now who.now name.now) }
 {
+    policy.is_acyclic();
+    let mut users = policy.verdicts(alloc)?;
+    let mut hosts = policy.verdicts(alloc)?;
     let mut name: &[u8] = b"root";
-    let lines = numbers.policy.lines();
+    let lines = policy.lines();
     for row in lines.rows {
         if let Node::Defaults { scope, params } = lines.tables.node(&row.node) {
-            let latest = find_setting_for(users, hosts, numbers, who, &scope, &params)?;
+            let latest = find_setting_for(&mut users, &mut hosts, policy, who, &scope, &params)?;
             name = latest.unwrap_or(name);
         }
     }
@@ -105,22 +98,22 @@ pub fn find_default<'a>(
 fn find_setting_for<'a>(
     users: &mut Verdicts<'a>,
     hosts: &mut Verdicts<'a>,
-    numbers: &Numbers<'a>,
+    policy: &Acyclic<'a>,
     who: &Who,
     scope: &Option<Scope<'_>>,
     params: &Rows<'a, ParamRow>,
 ) -> Result<Option<&'a [u8]>, AllocError>
-    requires users { Remembers OfUsers numbers.now.policy.now (user_hits who.now.user) users.old }
-    requires hosts { Remembers OfHosts numbers.now.policy.now (host_hits who.now) hosts.old }
-    requires straight { ScopeIsStraight numbers.now.policy.now (option_map scope_shown scope.now) }
-    ensures users { IfOk result (λ _. Remembers OfUsers numbers.now.policy.now (user_hits who.now.user) users.new) }
-    ensures hosts { IfOk result (λ _. Remembers OfHosts numbers.now.policy.now (host_hits who.now) hosts.new) }
-    ensures latest { IfOk result (λ latest. IsLatestDefault numbers.now.policy.now who.now (option_map scope_shown scope.now) (params_shown params.now) (option_map (λ (name : Bor (List ℕ)). name.now) latest)) }
+    requires users { Remembers OfUsers policy.now (user_hits who.now.user) users.old }
+    requires hosts { Remembers OfHosts policy.now (host_hits who.now) hosts.old }
+    requires straight { ScopeIsStraight policy.now (option_map scope_shown scope.now) }
+    ensures users { IfOk result (λ _. Remembers OfUsers policy.now (user_hits who.now.user) users.new) }
+    ensures hosts { IfOk result (λ _. Remembers OfHosts policy.now (host_hits who.now) hosts.new) }
+    ensures latest { IfOk result (λ latest. IsLatestDefault policy.now who.now (option_map scope_shown scope.now) (params_shown params.now) (option_map (λ (name : Bor (List ℕ)). name.now) latest)) }
 {
     let Some(name) = find_setting(params) else {
         return Ok(None);
     };
-    if applies(users, hosts, numbers, who, scope)? {
+    if applies(users, hosts, policy, who, scope)? {
         Ok(Some(name))
     } else {
         Ok(None)
@@ -131,23 +124,23 @@ fn find_setting_for<'a>(
 fn applies<'a>(
     users: &mut Verdicts<'a>,
     hosts: &mut Verdicts<'a>,
-    numbers: &Numbers<'a>,
+    policy: &Acyclic<'a>,
     who: &Who,
     scope: &Option<Scope<'_>>,
 ) -> Result<bool, AllocError>
-    requires users { Remembers OfUsers numbers.now.policy.now (user_hits who.now.user) users.old }
-    requires hosts { Remembers OfHosts numbers.now.policy.now (host_hits who.now) hosts.old }
-    requires straight { ScopeIsStraight numbers.now.policy.now (option_map scope_shown scope.now) }
-    ensures users { IfOk result (λ _. Remembers OfUsers numbers.now.policy.now (user_hits who.now.user) users.new) }
-    ensures hosts { IfOk result (λ _. Remembers OfHosts numbers.now.policy.now (host_hits who.now) hosts.new) }
-    ensures counted { IfOk result (λ counted. Counts numbers.now.policy.now who.now (option_map scope_shown scope.now) counted) }
+    requires users { Remembers OfUsers policy.now (user_hits who.now.user) users.old }
+    requires hosts { Remembers OfHosts policy.now (host_hits who.now) hosts.old }
+    requires straight { ScopeIsStraight policy.now (option_map scope_shown scope.now) }
+    ensures users { IfOk result (λ _. Remembers OfUsers policy.now (user_hits who.now.user) users.new) }
+    ensures hosts { IfOk result (λ _. Remembers OfHosts policy.now (host_hits who.now) hosts.new) }
+    ensures counted { IfOk result (λ counted. Counts policy.now who.now (option_map scope_shown scope.now) counted) }
 {
     let Some(scope) = scope else {
         return Ok(true);
     };
     match scope.kind {
-        Kind::User => allows::<Users>(users, numbers, Kind::User, &scope.members, &who.user),
-        Kind::Host => allows::<Hosts>(hosts, numbers, Kind::Host, &scope.members, who),
+        Kind::User => allows::<Users>(users, policy, Kind::User, &scope.members, &who.user),
+        Kind::Host => allows::<Hosts>(hosts, policy, Kind::Host, &scope.members, who),
         Kind::Runas | Kind::Cmnd => Ok(false),
     }
 }

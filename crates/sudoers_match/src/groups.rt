@@ -12,12 +12,10 @@ ghost use Rattle.sudoers_match.specs.Asked.{IsAllAdded};
 ghost use Rattle.sudoers_match.specs.Straight.{GroupsAreStraight};
 
 use crate::allowing::allows;
-use crate::straight::number_straight;
 use std::alloc::{AllocError, Global};
-use sudoers_check::Numbers;
 use sudoers_hits::Who;
 use sudoers_tree::{GroupRow, Kind, Node, Policy, Rows};
-use sudoers_verdict::{AskFault, Hosts, Users, Verdicts};
+use sudoers_verdict::{Acyclic, AskFault, Hosts, Users, Verdicts};
 
 /// Where a host group stands (sudoers(5), User specification).
 #[derive(Clone, Copy, Debug, PartialEq, Eq)]
@@ -38,16 +36,32 @@ pub fn host_groups(alloc: Global, policy: &Policy, who: &Who) -> Result<Vec<Grou
     ensures straight { IfOk result (λ _. HasReachableCycle policy.now → ⊥) }
     ensures fault { IfErr result (λ fault. (fault ≡ NoMemory) ⊎ ((fault ≡ Cycle) × HasReachableCycle policy.now)) }
 {
-    let numbers = number_straight(alloc, policy)?;
-    let mut users_said = Verdicts::new(alloc, &numbers)?;
-    let mut hosts_said = Verdicts::new(alloc, &numbers)?;
+    let policy = Acyclic::new(alloc, policy)?;
+    Ok(find_host_groups(alloc, &policy, who)?)
+}
+
+/// Returns what [`host_groups`] does, of a policy none of whose reachable aliases is cyclic.
+///
+/// # Errors
+///
+/// Memory ran out.
+pub fn find_host_groups(
+    alloc: Global,
+    policy: &Acyclic<'_>,
+    who: &Who,
+) -> Result<Vec<GroupPlace>, AllocError>
+    ensures { IfOk result (λ places. AreHostGroups policy.now who.now places.items) }
+{
+    policy.is_acyclic();
+    let mut users_said = policy.verdicts(alloc)?;
+    let mut hosts_said = policy.verdicts(alloc)?;
     let mut places = Vec::new(alloc);
     let mut spec = 0;
     let lines = policy.lines();
     for row in lines.rows {
         if let Node::Spec { users, groups } = lines.tables.node(&row.node) {
-            if allows::<Users>(&mut users_said, &numbers, Kind::User, &users, &who.user)? {
-                add_groups(&mut places, &mut hosts_said, &numbers, who, spec, &groups)?;
+            if allows::<Users>(&mut users_said, policy, Kind::User, &users, &who.user)? {
+                add_groups(&mut places, &mut hosts_said, policy, who, spec, &groups)?;
             }
             spec += 1;
         }
@@ -59,20 +73,20 @@ pub fn host_groups(alloc: Global, policy: &Policy, who: &Who) -> Result<Vec<Grou
 fn add_groups<'a>(
     places: &mut Vec<GroupPlace>,
     verdicts: &mut Verdicts<'a>,
-    numbers: &Numbers<'a>,
+    policy: &Acyclic<'a>,
     who: &Who,
     spec: usize,
     groups: &Rows<'_, GroupRow>,
 ) -> Result<(), AllocError>
-    requires verdicts { Remembers OfHosts numbers.now.policy.now (host_hits who.now) verdicts.old }
-    requires straight { GroupsAreStraight numbers.now.policy.now (groups_shown groups.now) }
-    ensures kept { IfOk result (λ _. Remembers OfHosts numbers.now.policy.now (host_hits who.now) verdicts.new) }
-    ensures added { IfOk result (λ _. IsAllAdded (GroupPlaces numbers.now.policy.now who.now spec) (groups_shown groups.now) places.old.items places.new.items) }
+    requires verdicts { Remembers OfHosts policy.now (host_hits who.now) verdicts.old }
+    requires straight { GroupsAreStraight policy.now (groups_shown groups.now) }
+    ensures kept { IfOk result (λ _. Remembers OfHosts policy.now (host_hits who.now) verdicts.new) }
+    ensures added { IfOk result (λ _. IsAllAdded (GroupPlaces policy.now who.now spec) (groups_shown groups.now) places.old.items places.new.items) }
 {
     let tables = groups.tables;
     for (host_group, row) in groups.rows.iter().enumerate() {
         let group = tables.group(row);
-        if allows::<Hosts>(verdicts, numbers, Kind::Host, &group.hosts, who)? {
+        if allows::<Hosts>(verdicts, policy, Kind::Host, &group.hosts, who)? {
             push_place(places, GroupPlace { spec, host_group })?;
         }
     }

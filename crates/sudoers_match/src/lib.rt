@@ -12,12 +12,11 @@ mod policies;
 mod question;
 mod request;
 mod rules;
-mod straight;
 mod tags;
 
-pub use answering::answer;
-pub use defaults::runas_default;
-pub use groups::{GroupPlace, host_groups};
+pub use answering::{answer, find_answer};
+pub use defaults::{find_default, runas_default};
+pub use groups::{GroupPlace, find_host_groups, host_groups};
 pub use head::Head;
 pub use options::Options;
 pub use policies::{

@@ -15,16 +15,15 @@ ghost use Rattle.sudoers_match.specs.Straight.{IsStraight, RunasIsStraight};
 
 use crate::allowing::{allows, find_hit};
 use std::alloc::{AllocError, Global};
-use sudoers_check::Numbers;
 use sudoers_hits::{CommandLine, Group, Request, belongs_to_number, is_same_name};
 use sudoers_rows::RunasSpec;
 use sudoers_tree::{Kind, MemberRow, Rows};
-use sudoers_verdict::{Groups, Users, Verdict, Verdicts, one_verdict};
+use sudoers_verdict::{Acyclic, Groups, Users, Verdict, Verdicts, one_verdict};
 
 /// A request to a policy.
 #[derive(Clone, Copy)]
 pub struct Asked<'a, 'b> {
-    pub numbers: &'b Numbers<'a>,
+    pub policy: &'b Acyclic<'a>,
     pub request: &'b Request,
     /// The command with its arguments, joined.
     pub command: &'b CommandLine,
@@ -47,27 +46,26 @@ pub struct Question<'a> {
 }
 
 impl<'a> Question<'a> {
-    /// Returns a question of which the verdicts on users and hosts are there already.
+    /// Returns a question of which no verdict is known. `default` is the user as whom a command runs where nothing else is said.
     ///
     /// # Errors
     ///
     /// Memory ran out.
     pub fn new(
         alloc: Global,
-        numbers: &Numbers<'a>,
+        policy: &Acyclic<'a>,
         request: &Request,
         default: &'a [u8],
-        users: Verdicts<'a>,
-        hosts: Verdicts<'a>,
     ) -> Result<Question<'a>, AllocError>
-        ensures { IfOk result (λ question. IsRunasDefault numbers.now.policy.now request.now.who default.now
-            → Remembers OfUsers numbers.now.policy.now (user_hits request.now.who.user) users.entry
-            → Remembers OfHosts numbers.now.policy.now (host_hits request.now.who) hosts.entry → IsQuestion numbers.now.policy.now request.now question) }
+        requires { IsRunasDefault policy.now request.now.who default.now }
+        ensures { IfOk result (λ question. IsQuestion policy.now request.now question) }
     {
         let own = is_among(request.target.groups.as_slice(), &request.target_group);
-        let targets = Verdicts::new(alloc, numbers)?;
-        let groups = Verdicts::new(alloc, numbers)?;
-        let commands = Verdicts::new(alloc, numbers)?;
+        let users = policy.verdicts(alloc)?;
+        let hosts = policy.verdicts(alloc)?;
+        let targets = policy.verdicts(alloc)?;
+        let groups = policy.verdicts(alloc)?;
+        let commands = policy.verdicts(alloc)?;
         Ok(Question {
             default,
             users,
@@ -89,10 +87,10 @@ impl<'a> Question<'a> {
         asked: &Asked<'a, '_>,
         runas: &Option<RunasSpec<'_>>,
     ) -> Result<bool, AllocError>
-        requires question { IsQuestion asked.now.numbers.now.policy.now asked.now.request.now self.old }
-        requires straight { RunasIsStraight asked.now.numbers.now.policy.now (option_map runas_shown runas.now) }
-        ensures kept { IfOk result (λ _. IsQuestion asked.now.numbers.now.policy.now asked.now.request.now self.new) }
-        ensures permits { IfOk result (λ allowed. RunasPermits asked.now.numbers.now.policy.now asked.now.request.now.who asked.now.request.now.target asked.now.request.now.target_group (option_map runas_shown runas.now) allowed) }
+        requires question { IsQuestion asked.now.policy.now asked.now.request.now self.old }
+        requires straight { RunasIsStraight asked.now.policy.now (option_map runas_shown runas.now) }
+        ensures kept { IfOk result (λ _. IsQuestion asked.now.policy.now asked.now.request.now self.new) }
+        ensures permits { IfOk result (λ allowed. RunasPermits asked.now.policy.now asked.now.request.now.who asked.now.request.now.target asked.now.request.now.target_group (option_map runas_shown runas.now) allowed) }
     {
         let request = asked.request;
         let own = self.own;
@@ -123,14 +121,14 @@ impl<'a> Question<'a> {
         asked: &Asked<'a, '_>,
         users: &Rows<'_, MemberRow>,
     ) -> Result<bool, AllocError>
-        requires question { IsQuestion asked.now.numbers.now.policy.now asked.now.request.now self.old }
-        requires straight { IsStraight OfRunas asked.now.numbers.now.policy.now (members_shown users.now) }
-        ensures kept { IfOk result (λ _. IsQuestion asked.now.numbers.now.policy.now asked.now.request.now self.new) }
-        ensures permits { IfOk result (λ allowed. Permits OfRunas asked.now.numbers.now.policy.now (user_hits asked.now.request.now.target) (members_shown users.now) allowed) }
+        requires question { IsQuestion asked.now.policy.now asked.now.request.now self.old }
+        requires straight { IsStraight OfRunas asked.now.policy.now (members_shown users.now) }
+        ensures kept { IfOk result (λ _. IsQuestion asked.now.policy.now asked.now.request.now self.new) }
+        ensures permits { IfOk result (λ allowed. Permits OfRunas asked.now.policy.now (user_hits asked.now.request.now.target) (members_shown users.now) allowed) }
     {
         allows::<Users>(
             &mut self.targets,
-            asked.numbers,
+            asked.policy,
             Kind::Runas,
             users,
             &asked.request.target,
@@ -144,17 +142,17 @@ impl<'a> Question<'a> {
         asked: &Asked<'a, '_>,
         groups: &Rows<'_, MemberRow>,
     ) -> Result<bool, AllocError>
-        requires question { IsQuestion asked.now.numbers.now.policy.now asked.now.request.now self.old }
-        requires straight { IsStraight OfRunas asked.now.numbers.now.policy.now (members_shown groups.now) }
-        ensures kept { IfOk result (λ _. IsQuestion asked.now.numbers.now.policy.now asked.now.request.now self.new) }
-        ensures permits { IfOk result (λ allowed. GroupPermits asked.now.numbers.now.policy.now asked.now.request.now.target asked.now.request.now.target_group (members_shown groups.now) allowed) }
+        requires question { IsQuestion asked.now.policy.now asked.now.request.now self.old }
+        requires straight { IsStraight OfRunas asked.now.policy.now (members_shown groups.now) }
+        ensures kept { IfOk result (λ _. IsQuestion asked.now.policy.now asked.now.request.now self.new) }
+        ensures permits { IfOk result (λ allowed. GroupPermits asked.now.policy.now asked.now.request.now.target asked.now.request.now.target_group (members_shown groups.now) allowed) }
     {
         one_verdict();
         let request = asked.request;
         let Some(group) = &request.target_group else {
             return Ok(true);
         };
-        let hit = find_hit::<Groups>(&mut self.groups, asked.numbers, Kind::Runas, groups, group)?;
+        let hit = find_hit::<Groups>(&mut self.groups, asked.policy, Kind::Runas, groups, group)?;
         match Verdict::of(hit) {
             Verdict::Allow => Ok(true),
             Verdict::Deny => Ok(false),

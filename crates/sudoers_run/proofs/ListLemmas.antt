@@ -1,14 +1,17 @@
 -- What `list` says of files of which a front was read, and of words.
-use Rattle.std.proofs.Common.{◌≡◌, ◌⊎◌, inl, inr, ◌∙◌, ◌<◌, ◌≤◌, ◌+◌, ◌++◌, ⊎_elim, false, ℕ, List, [], ◌∷◌, length, Option, Some, None, IfSome, Result, Ok, Err, MatchResult, refl, sym, ap, subst, arith}
-use Rattle.std.proofs.lemmas.Bool.{lt-ltb, cases_lt}
+use Rattle.std.proofs.Common.{◌≡◌, ◌⊎◌, inl, inr, ◌∙◌, ◌<◌, ◌≤◌, ◌+◌, ◌++◌, ⊎_elim, true, false, ℕ, List, [], ◌∷◌, length, Option, Some, None, IfSome, Result, Ok, Err, MatchResult, refl, sym, ap, subst, arith}
+use Rattle.std.proofs.lemmas.Bool.{lt-ltb, cases_lt, false≢true}
 use Rattle.std.proofs.lemmas.List.{length-append}
-use Rattle.std.specs.Option.{is_some, option_or}
+use Rattle.std.specs.Borrow.{Bor}
+use Rattle.std.specs.Option.{is_some, option_or, unwrap_or}
 use Rattle.sudoers_text.specs.Fault.{text_limit}
 use Rattle.sudoers_tree.specs.Line.{Line}
 use Rattle.sudoers_tree.specs.Reading.{read_of}
 use Rattle.sudoers_check.specs.Chains.{HasReachableCycle}
 use Rattle.sudoers_hits.specs.declared.asked.Who.{Who}
 use Rattle.sudoers_hits.specs.declared.request.Request.{Request}
+use Rattle.sudoers_verdict.specs.declared.verdict.AskFault.{AskFault}
+use Rattle.sudoers_verdict.specs.declared.verdict.AskFault.TheVariants as ask
 use Rattle.sudoers_match.specs.Default.{IsRunasDefault}
 use Rattle.sudoers_people.specs.declared.fault.PeopleFile.{PeopleFile}
 use Rattle.sudoers_people.specs.declared.fault.PeopleFile.TheVariants.{Passwd, Group}
@@ -16,8 +19,10 @@ use Rattle.sudoers_people.specs.declared.fault.PeopleFault.{PeopleFault}
 use Rattle.sudoers_people.specs.declared.fault.PeopleFault.TheVariants as people
 use Rattle.sudoers_people.specs.declared.fault.WhoFault.{WhoFault}
 use Rattle.sudoers_people.specs.Rows.{account_in, group_in}
-use Rattle.sudoers_people.specs.Person.{who_told}
-use Rattle.sudoers_people.specs.Asked.{request_told}
+use Rattle.sudoers_people.specs.Person.{account_named, who_told}
+use Rattle.sudoers_hits.specs.declared.asked.Group.{Group as GroupOf}
+use Rattle.sudoers_people.specs.declared.account.Account.{Account}
+use Rattle.sudoers_people.specs.Asked.{group_asked, moment_in, request_from, request_told}
 use Rattle.sudoers_people.specs.People.{People, file_fault, people_of, people_told, unless}
 use Rattle.sudoers_run.specs.declared.fault.LayerFault.{LayerFault}
 use Rattle.sudoers_run.specs.declared.fault.LayerFault.TheVariants as layer
@@ -25,6 +30,7 @@ use Rattle.sudoers_run.specs.declared.fault.ToolFault.{ToolFault}
 use Rattle.sudoers_run.specs.declared.fault.ToolFault.TheVariants as tool
 use Rattle.sudoers_run.specs.Device.{Rose, counted_by}
 use Rattle.sudoers_run.specs.declared.words.ListWords.{ListWords}
+use Rattle.sudoers_run.specs.LayerOf.{layer_of_ask}
 use Rattle.sudoers_run.specs.Program.{IsFront, IsFrontFault}
 use Rattle.sudoers_run.specs.declared.list.Listed.{Listed}
 use Rattle.sudoers_run.specs.List.{AsUser, IsAnswered, IsAsked, IsListOutcome, IsTextOf, OfFirst, OfPeople, OfPolicy, OfRequest, OfTexts, OfWho, OfWords, Outcome, Stopped, TellsList, TellsWho, text_shown}
@@ -145,18 +151,102 @@ asked_as_default w lines people who first user none nobody told straight is o as
     (subst (λ r. OfFirst w lines people r o) (sym (ap (λ g. request_told people who w.user.now g w.words.now w.moment.now) (sym nobody) ∙ told))
     (inr (record { straight = straight; user = user; is_default = is; asked = asked }))))
 
-pub asked_of : (w : ListWords) (lines : List Line) (people : People) (who : Who) (first : Request) (user : List ℕ) (result : Result Request LayerFault) → text_shown w.target ≡ None → text_shown w.group ≡ None
-    → request_told people who w.user.now (text_shown w.group) w.words.now w.moment.now ≡ Ok first
-    → (HasReachableCycle lines → ⊥) → IsRunasDefault lines first.who user
-    → MatchResult result (λ r. request_told people first.who user (text_shown w.group) w.words.now w.moment.now ≡ Ok r)
-    (λ fault. (fault ≡ layer.NoMemory) ⊎ TellsWho (request_told people first.who user (text_shown w.group) w.words.now w.moment.now) fault)
-    → MatchResult result (λ r. (o : Outcome) → IsAnswered w lines r o → IsAsked w lines people who (text_shown w.target) (text_shown w.group) o)
-    (λ fault. (fault ≡ layer.NoMemory) ⊎ IsAsked w lines people who (text_shown w.target) (text_shown w.group) (Err fault))
-asked_of w lines people who first user (Ok r) none nobody told straight is e =
-    λ o a. asked_as_default w lines people who first user none nobody told straight is o (subst (λ x. OfRequest w lines x o) (sym e) a)
-asked_of w lines people who first user (Err fault) none nobody told straight is (inl e) = inl e
-asked_of w lines people who first user (Err fault) none nobody told straight is (inr t) =
-    inr (asked_as_default w lines people who first user none nobody told straight is (Err fault) (of_request w lines _ fault t))
+-- A request is that of the user who asks.
+abbrev KeepsWho : Who → Result Request WhoFault → Type 0
+KeepsWho who (Ok r) = r.who ≡ who
+KeepsWho who (Err fault) = Unit {0}
+
+keeps_who : (people : People) (who : Who) (words : List (List ℕ)) (a : Option Account) (g : Option (Option GroupOf)) (m : Option ℕ) → KeepsWho who (request_from people who words a g m)
+keeps_who people who words None g m = tt
+keeps_who people who words (Some a) None m = tt
+keeps_who people who words (Some a) (Some g) None = tt
+keeps_who people who words (Some a) (Some g) (Some m) = refl
+
+pub who_kept : (people : People) (who : Who) (target : List ℕ) (group : Option (List ℕ)) (words : List (List ℕ)) (stamp : List ℕ) (r : Request)
+    → request_told people who target group words stamp ≡ Ok r → r.who ≡ who
+who_kept people who target group words stamp r told =
+    subst (KeepsWho who) told (keeps_who people who words (account_named people target) (group_asked people group) (moment_in stamp))
+
+-- The first request is that of the user who is named, or of the user himself.
+abbrev pub first_told : ListWords → People → Who → Option (Bor (List ℕ)) → Result Request WhoFault
+first_told w people who target = request_told people who (unwrap_or target w.user).now (text_shown w.group) w.words.now w.moment.now
+
+of_first : (w : ListWords) (lines : List Line) (people : People) (told : Result Request WhoFault) (fault : LayerFault) → TellsWho told fault → OfFirst w lines people told (Err fault)
+of_first w lines people (Ok r) fault is = absurd is
+of_first w lines people (Err said) fault is = ap Err is
+
+module _ (w : ListWords) (lines : List Line) (people : People) (who : Who) where
+  -- Without a user and a group the first request is made for the user himself.
+  himself : (group : Option (List ℕ)) → text_shown w.group ≡ group → first_told w people who None ≡ request_told people who w.user.now group w.words.now w.moment.now
+  himself group same = ap (λ g. request_told people who w.user.now g w.words.now w.moment.now) same
+
+  first_refused : (target : Option (Bor (List ℕ))) (group : Option (List ℕ)) → text_shown w.group ≡ group → (fault : LayerFault) → TellsWho (first_told w people who target) fault
+      → IsAsked w lines people who (text_shown target) group (Err fault)
+  first_refused (Some t) group same fault is = of_request w lines (first_told w people who (Some t)) fault is
+  first_refused None (Some g) same fault is = of_request w lines (first_told w people who None) fault is
+  first_refused None None same fault is =
+      subst (λ told. OfFirst w lines people told (Err fault)) (himself None same) (of_first w lines people (first_told w people who None) fault is)
+
+  first_cyclic : (target : Option (Bor (List ℕ))) (group : Option (List ℕ)) → text_shown w.group ≡ group → (first : Request) → first_told w people who target ≡ Ok first → HasReachableCycle lines
+      → IsAsked w lines people who (text_shown target) group (Err (layer.Ask Cycle))
+  first_cyclic (Some t) group same first told cycle = subst (λ r. OfRequest w lines r (Err (layer.Ask Cycle))) (sym told) (inl (refl, cycle))
+  first_cyclic None (Some g) same first told cycle = subst (λ r. OfRequest w lines r (Err (layer.Ask Cycle))) (sym told) (inl (refl, cycle))
+  first_cyclic None None same first told cycle =
+      subst (λ r. OfFirst w lines people r (Err (layer.Ask Cycle))) (sym told ∙ himself None same) (inl (cycle, refl))
+
+  first_asked : (target : Option (Bor (List ℕ))) (group : Option (List ℕ)) → text_shown w.group ≡ group → (is_some target ≡ true) ⊎ (is_some group ≡ true)
+      → (first : Request) → first_told w people who target ≡ Ok first → (o : Outcome) → IsAnswered w lines first o
+      → IsAsked w lines people who (text_shown target) group o
+  first_asked (Some t) group same one first told o answered = subst (λ r. OfRequest w lines r o) (sym told) answered
+  first_asked None (Some g) same one first told o answered = subst (λ r. OfRequest w lines r o) (sym told) answered
+  first_asked None None same (inl e) first told o answered = absurd (false≢true e)
+  first_asked None None same (inr e) first told o answered = absurd (false≢true e)
+
+  -- What is asked, in the words of the call.
+  abbrev pub Asked : Outcome → Type 0
+  Asked = IsAsked w lines people who (text_shown w.target) (text_shown w.group)
+
+  pub refused : (fault : LayerFault) → (fault ≡ layer.NoMemory) ⊎ TellsWho (first_told w people who w.target) fault → (fault ≡ layer.NoMemory) ⊎ Asked (Err fault)
+  refused fault (inl e) = inl e
+  refused fault (inr is) = inr (first_refused w.target (text_shown w.group) refl fault is)
+
+  pub cyclic : (first : Request) → first_told w people who w.target ≡ Ok first → (fault : AskFault) → (fault ≡ ask.NoMemory) ⊎ ((fault ≡ ask.Cycle) × HasReachableCycle lines)
+      → (layer_of_ask fault ≡ layer.NoMemory) ⊎ Asked (Err (layer_of_ask fault))
+  cyclic first told fault (inl e) = inl (ap layer_of_ask e)
+  cyclic first told fault (inr is) =
+      inr (subst (λ f. Asked (Err (layer_of_ask f))) (sym is.0) (first_cyclic w.target (text_shown w.group) refl first told is.1))
+
+  -- The answer is asked for, whatever it comes to.
+  answer_asked : (r : Request) → ((o : Outcome) → IsAnswered w lines r o → Asked o) → (result : Result Listed LayerFault)
+      → MatchResult result (λ listed. IsAnswered w lines r (Ok (listed.text.items, listed.status))) (λ fault. (fault ≡ layer.NoMemory) ⊎ IsAnswered w lines r (Err fault))
+      → MatchResult result (λ listed. Asked (Ok (listed.text.items, listed.status))) (λ fault. (fault ≡ layer.NoMemory) ⊎ Asked (Err fault))
+  answer_asked r asked (Ok listed) is = asked (Ok (listed.text.items, listed.status)) is
+  answer_asked r asked (Err fault) (inl e) = inl e
+  answer_asked r asked (Err fault) (inr is) = inr (asked (Err fault) is)
+
+  pub named_answered : (is_some w.target ≡ true) ⊎ (is_some (text_shown w.group) ≡ true) → (first : Request) → first_told w people who w.target ≡ Ok first → (result : Result Listed LayerFault)
+      → MatchResult result (λ listed. IsAnswered w lines first (Ok (listed.text.items, listed.status))) (λ fault. (fault ≡ layer.NoMemory) ⊎ IsAnswered w lines first (Err fault))
+      → MatchResult result (λ listed. Asked (Ok (listed.text.items, listed.status))) (λ fault. (fault ≡ layer.NoMemory) ⊎ Asked (Err fault))
+  named_answered one first told result is = answer_asked first (first_asked w.target (text_shown w.group) refl one first told) result is
+
+  -- Without a user and a group the command is to run as runas_default.
+  module _ (none : w.target ≡ None) (nobody : w.group ≡ None) (first : Request) (told : first_told w people who w.target ≡ Ok first)
+      (straight : HasReachableCycle lines → ⊥) (user : List ℕ) (is : IsRunasDefault lines first.who user) where
+    abbrev second_told : Result Request WhoFault
+    second_told = request_told people first.who user (text_shown w.group) w.words.now w.moment.now
+
+    as_default : (o : Outcome) → OfRequest w lines second_told o → Asked o
+    as_default = asked_as_default w lines people who first user (ap text_shown none) (ap text_shown nobody)
+        (ap (λ t. request_told people who (unwrap_or t w.user).now (text_shown w.group) w.words.now w.moment.now) (sym none) ∙ told) straight is
+
+    pub default_refused : (fault : LayerFault) → (fault ≡ layer.NoMemory) ⊎ TellsWho second_told fault → (fault ≡ layer.NoMemory) ⊎ Asked (Err fault)
+    default_refused fault (inl e) = inl e
+    default_refused fault (inr t) = inr (as_default (Err fault) (of_request w lines second_told fault t))
+
+    pub default_answered : (r : Request) → second_told ≡ Ok r → (result : Result Listed LayerFault)
+        → MatchResult result (λ listed. IsAnswered w lines r (Ok (listed.text.items, listed.status))) (λ fault. (fault ≡ layer.NoMemory) ⊎ IsAnswered w lines r (Err fault))
+        → MatchResult result (λ listed. Asked (Ok (listed.text.items, listed.status))) (λ fault. (fault ≡ layer.NoMemory) ⊎ Asked (Err fault))
+    default_answered r e result answered = answer_asked r (λ o a. as_default o (subst (λ x. OfRequest w lines x o) (sym e) a)) result answered
 
 -- What comes of words, where there are some.
 of_words : (w : ListWords) (lines : List Line) (people : People) (who : Who) (words : List (List ℕ)) (o : Outcome) → (words ≡ [] → ⊥)
@@ -172,16 +262,15 @@ outcome_of_words w policy passwd group lines people who read told is some o aske
     (subst (λ r. OfPeople w lines r o) (sym told)
     (subst (λ r. OfWho w lines people r o) (sym is) (of_words w lines people who w.words.now o some asked)))
 
-pub outcome_of : (w : ListWords) (policy passwd group : List ℕ) (lines : List Line) (people : People) (who : Who) (r : Request) (result : Result Listed LayerFault) → read_of policy ≡ Ok lines
+pub outcome_of : (w : ListWords) (policy passwd group : List ℕ) (lines : List Line) (people : People) (who : Who) (result : Result Listed LayerFault) → read_of policy ≡ Ok lines
     → people_told passwd group ≡ Ok people → who_told people w.user.now w.host.now w.interfaces.now ≡ Ok who → (w.words.now ≡ [] → ⊥)
-    → ((o : Outcome) → IsAnswered w lines r o → IsAsked w lines people who (text_shown w.target) (text_shown w.group) o)
-    → MatchResult result (λ listed. IsAnswered w lines r (Ok (listed.text.items, listed.status))) (λ fault. (fault ≡ layer.NoMemory) ⊎ IsAnswered w lines r (Err fault))
+    → MatchResult result (λ listed. Asked w lines people who (Ok (listed.text.items, listed.status))) (λ fault. (fault ≡ layer.NoMemory) ⊎ Asked w lines people who (Err fault))
     → MatchResult result (λ listed. IsListOutcome w policy passwd group (Ok (listed.text.items, listed.status))) (λ fault. (fault ≡ layer.NoMemory) ⊎ IsListOutcome w policy passwd group (Err fault))
-outcome_of w policy passwd group lines people who r (Ok listed) read told is some asked a =
-    outcome_of_words w policy passwd group lines people who read told is some (Ok (listed.text.items, listed.status)) (asked _ a)
-outcome_of w policy passwd group lines people who r (Err fault) read told is some asked (inl e) = inl e
-outcome_of w policy passwd group lines people who r (Err fault) read told is some asked (inr a) =
-    inr (outcome_of_words w policy passwd group lines people who read told is some (Err fault) (asked _ a))
+outcome_of w policy passwd group lines people who (Ok listed) read told is some asked =
+    outcome_of_words w policy passwd group lines people who read told is some (Ok (listed.text.items, listed.status)) asked
+outcome_of w policy passwd group lines people who (Err fault) read told is some (inl e) = inl e
+outcome_of w policy passwd group lines people who (Err fault) read told is some (inr asked) =
+    inr (outcome_of_words w policy passwd group lines people who read told is some (Err fault) asked)
 
 -- ---- readers
 

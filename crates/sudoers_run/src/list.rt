@@ -6,6 +6,7 @@ ghost use Rattle.sudoers_text.specs.Fault.{text_limit};
 ghost use Rattle.sudoers_tree.specs.Reading.{read_of};
 ghost use Rattle.sudoers_check.specs.Chains.{HasReachableCycle};
 ghost use Rattle.sudoers_match.specs.Answer.{IsAnswer, answer_shown};
+ghost use Rattle.sudoers_match.specs.Default.{IsRunasDefault};
 ghost use Rattle.sudoers_people.specs.People.{people_told};
 ghost use Rattle.sudoers_people.specs.Person.{who_told};
 ghost use Rattle.sudoers_people.specs.Asked.{request_told};
@@ -20,11 +21,12 @@ use crate::words::ListWords;
 use std::alloc::{AllocError, Global};
 use sudoers_hits::Who;
 use sudoers_line::Items;
-use sudoers_list::{explain, list};
-use sudoers_match::{Answer, Request, answer, join_words, runas_default};
+use sudoers_list::{explain_answer, list};
+use sudoers_match::{Answer, Request, find_answer, find_default, join_words};
 use sudoers_people::{People, PeopleFault, request_for, who_for};
 use sudoers_text::{TEXT_LIMIT, TextFault};
 use sudoers_tree::{Policy, ReadFault, read_is};
+use sudoers_verdict::Acyclic;
 
 /// Reads a policy and the files passwd and group, and writes what the user of `words` may run on his host (sudo(8), the option `-l`).
 /// If `words` hold a command, it writes the command if he may run it, or the rule that decides. The status is 0 for a listing and for a
@@ -132,32 +134,31 @@ fn list_files(
         let text = list(alloc, &policy, &who)?;
         return Ok(Listed { text, status: 0 });
     }
-    let request = request_of(alloc, &policy, &people, who, words)?;
-    answer_text(alloc, &policy, &request, words)
+    command_text(alloc, &policy, &people, who, words)
 }
 
-/// Returns the request that `words` make of a user on a host.
-fn request_of(
+/// Returns what is written for the command of `words`, and the exit status.
+fn command_text(
     alloc: Global,
     policy: &Policy,
     people: &People,
     who: Who,
     words: &ListWords<'_>,
-) -> Result<Request, LayerFault>
-    ensures asked { MatchResult result (λ request. (outcome : Outcome) → IsAnswered words.now policy.now request outcome
-        → IsAsked words.now policy.now people.now who (text_shown words.now.target) (text_shown words.now.group) outcome)
+) -> Result<Listed, LayerFault>
+    ensures asked { MatchResult result (λ listed. IsAsked words.now policy.now people.now who (text_shown words.now.target) (text_shown words.now.group) (Ok (listed.text.items, listed.status)))
         (λ fault. (fault ≡ LayerFault.NoMemory) ⊎ IsAsked words.now policy.now people.now who (text_shown words.now.target) (text_shown words.now.group) (Err fault)) }
+    ensures statuses { IfOk result (λ listed. listed.status ≤ 1) }
     ensures named { IfErr result IsAskFault }
 {
-    if let Some(target) = words.target {
-        return request_as(alloc, people, who, target, words);
+    let named = words.target.unwrap_or(words.user);
+    let first = request_as(alloc, people, who, named, words)?;
+    let policy = Acyclic::new(alloc, policy)?;
+    let default = find_default(alloc, &policy, &first.who)?;
+    if words.target.is_some() || words.group.is_some() {
+        return answer_text(alloc, &policy, &first, default, words);
     }
-    if words.group.is_some() {
-        return request_as(alloc, people, who, words.user, words);
-    }
-    let first = request_as(alloc, people, who, words.user, words)?;
-    let target = runas_default(alloc, policy, &first.who)?;
-    request_as(alloc, people, first.who, target, words)
+    let request = request_as(alloc, people, first.who, default, words)?;
+    answer_text(alloc, &policy, &request, default, words)
 }
 
 /// Returns the request to run the command of `words` as the user `target`.
@@ -183,22 +184,24 @@ fn request_as(
     )?)
 }
 
-/// Returns what is written for a request, and the exit status.
+/// Returns what is written for a request, and the exit status. `default` is the user as whom a command runs where nothing else is said.
 fn answer_text(
     alloc: Global,
-    policy: &Policy,
+    policy: &Acyclic<'_>,
     request: &Request,
+    default: &[u8],
     words: &ListWords<'_>,
 ) -> Result<Listed, LayerFault>
+    requires { IsRunasDefault policy.now request.now.who default.now }
     ensures answered { MatchResult result (λ listed. IsAnswered words.now policy.now request.now (Ok (listed.text.items, listed.status)))
         (λ fault. (fault ≡ LayerFault.NoMemory) ⊎ IsAnswered words.now policy.now request.now (Err fault)) }
     ensures statuses { IfOk result (λ listed. listed.status ≤ 1) }
     ensures named { IfErr result IsAskFault }
 {
-    let answer = answer(alloc, policy, request)?;
+    let answer = find_answer(alloc, policy, request, default)?;
     let status = allowed_status(answer);
     if words.why {
-        let text = explain(alloc, policy, request, answer, words.file)?;
+        let text = explain_answer(alloc, policy, request, default, answer, words.file)?;
         return Ok(Listed { text, status });
     }
     let text = allowed_text(alloc, words.words, answer)?;

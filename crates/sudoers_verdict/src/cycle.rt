@@ -137,12 +137,22 @@ impl<'a> ByKind<'a> {
 pub fn reachable_cycle(alloc: Global, policy: &Policy) -> Result<bool, AllocError>
     ensures { IfOk result (λ cycle. IsTrue cycle ↔ HasReachableCycle policy.now) }
 {
-    let numbers = Numbers::new(alloc, policy)?;
-    let mut known = ByKind::new(alloc, &numbers)?;
-    let lines = policy.lines();
+    has_reachable_cycle(alloc, &Numbers::new(alloc, policy)?)
+}
+
+/// Returns whether such an alias of the policy that `numbers` number is cyclic.
+///
+/// # Errors
+///
+/// Memory ran out.
+pub fn has_reachable_cycle(alloc: Global, numbers: &Numbers<'_>) -> Result<bool, AllocError>
+    ensures { IfOk result (λ cycle. IsTrue cycle ↔ HasReachableCycle numbers.now.policy.now) }
+{
+    let mut known = ByKind::new(alloc, numbers)?;
+    let lines = numbers.policy.lines();
     for row in lines.rows {
         let node = lines.tables.node(&row.node);
-        let cycle = known.line_leads_to_cycle(alloc, &numbers, &node)?;
+        let cycle = known.line_leads_to_cycle(alloc, numbers, &node)?;
         if cycle {
             return Ok(true);
         }

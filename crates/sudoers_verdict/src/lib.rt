@@ -1,6 +1,7 @@
 //! What lists of users, hosts and commands say, their aliases replaced.
 #![tactic(auto)]
 
+mod acyclic;
 mod alias;
 mod cycle;
 mod deciding;
@@ -11,6 +12,7 @@ mod policies;
 mod verdict;
 mod walk;
 
+pub use acyclic::Acyclic;
 pub use cycle::reachable_cycle;
 pub use deciding::decide;
 pub use kind::MemberKind;

@@ -14,7 +14,7 @@ use Rattle.sudoers_list.proofs.inner.find_last.Goals.{then-branch, else-branch}
 
 pub speaks-requires-clause-flat : goal.speaks-requires-clause-flat
 speaks-requires-clause-flat c =
-    let lines = c.args.numbers.now.policy.now in
+    let lines = c.args.policy.now in
     let f = member_in c.args.members.now.tables.now in
     let rows = c.args.members.now.rows.now in
     let y : Member = member_shown c.member-member.result in
@@ -24,7 +24,7 @@ speaks-requires-clause-flat c =
 
 pub loop-row-preserved : goal.loop-row-preserved
 loop-row-preserved c =
-    let lines = c.args.numbers.now.policy.now in
+    let lines = c.args.policy.now in
     let P = Speaks lines (command_hits c.args.command.now) in
     let f = member_in c.args.members.now.tables.now in
     let rows = c.args.members.now.rows.now in

@@ -11,5 +11,5 @@ use Rattle.sudoers_list.proofs.inner.find_last.Given as goal
 
 abbrev pub invariant-loop-row : goal.invariant-loop-row
 invariant-loop-row l =
-    Remembers Cmnd l.numbers.policy.now (command_hits l.command) l.verdicts
-    × IsLast (Speaks l.numbers.policy.now (command_hits l.command)) (map (member_in l.tables) (take l.row-index l.row-items)) (option_map member_shown l.last)
+    Remembers Cmnd l.policy (command_hits l.command) l.verdicts
+    × IsLast (Speaks l.policy (command_hits l.command)) (map (member_in l.tables) (take l.row-index l.row-items)) (option_map member_shown l.last)

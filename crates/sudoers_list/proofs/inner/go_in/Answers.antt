@@ -1,9 +1,10 @@
-use Rattle.std.proofs.Common.{◌≡◌, ◌-◌, suc, List, Some, refl, sym, ap, subst, ◌∙◌, arith}
+use Rattle.std.proofs.Common.{◌≡◌, ◌-◌, suc, List, length, Some, refl, sym, ap, subst, ◌∙◌, arith}
 use Rattle.std.specs.Option.{option_map}
 use Rattle.sudoers_line.specs.declared.node.Atom.TheVariants.{Alias}
 use Rattle.sudoers_line.specs.declared.node.Kind.TheVariants.{Cmnd}
 use Rattle.sudoers_line.specs.declared.node.Member.{Member}
 use Rattle.sudoers_rows.specs.View.{member_shown, members_shown}
+use Rattle.sudoers_tree.specs.Definition.{definitions}
 use Rattle.sudoers_check.specs.Chain.{here, onward}
 use Rattle.sudoers_hits.specs.Hits.{command_hits}
 use Rattle.sudoers_verdict.specs.Flat.{alias_of}
@@ -16,19 +17,19 @@ use Rattle.sudoers_list.proofs.inner.go_in.Goals as goal
 
 pub loop-times-init : goal.loop-times-init
 loop-times-init c =
-    let lines = c.args.numbers.now.policy.now in
+    let lines = c.args.policy.now in
     let name = c.args.outer.now.name.now in
     record {
       remembers = c.requires.verdicts;
       defined = c.requires.defined;
       says = c.requires.says;
       reached = here name refl;
-      within = subst (λ n. IsWithin lines n name) (sym c.len-times.ensures) c.requires.within;
+      within = subst (λ n. IsWithin lines n name) (sym (c.len-times.ensures ∙ ap (λ ls. length (definitions ls)) c.numbers.ensures)) c.requires.within;
     }
 
 pub unreachable-requires : goal.unreachable-requires
 unreachable-requires c =
-    let lines = c.args.numbers.now.policy.now in
+    let lines = c.args.policy.now in
     let test = command_hits c.args.command.now in
     let ms : List Member = members_shown c.loop-times.alias.members in
     some_last lines test ms c.loop-times.invariant.says
@@ -36,7 +37,7 @@ unreachable-requires c =
 
 pub loop-times-preserved : goal.loop-times-preserved
 loop-times-preserved c =
-    let lines = c.args.numbers.now.policy.now in
+    let lines = c.args.policy.now in
     let test = command_hits c.args.command.now in
     let inv = c.loop-times.invariant in
     let times = c.loop-times.times in
@@ -63,7 +64,7 @@ loop-times-preserved c =
 
 pub unreachable-requires-2 : goal.unreachable-requires-2
 unreachable-requires-2 c =
-    let lines = c.args.numbers.now.policy.now in
+    let lines = c.args.policy.now in
     let inv = c.loop-times.invariant in
     let name = c.loop-times.alias.name.now in
     let done = c.loop-times-test.false in

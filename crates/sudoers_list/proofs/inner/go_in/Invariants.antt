@@ -11,11 +11,11 @@ use Rattle.sudoers_list.proofs.inner.go_in.Given as goal
 
 abbrev pub invariant-loop-times : goal.invariant-loop-times
 invariant-loop-times l = record {
-  remembers : Remembers Cmnd l.numbers.policy.now (command_hits l.command) l.verdicts;
-  defined : members_of Cmnd l.alias.name.now l.numbers.policy.now ≡ Some (members_shown l.alias.members);
-  says : Says l.numbers.policy.now (command_hits l.command) (members_shown l.alias.members);
-  reached : Chain (LeadsInto l.numbers.policy.now (command_hits l.command)) (λ name. l.outer.name.now ≡ name) l.alias.name.now;
-  within : IsWithin l.numbers.policy.now l.times l.alias.name.now;
+  remembers : Remembers Cmnd l.policy (command_hits l.command) l.verdicts;
+  defined : members_of Cmnd l.alias.name.now l.policy ≡ Some (members_shown l.alias.members);
+  says : Says l.policy (command_hits l.command) (members_shown l.alias.members);
+  reached : Chain (LeadsInto l.policy (command_hits l.command)) (λ name. l.outer.name.now ≡ name) l.alias.name.now;
+  within : IsWithin l.policy l.times l.alias.name.now;
 }
 
 abbrev pub decreases-loop-times : goal.decreases-loop-times

@@ -3,11 +3,9 @@ use Rattle.sudoers_line.specs.declared.node.Kind.TheVariants.{Cmnd}
 use Rattle.sudoers_line.specs.declared.node.Member.{Member}
 use Rattle.sudoers_rows.specs.View.{member_shown, members_shown}
 use Rattle.sudoers_tree.specs.Definition.{definitions}
-use Rattle.sudoers_tree.specs.Line.{Line}
 use Rattle.sudoers_hits.specs.declared.asked.CommandLine.{CommandLine}
 use Rattle.sudoers_hits.specs.Hits.{command_hits}
 use Rattle.sudoers_match.specs.Answer.{command_line, joined}
-use Rattle.sudoers_list.specs.Going.{IsWithin}
 use Rattle.sudoers_list.specs.Inner.{IsInnermost, Says}
 use Rattle.sudoers_list.specs.Inside.{inner_shown}
 use Rattle.sudoers_list.proofs.Going.{begins}
@@ -27,8 +25,7 @@ go_in-requires-clause-says c =
     let same : held ≡ asked =
     ap₂ (λ (path args : List ℕ). record { path = path; args = args }) (c.in_ok-from_slice.ensures ∙ c.as_slice.ensures)
     (c.from_vec.ensures ∙ c.in_ok-join_words.ensures ∙ ap joined c.as_slice-2.ensures) in
-    subst (λ (ls : List Line). Says ls (command_hits held) ms) (sym c.in_ok-numbers.ensures)
-    (subst (λ (k : CommandLine). Says lines (command_hits k) ms) (sym same) (members_say lines (command_hits asked) m ms (sym c.in-Some.ensures.members) c.requires))
+    subst (λ (k : CommandLine). Says lines (command_hits k) ms) (sym same) (members_say lines (command_hits asked) m ms (sym c.in-Some.ensures.members) c.requires)
 
 pub go_in-requires-clause-within : goal.go_in-requires-clause-within
 go_in-requires-clause-within c =
@@ -36,9 +33,8 @@ go_in-requires-clause-within c =
     let m : Member = member_shown c.args.member.now in
     let name = c.in-Some.outer.name.now in
     let latest = c.requires.1 in
-    subst (λ (ls : List Line). IsWithin ls (length (definitions ls)) name) (sym c.in_ok-numbers.ensures)
-    (begins lines (length (definitions lines)) m name latest.flat c.in-Some.ensures.name latest.is_flat
-    (c.flattened_is_flat.ensures Cmnd lines c.is_policy.ensures.policy (m ∷ []) latest.flat latest.is_flat))
+    begins lines (length (definitions lines)) m name latest.flat c.in-Some.ensures.name latest.is_flat
+    (c.flattened_is_flat.ensures Cmnd lines c.is_acyclic.ensures.policy (m ∷ []) latest.flat latest.is_flat)
 
 pub returns : goal.returns
 returns c =
@@ -52,6 +48,5 @@ returns c =
     (c.from_vec.ensures ∙ c.in_ok-join_words.ensures ∙ ap joined c.as_slice-2.ensures) in (
       name,
       c.in-Some.ensures.name,
-      subst (λ (k : CommandLine). IsInnermost lines (command_hits k) name inner) same
-          (subst (λ (ls : List Line). IsInnermost ls (command_hits held) name inner) c.in_ok-numbers.ensures c.in_ok-go_in.ensures),
+      subst (λ (k : CommandLine). IsInnermost lines (command_hits k) name inner) same c.in_ok-go_in.ensures,
     )

@@ -11,7 +11,7 @@ use Rattle.sudoers_list.proofs.inner.speaks.Goals as goal
 
 pub returns-clause-speaks : goal.returns-clause-speaks
 returns-clause-speaks c =
-    let lines = c.args.numbers.now.policy.now in
+    let lines = c.args.policy.now in
     let test = command_hits c.args.command.now in
     let t = c.args.tables.now in
     let m = member_in t c.args.row.now in

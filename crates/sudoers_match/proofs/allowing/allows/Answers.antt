@@ -5,7 +5,7 @@ use Rattle.sudoers_match.proofs.allowing.allows.Goals as goal
 pub returns-in_default : goal.returns-in_default
 returns-in_default g c =
     let kd = c.args.kind in
-    let lines = c.args.numbers.now.policy.now in
+    let lines = c.args.policy.now in
     let test = g.K.MemberKind.test c.args.asked.now in
     let ms = members_shown c.args.members.now in
     record {

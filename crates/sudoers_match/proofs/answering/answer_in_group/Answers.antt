@@ -29,7 +29,7 @@ kept_runas (Some x) old new before cmd none is was now = absurd (true≢false no
 
 pub returns-then-not-branch-clause-answer : goal.returns-then-not-branch-clause-answer
 returns-then-not-branch-clause-answer c users user rows p =
-    let lines = c.args.asked.now.numbers.now.policy.now in
+    let lines = c.args.asked.now.policy.now in
     let r = c.args.asked.now.request.now in
     let g = group_shown c.args.group.now in
     let says = c.in_ok-allows.ensures.allowed in
@@ -52,13 +52,13 @@ loop-command-init c =
         own = was.own;
       };
       permitted = tt;
-      so_far = list_none c.args.asked.now.numbers.now.policy.now c.args.asked.now.request.now c.args.spec c.args.host_group (members_shown g.hosts)
+      so_far = list_none c.args.asked.now.policy.now c.args.asked.now.request.now c.args.spec c.args.host_group (members_shown g.hosts)
           (map (command_in g.commands.tables.now) g.commands.rows.now) c.args.head.now c.requires.head;
     }
 
 pub answer_of_command-requires-clause-runas : goal.answer_of_command-requires-clause-runas
 answer_of_command-requires-clause-runas c =
-    let lines = c.args.asked.now.numbers.now.policy.now in
+    let lines = c.args.asked.now.policy.now in
     let r = c.args.asked.now.request.now in
     let g = c.args.group.now in
     let k = c.loop-command.command in
@@ -70,7 +70,7 @@ answer_of_command-requires-clause-runas c =
 
 pub answer_of_command-requires-clause-permitted : goal.answer_of_command-requires-clause-permitted
 answer_of_command-requires-clause-permitted c =
-    let lines = c.args.asked.now.numbers.now.policy.now in
+    let lines = c.args.asked.now.policy.now in
     let r = c.args.asked.now.request.now in
     let s = c.loop-command.invariant.so_far in
     let written = c.command-written.result in
@@ -86,7 +86,7 @@ answer_of_command-requires-clause-permitted c =
 
 pub answer_of_command-requires-clause-member : goal.answer_of_command-requires-clause-member
 answer_of_command-requires-clause-member c =
-    let lines = c.args.asked.now.numbers.now.policy.now in
+    let lines = c.args.asked.now.policy.now in
     let g = c.args.group.now in
     let t = g.commands.tables.now in
     let k = c.loop-command.command in
@@ -97,7 +97,7 @@ answer_of_command-requires-clause-member c =
 
 pub loop-command-preserved : goal.loop-command-preserved
 loop-command-preserved c =
-    let lines = c.args.asked.now.numbers.now.policy.now in
+    let lines = c.args.asked.now.policy.now in
     let r = c.args.asked.now.request.now in
     let g = c.args.group.now in
     let t = g.commands.tables.now in
@@ -127,6 +127,6 @@ pub returns-clause-answer : goal.returns-clause-answer
 returns-clause-answer c users user rows p =
     let g = c.args.group.now in
     let t = g.commands.tables.now in
-    list_all c.args.asked.now.numbers.now.policy.now c.args.asked.now.request.now c.args.spec c.args.host_group (members_shown g.hosts) (map (command_in t) g.commands.rows.now)
+    list_all c.args.asked.now.policy.now c.args.asked.now.request.now c.args.spec c.args.host_group (members_shown g.hosts) (map (command_in t) g.commands.rows.now)
     c.loop-command.command c.loop-command.head (option_map answer_shown c.loop-command.latest)
     (omega (arith, c.loop-command-test.false, length-map g.commands.rows.now (command_in t))) c.loop-command.invariant.so_far users user rows p

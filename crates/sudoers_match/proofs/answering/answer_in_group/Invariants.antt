@@ -8,8 +8,8 @@ use Rattle.sudoers_match.proofs.answering.answer_in_group.Given as goal
 
 abbrev pub invariant-loop-command : goal.invariant-loop-command
 invariant-loop-command l = record {
-  question : IsQuestion l.asked.numbers.now.policy.now l.asked.request.now l.question;
-  permitted : PermittedIs l.asked.numbers.now.policy.now l.asked.request.now (option_map runas_shown l.head.runas) l.permitted;
-  so_far : IsListSoFar l.asked.numbers.now.policy.now l.asked.request.now l.spec l.host_group (members_shown l.group.hosts)
+  question : IsQuestion l.asked.policy.now l.asked.request.now l.question;
+  permitted : PermittedIs l.asked.policy.now l.asked.request.now (option_map runas_shown l.head.runas) l.permitted;
+  so_far : IsListSoFar l.asked.policy.now l.asked.request.now l.spec l.host_group (members_shown l.group.hosts)
       (map (command_in l.group.commands.tables.now) l.group.commands.rows.now) l.command l.head (option_map answer_shown l.latest);
 }

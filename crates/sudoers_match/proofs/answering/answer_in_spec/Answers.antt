@@ -19,7 +19,7 @@ use Rattle.sudoers_match.proofs.answering.answer_in_spec.Goals as goal
 
 pub returns-then-not-branch-clause-answer : goal.returns-then-not-branch-clause-answer
 returns-then-not-branch-clause-answer c rows p =
-    let lines = c.args.asked.now.numbers.now.policy.now in
+    let lines = c.args.asked.now.policy.now in
     let r = c.args.asked.now.request.now in
     let users = members_shown c.args.users.now in
     no_user lines r c.args.spec (spec_of users (groups_shown c.args.groups.now)) rows
@@ -34,7 +34,7 @@ answer_in_group-requires-clause-straight c =
 
 pub loop-host_group-preserved : goal.loop-host_group-preserved
 loop-host_group-preserved c =
-    let lines = c.args.asked.now.numbers.now.policy.now in
+    let lines = c.args.asked.now.policy.now in
     let r = c.args.asked.now.request.now in
     let users = members_shown c.args.users.now in
     let groups = c.args.groups.now in
@@ -58,6 +58,6 @@ returns-clause-answer c rows p =
     let groups = c.args.groups.now in
     let gs = groups_shown groups in
     let i = c.loop-host_group.host_group in
-    so_far_all c.args.asked.now.numbers.now.policy.now c.args.asked.now.request.now (GroupRows c.args.asked.now.numbers.now.policy.now c.args.spec (members_shown c.args.users.now)) gs
+    so_far_all c.args.asked.now.policy.now c.args.asked.now.request.now (GroupRows c.args.asked.now.policy.now c.args.spec (members_shown c.args.users.now)) gs
     i (drop i gs) (option_map answer_shown c.loop-host_group.latest)
     (drop_all i gs (omega (arith, c.loop-host_group-test.false, length-map groups.rows.now (group_in groups.tables.now)))) c.loop-host_group.invariant.so_far rows p

@@ -9,7 +9,7 @@ use Rattle.sudoers_match.proofs.answering.answer_in_spec.Given as goal
 
 abbrev pub invariant-loop-host_group : goal.invariant-loop-host_group
 invariant-loop-host_group l = record {
-  question : IsQuestion l.asked.numbers.now.policy.now l.asked.request.now l.question;
-  so_far : IsSoFar (GroupRows l.asked.numbers.now.policy.now l.spec (members_shown l.users)) l.asked.numbers.now.policy.now l.asked.request.now
+  question : IsQuestion l.asked.policy.now l.asked.request.now l.question;
+  so_far : IsSoFar (GroupRows l.asked.policy.now l.spec (members_shown l.users)) l.asked.policy.now l.asked.request.now
       (map (group_in l.groups.tables.now) l.groups.rows.now) l.host_group (drop l.host_group (map (group_in l.groups.tables.now) l.groups.rows.now)) (option_map answer_shown l.latest);
 }

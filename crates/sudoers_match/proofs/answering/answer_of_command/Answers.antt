@@ -14,7 +14,7 @@ use Rattle.sudoers_match.proofs.answering.answer_of_command.Goals as goal
 
 pub returns-then-not-is_in_time-clause-answer : goal.returns-then-not-is_in_time-clause-answer
 returns-then-not-is_in_time-clause-answer c users hosts user host h is m shown rows p =
-    let lines = c.args.asked.now.numbers.now.policy.now in
+    let lines = c.args.asked.now.policy.now in
     let r = c.args.asked.now.request.now in
     let place = c.args.place in
     no_moment lines r place.spec place.host_group users hosts place.command h m rows
@@ -22,7 +22,7 @@ returns-then-not-is_in_time-clause-answer c users hosts user host h is m shown r
 
 pub returns-then-not-branch-clause-answer : goal.returns-then-not-branch-clause-answer
 returns-then-not-branch-clause-answer c users hosts user host h is m shown rows p =
-    let lines = c.args.asked.now.numbers.now.policy.now in
+    let lines = c.args.asked.now.policy.now in
     let r = c.args.asked.now.request.now in
     let place = c.args.place in
     no_runas lines r place.spec place.host_group users hosts place.command h m rows
@@ -31,14 +31,14 @@ returns-then-not-branch-clause-answer c users hosts user host h is m shown rows 
 
 pub find_hit-requires-clause-verdicts : goal.find_hit-requires-clause-verdicts
 find_hit-requires-clause-verdicts c =
-    let lines = c.args.asked.now.numbers.now.policy.now in
+    let lines = c.args.asked.now.policy.now in
     subst (λ (cl : CommandLine). Remembers Cmnd lines (command_hits cl) c.permits_runas.new.question.commands) (sym c.args.asked.now.command_is)
     c.in_ok-permits_runas.ensures.kept.commands
 
 pub returns-in-Some-clause-kept : goal.returns-in-Some-clause-kept
 returns-in-Some-clause-kept c =
     let kept = c.in_ok-permits_runas.ensures.kept in
-    let lines = c.args.asked.now.numbers.now.policy.now in
+    let lines = c.args.asked.now.policy.now in
     record {
       default = kept.default;
       users = kept.users;
@@ -52,7 +52,7 @@ returns-in-Some-clause-kept c =
 pub returns-in-None-clause-kept : goal.returns-in-None-clause-kept
 returns-in-None-clause-kept c =
     let kept = c.in_ok-permits_runas.ensures.kept in
-    let lines = c.args.asked.now.numbers.now.policy.now in
+    let lines = c.args.asked.now.policy.now in
     record {
       default = kept.default;
       users = kept.users;
@@ -65,7 +65,7 @@ returns-in-None-clause-kept c =
 
 pub returns-in-Some-clause-answer : goal.returns-in-Some-clause-answer
 returns-in-Some-clause-answer c users hosts user host h is m shown rows p =
-    let lines = c.args.asked.now.numbers.now.policy.now in
+    let lines = c.args.asked.now.policy.now in
     let r = c.args.asked.now.request.now in
     let place = c.args.place in
     let hit : IsLatest Cmnd lines (command_hits c.args.asked.now.command.now) (members_shown c.args.member.now) (Some c.in-Some.hit) =
@@ -81,7 +81,7 @@ returns-in-Some-clause-answer c users hosts user host h is m shown rows p =
 
 pub returns-in-None-clause-answer : goal.returns-in-None-clause-answer
 returns-in-None-clause-answer c users hosts user host h is m shown rows p =
-    let lines = c.args.asked.now.numbers.now.policy.now in
+    let lines = c.args.asked.now.policy.now in
     let r = c.args.asked.now.request.now in
     let place = c.args.place in
     let hit : IsLatest Cmnd lines (command_hits c.args.asked.now.command.now) (members_shown c.args.member.now) None =

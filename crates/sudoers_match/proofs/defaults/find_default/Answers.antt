@@ -17,11 +17,11 @@ use Rattle.sudoers_match.proofs.defaults.find_default.Goals.{in-Defaults+in_ok-l
 
 pub find_setting_for-requires-clause-straight : goal.find_setting_for-requires-clause-straight
 find_setting_for-requires-clause-straight c =
-    let lines = c.args.numbers.now.policy.now in
+    let lines = c.args.policy.now in
     let t = c.lines-lines.result.tables.now in
     let rows = c.lines-lines.result.rows.now in
     let i = c.loop-row.row-index in
-    scope_straight lines c.requires.straight (line t rows i _ c.loop-row-test.true c.node.result c.node.ensures)
+    scope_straight lines c.is_acyclic.ensures.straight (line t rows i _ c.loop-row-test.true c.node.result c.node.ensures)
     (Has_at lines i _ (ap (λ ls. slice_get ls i) (sym c.lines-lines.ensures) ∙ line_at t rows i _ c.loop-row-test.true c.node.result c.node.ensures))
     (option_map scope_shown c.in-Defaults.scope) (params_shown c.in-Defaults.params)
     (says_defaults t rows i _ c.loop-row-test.true c.node.result c.node.ensures c.in-Defaults.scope c.in-Defaults.params c.in-Defaults.is)
@@ -32,14 +32,14 @@ unwrapped (Some n) b = refl
 
 pub loop-row-init : goal.loop-row-init
 loop-row-init c = record {
-  users = c.requires.users;
-  hosts = c.requires.hosts;
-  name = none_so_far c.args.numbers.now.policy.now c.args.who.now (map (line_in c.lines-lines.result.tables.now) c.lines-lines.result.rows.now) _ refl;
+  users = c.in_ok-users.ensures User (user_hits c.args.who.now.user);
+  hosts = c.in_ok-hosts.ensures Host (host_hits c.args.who.now);
+  name = none_so_far c.args.policy.now c.args.who.now (map (line_in c.lines-lines.result.tables.now) c.lines-lines.result.rows.now) _ refl;
 }
 
 pub loop-row-preserved : goal.loop-row-preserved
 loop-row-preserved c =
-    let lines = c.args.numbers.now.policy.now in
+    let lines = c.args.policy.now in
     let who = c.args.who.now in
     let so_far = c.loop-row.invariant in
     let t = c.lines-lines.result.tables.now in
@@ -68,9 +68,9 @@ loop-row-preserved c =
       }
     ]
 
-pub returns-clause-name : goal.returns-clause-name
-returns-clause-name c =
-    let lines = c.args.numbers.now.policy.now in
+pub returns : goal.returns
+returns c =
+    let lines = c.args.policy.now in
     let all = map (line_in c.lines-lines.result.tables.now) c.lines-lines.result.rows.now in
     whole lines c.args.who.now all c.loop-row.row-index c.loop-row.name.now
     (omega (arith, c.loop-row-test.false, length-map c.lines-lines.result.rows.now (line_in c.lines-lines.result.tables.now)))

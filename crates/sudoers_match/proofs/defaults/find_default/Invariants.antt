@@ -8,7 +8,7 @@ use Rattle.sudoers_match.proofs.defaults.find_default.Given as goal
 
 abbrev pub invariant-loop-row : goal.invariant-loop-row
 invariant-loop-row l = record {
-  users : Remembers User l.numbers.policy.now (user_hits l.who.user) l.users;
-  hosts : Remembers Host l.numbers.policy.now (host_hits l.who) l.hosts;
-  name : IsNameSoFar l.numbers.policy.now l.who (map (line_in l.lines.tables.now) l.lines.rows.now) l.row-index l.name;
+  users : Remembers User l.policy (user_hits l.who.user) l.users;
+  hosts : Remembers Host l.policy (host_hits l.who) l.hosts;
+  name : IsNameSoFar l.policy l.who (map (line_in l.lines.tables.now) l.lines.rows.now) l.row-index l.name;
 }

@@ -11,12 +11,12 @@ now name = name.now
 
 pub returns-in_default-clause-latest : goal.returns-in_default-clause-latest
 returns-in_default-clause-latest c =
-    no_setting c.args.numbers.now.policy.now c.args.who.now (option_map scope_shown c.args.scope.now) (params_shown c.args.params.now)
+    no_setting c.args.policy.now c.args.who.now (option_map scope_shown c.args.scope.now) (params_shown c.args.params.now)
     (sym c.find_setting.ensures ∙ ap (option_map now) c.in_default.is)
 
 pub returns-then-branch-clause-latest : goal.returns-then-branch-clause-latest
 returns-then-branch-clause-latest c =
-    let lines = c.args.numbers.now.policy.now in
+    let lines = c.args.policy.now in
     let who = c.args.who.now in
     let scope = option_map scope_shown c.args.scope.now in
     counted lines who scope (params_shown c.args.params.now) c.in-Some.name.now (sym c.find_setting.ensures ∙ ap (option_map now) c.in-Some.is)
@@ -24,7 +24,7 @@ returns-then-branch-clause-latest c =
 
 pub returns-else-branch-clause-latest : goal.returns-else-branch-clause-latest
 returns-else-branch-clause-latest c =
-    let lines = c.args.numbers.now.policy.now in
+    let lines = c.args.policy.now in
     let who = c.args.who.now in
     let scope = option_map scope_shown c.args.scope.now in
     not_counted lines who scope (params_shown c.args.params.now) (subst (Counts lines who scope) c.if-branch.false c.in_ok-applies.ensures.counted)

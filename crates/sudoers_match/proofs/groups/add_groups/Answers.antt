@@ -21,7 +21,7 @@ allows-requires-clause-straight c =
 
 pub loop-host_group-preserved : goal.loop-host_group-preserved
 loop-host_group-preserved c =
-    let lines = c.args.numbers.now.policy.now in
+    let lines = c.args.policy.now in
     let who = c.args.who.now in
     let groups = c.args.groups.now in
     let i = c.loop-host_group.host_group in
@@ -46,5 +46,5 @@ loop-host_group-preserved c =
 pub returns-clause-added : goal.returns-clause-added
 returns-clause-added c =
     let groups = c.args.groups.now in
-    all_added (GroupPlaces c.args.numbers.now.policy.now c.args.who.now c.args.spec) (groups_shown groups) c.loop-host_group.host_group c.args.places.now.items c.loop-host_group.places.items
+    all_added (GroupPlaces c.args.policy.now c.args.who.now c.args.spec) (groups_shown groups) c.loop-host_group.host_group c.args.places.now.items c.loop-host_group.places.items
     (omega (arith, c.loop-host_group-test.false, length-map groups.rows.now (group_in groups.tables.now))) c.loop-host_group.invariant.added

@@ -9,6 +9,6 @@ use Rattle.sudoers_match.proofs.groups.add_groups.Given as goal
 
 abbrev pub invariant-loop-host_group : goal.invariant-loop-host_group
 invariant-loop-host_group l = record {
-  verdicts : Remembers Host l.numbers.policy.now (host_hits l.who) l.verdicts;
-  added : IsAdded (GroupPlaces l.numbers.policy.now l.who l.spec) (map (group_in l.groups.tables.now) l.groups.rows.now) l.host_group l.fn.places.items l.places.items;
+  verdicts : Remembers Host l.policy (host_hits l.who) l.verdicts;
+  added : IsAdded (GroupPlaces l.policy l.who l.spec) (map (group_in l.groups.tables.now) l.groups.rows.now) l.host_group l.fn.places.items l.places.items;
 }

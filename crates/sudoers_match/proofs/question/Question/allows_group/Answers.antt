@@ -10,7 +10,7 @@ use Rattle.sudoers_match.proofs.question.Question.allows_group.Goals as goal
 
 pub returns-in-Deny-clause-permits : goal.returns-in-Deny-clause-permits
 returns-in-Deny-clause-permits c =
-    let lines = c.args.asked.now.numbers.now.policy.now in
+    let lines = c.args.asked.now.policy.now in
     let target = c.args.asked.now.request.now.target in
     let ms = members_shown c.args.groups.now in
     let g : Group = c.in-Some.group in
@@ -20,7 +20,7 @@ returns-in-Deny-clause-permits c =
 
 pub returns-in-Unsaid-clause-permits : goal.returns-in-Unsaid-clause-permits
 returns-in-Unsaid-clause-permits c =
-    let lines = c.args.asked.now.numbers.now.policy.now in
+    let lines = c.args.asked.now.policy.now in
     let target = c.args.asked.now.request.now.target in
     let ms = members_shown c.args.groups.now in
     let g : Group = c.in-Some.group in

@@ -11,7 +11,7 @@ use Rattle.sudoers_match.proofs.question.Question.allows_runas.Goals as goal
 
 pub returns-then-own-clause-permits : goal.returns-then-own-clause-permits
 returns-then-own-clause-permits c =
-    let lines = c.args.asked.now.numbers.now.policy.now in
+    let lines = c.args.asked.now.policy.now in
     let r = c.args.asked.now.request.now in
     subst (λ o. RunasPermits lines r.who r.target r.target_group (option_map runas_shown o) c.is_same_name.result) (sym c.in_default.is)
     (default_permits lines r.target r.who r.target_group c.args.self.now.default.now c.requires.question.default c.args.self.now.own c.is_same_name.result
@@ -21,7 +21,7 @@ returns-then-own-clause-permits c =
 
 pub returns-else-is_empty-3-clause-permits : goal.returns-else-is_empty-3-clause-permits
 returns-else-is_empty-3-clause-permits c =
-    let lines = c.args.asked.now.numbers.now.policy.now in
+    let lines = c.args.asked.now.policy.now in
     let r = c.args.asked.now.request.now in
     if_ok c.allows_group-else-is_empty-3.result (λ allowed p. subst (λ o. RunasPermits lines r.who r.target r.target_group (option_map runas_shown o) allowed) (sym c.in-Some.is)
     (target_with_group lines r.target r.who r.target_group (members_shown c.in-Some.runas.users) (members_shown c.in-Some.runas.groups)

@@ -13,16 +13,16 @@ use Rattle.sudoers_match.proofs.Lasts.{map_or}
 use Rattle.sudoers_match.proofs.Passed.{line, line_at, says, spec, left_spec, left_none}
 use Rattle.sudoers_match.proofs.Reached.{users_straight, groups_straight}
 use Rattle.sudoers_match.proofs.Rowed.{so_far_more, so_far_all}
-use Rattle.sudoers_match.proofs.answering.find_answer.Goals as goal
-use Rattle.sudoers_match.proofs.answering.find_answer.Goals.{in-Spec+in_ok-found, in_default}
+use Rattle.sudoers_match.proofs.answering.answer_in_policy.Goals as goal
+use Rattle.sudoers_match.proofs.answering.answer_in_policy.Goals.{in-Spec+in_ok-found, in_default}
 
 pub answer_in_spec-requires-clause-users : goal.answer_in_spec-requires-clause-users
 answer_in_spec-requires-clause-users c =
     let t = c.lines-lines.result.tables.now in
     let rows = c.lines-lines.result.rows.now in
     let i = c.loop-row.row-index in
-    let lines = c.args.asked.now.numbers.now.policy.now in
-    users_straight lines c.requires.straight (line t rows i _ c.loop-row-test.true c.node.result c.node.ensures)
+    let lines = c.args.asked.now.policy.now in
+    users_straight lines c.is_acyclic.ensures.straight (line t rows i _ c.loop-row-test.true c.node.result c.node.ensures)
     (Has_at lines i _ (ap (λ ls. slice_get ls i) (sym c.lines-lines.ensures) ∙ line_at t rows i _ c.loop-row-test.true c.node.result c.node.ensures))
     (members_shown c.in-Spec.users) (groups_shown c.in-Spec.groups)
     (says t rows i _ c.loop-row-test.true c.node.result c.node.ensures c.in-Spec.users c.in-Spec.groups c.in-Spec.is)
@@ -32,15 +32,15 @@ answer_in_spec-requires-clause-groups c =
     let t = c.lines-lines.result.tables.now in
     let rows = c.lines-lines.result.rows.now in
     let i = c.loop-row.row-index in
-    let lines = c.args.asked.now.numbers.now.policy.now in
-    groups_straight lines c.requires.straight (line t rows i _ c.loop-row-test.true c.node.result c.node.ensures)
+    let lines = c.args.asked.now.policy.now in
+    groups_straight lines c.is_acyclic.ensures.straight (line t rows i _ c.loop-row-test.true c.node.result c.node.ensures)
     (Has_at lines i _ (ap (λ ls. slice_get ls i) (sym c.lines-lines.ensures) ∙ line_at t rows i _ c.loop-row-test.true c.node.result c.node.ensures))
     (members_shown c.in-Spec.users) (groups_shown c.in-Spec.groups)
     (says t rows i _ c.loop-row-test.true c.node.result c.node.ensures c.in-Spec.users c.in-Spec.groups c.in-Spec.is)
 
 pub loop-row-preserved : goal.loop-row-preserved
 loop-row-preserved c =
-    let lines = c.args.asked.now.numbers.now.policy.now in
+    let lines = c.args.asked.now.policy.now in
     let r = c.args.asked.now.request.now in
     let t = c.lines-lines.result.tables.now in
     let rows = c.lines-lines.result.rows.now in
@@ -73,12 +73,12 @@ loop-row-preserved c =
 
 pub returns : goal.returns
 returns c =
-    let lines = c.args.asked.now.numbers.now.policy.now in
+    let lines = c.args.asked.now.policy.now in
     let r = c.args.asked.now.request.now in
     let t = c.lines-lines.result.tables.now in
     let rows = c.lines-lines.result.rows.now in
     let i = c.loop-row.row-index in
-    let w = some_rows c.flat_or_cycle.ensures lines c.requires.straight in
+    let w = some_rows c.flat_or_cycle.ensures lines c.is_acyclic.ensures.straight in
     record {
       rows = w.0;
       are_rows = w.1;

@@ -1,7 +1,7 @@
 use Rattle.std.proofs.Common.{◌≡◌, ◌<◌, ℕ, Some, slice_get, map}
 use Rattle.sudoers_tree.specs.Line.{Line, line_in}
 use Rattle.sudoers_verdict.specs.Roots.{rooted, LeadToCycle, AreRemembered}
-use Rattle.sudoers_verdict.proofs.cycle.reachable_cycle.Given as goal
+use Rattle.sudoers_verdict.proofs.cycle.has_reachable_cycle.Given as goal
 
 abbrev pub invariant-loop-row : goal.invariant-loop-row
 invariant-loop-row l = record {

@@ -12,12 +12,12 @@ use Rattle.sudoers_match.specs.Specs.{specs_of, AreJoined}
 use Rattle.sudoers_match.specs.Groups.{SpecPlaces}
 use Rattle.sudoers_match.proofs.Passed.{spec_more, none_more, all_lines, line, line_at, says}
 use Rattle.sudoers_match.proofs.Reached.{users_straight, groups_straight}
-use Rattle.sudoers_match.proofs.groups.host_groups.Goals as goal
-use Rattle.sudoers_match.proofs.groups.host_groups.Goals.{in-Spec+in_ok-allows, then-branch+in_ok-add_groups, else-branch, in_default}
+use Rattle.sudoers_match.proofs.groups.find_host_groups.Goals as goal
+use Rattle.sudoers_match.proofs.groups.find_host_groups.Goals.{in-Spec+in_ok-allows, then-branch+in_ok-add_groups, else-branch, in_default}
 
 pub loop-row-init : goal.loop-row-init
 loop-row-init c =
-    let lines = c.in_ok-numbers.numbers.policy.now in
+    let lines = c.args.policy.now in
     let who = c.args.who.now in
     record {
       users = c.in_ok-users_said.ensures User (user_hits who.user);
@@ -31,10 +31,9 @@ allows-requires-clause-straight c =
     let t = c.lines-lines.result.tables.now in
     let rows = c.lines-lines.result.rows.now in
     let i = c.loop-row.row-index in
-    let same = c.in_ok-numbers.ensures.numbers in
-    let lines = c.in_ok-numbers.numbers.policy.now in
-    users_straight lines (λ h. c.in_ok-numbers.ensures.straight (subst HasReachableCycle same h)) (line t rows i _ c.loop-row-test.true c.node.result c.node.ensures)
-    (Has_at lines i _ (ap (λ ls. slice_get ls i) (same ∙ sym c.lines-lines.ensures) ∙ line_at t rows i _ c.loop-row-test.true c.node.result c.node.ensures))
+    let lines = c.args.policy.now in
+    users_straight lines c.is_acyclic.ensures.straight (line t rows i _ c.loop-row-test.true c.node.result c.node.ensures)
+    (Has_at lines i _ (ap (λ ls. slice_get ls i) (sym c.lines-lines.ensures) ∙ line_at t rows i _ c.loop-row-test.true c.node.result c.node.ensures))
     (members_shown c.in-Spec.users) (groups_shown c.in-Spec.groups)
     (says t rows i _ c.loop-row-test.true c.node.result c.node.ensures c.in-Spec.users c.in-Spec.groups c.in-Spec.is)
 
@@ -43,16 +42,15 @@ add_groups-requires-clause-straight c =
     let t = c.lines-lines.result.tables.now in
     let rows = c.lines-lines.result.rows.now in
     let i = c.loop-row.row-index in
-    let same = c.in_ok-numbers.ensures.numbers in
-    let lines = c.in_ok-numbers.numbers.policy.now in
-    groups_straight lines (λ h. c.in_ok-numbers.ensures.straight (subst HasReachableCycle same h)) (line t rows i _ c.loop-row-test.true c.node.result c.node.ensures)
-    (Has_at lines i _ (ap (λ ls. slice_get ls i) (same ∙ sym c.lines-lines.ensures) ∙ line_at t rows i _ c.loop-row-test.true c.node.result c.node.ensures))
+    let lines = c.args.policy.now in
+    groups_straight lines c.is_acyclic.ensures.straight (line t rows i _ c.loop-row-test.true c.node.result c.node.ensures)
+    (Has_at lines i _ (ap (λ ls. slice_get ls i) (sym c.lines-lines.ensures) ∙ line_at t rows i _ c.loop-row-test.true c.node.result c.node.ensures))
     (members_shown c.in-Spec.users) (groups_shown c.in-Spec.groups)
     (says t rows i _ c.loop-row-test.true c.node.result c.node.ensures c.in-Spec.users c.in-Spec.groups c.in-Spec.is)
 
 pub loop-row-preserved : goal.loop-row-preserved
 loop-row-preserved c =
-    let lines = c.in_ok-numbers.numbers.policy.now in
+    let lines = c.args.policy.now in
     let who = c.args.who.now in
     let so_far = c.loop-row.invariant in
     let t = c.lines-lines.result.tables.now in
@@ -95,7 +93,7 @@ loop-row-preserved c =
       }
     ]
 
-pub returns-clause-groups : goal.returns-clause-groups
-returns-clause-groups c =
-    all_lines c.lines-lines.result.tables.now c.lines-lines.result.rows.now c.args.who.now c.args.policy.now c.in_ok-numbers.numbers.policy.now c.lines-lines.ensures c.in_ok-numbers.ensures.numbers
+pub returns : goal.returns
+returns c =
+    all_lines c.lines-lines.result.tables.now c.lines-lines.result.rows.now c.args.who.now c.args.policy.now c.args.policy.now c.lines-lines.ensures refl
     c.loop-row.row-index c.loop-row.spec c.loop-row.places.items c.loop-row-test.false c.loop-row.invariant.joined

@@ -6,14 +6,14 @@ use Rattle.sudoers_verdict.specs.Search.{Remembers}
 use Rattle.sudoers_match.specs.declared.groups.GroupPlace.{GroupPlace}
 use Rattle.sudoers_match.specs.Specs.{specs_of, AreJoined}
 use Rattle.sudoers_match.specs.Groups.{SpecPlaces}
-use Rattle.sudoers_match.proofs.groups.host_groups.Given as goal
+use Rattle.sudoers_match.proofs.groups.find_host_groups.Given as goal
 
 abbrev pub invariant-loop-row : goal.invariant-loop-row
 invariant-loop-row l = record {
-  users : Remembers User l.numbers.policy.now (user_hits l.who.user) l.users_said;
-  hosts : Remembers Host l.numbers.policy.now (host_hits l.who) l.hosts_said;
+  users : Remembers User l.policy (user_hits l.who.user) l.users_said;
+  hosts : Remembers Host l.policy (host_hits l.who) l.hosts_said;
   few : l.spec ≤ l.row-index;
   joined : (rest : List GroupPlace)
-      → AreJoined (SpecPlaces l.numbers.policy.now l.who) l.spec (specs_of (map (line_in l.lines.tables.now) (drop l.row-index l.lines.rows.now))) rest
-      → AreJoined (SpecPlaces l.numbers.policy.now l.who) 0 (specs_of (map (line_in l.lines.tables.now) l.lines.rows.now)) (l.places.items ++ rest);
+      → AreJoined (SpecPlaces l.policy l.who) l.spec (specs_of (map (line_in l.lines.tables.now) (drop l.row-index l.lines.rows.now))) rest
+      → AreJoined (SpecPlaces l.policy l.who) 0 (specs_of (map (line_in l.lines.tables.now) l.lines.rows.now)) (l.places.items ++ rest);
 }
