@@ -48,11 +48,13 @@ module _ (k : Kind) (lines : List Line) (name : List ℕ) where
 abbrev Stands : Kind → List ℕ → List AliasMember → Type 0
 Stands k name aliases = (a : AliasMember) × Has aliases a × (a.kind ≡ k) × (a.name ≡ name)
 
+-- the alias that a member of that name is
 stands_first : (k : Kind) (name : List ℕ) (m : Member) (a : Atom) → Has (name_in a) name → Stands k name (alias_of k m a)
 stands_first k name m (atom.Alias n) (inl e) = (record { kind = k; name = n; stop = m.stop }, inl refl, refl, e)
 stands_first k name m (atom.Alias n) (inr h) = absurd h
 stands_first k name m other h = absurd h
 
+-- the kind and the name of the alias that a member is
 name_first : (j : Kind) (m : Member) (x : Atom) (a : AliasMember) → Has (alias_of j m x) a → (j ≡ a.kind) × Has (name_in x) a.name
 name_first j m (atom.Alias n) a (inl e) = (ap (λ (b : AliasMember). b.kind) e, inl (ap (λ (b : AliasMember). b.name) e))
 name_first j m (atom.Alias n) a (inr h) = absurd h
@@ -74,7 +76,7 @@ named_stands k name (l ∷ ls) h =
     ]
     by false t rest g = rest g
 
--- and the other way
+-- the name of an alias is one of its kind
 stands_named : (ls : List Listed) (a : AliasMember) → Has (aliases_among ls) a → Has (names_in (of_kind a.kind ls)) a.name
 stands_named [] a h = absurd h
 stands_named (l ∷ ls) a h = elim (has_append (alias_of l.0 l.1 l.1.atom) (aliases_among ls) a h) [
@@ -89,7 +91,7 @@ stands_named (l ∷ ls) a h = elim (has_append (alias_of l.0 l.1 l.1.atom) (alia
     by true g = has_back (name_in l.1.atom) (names_in (of_kind a.kind ls)) a.name g
     by false g = g
 
--- the roots of a line are the names of the aliases in it
+-- a root of a line is the name of an alias in it
 roots_stand : (k : Kind) (name : List ℕ) (n : Node) → Has (roots_in k n) name → Stands k name (rooted n)
 roots_stand k name (node.Spec users groups) h =
     named_stands k name (listed (node.Spec users groups)) (subst (λ ms. Has (names_in ms) name) (members_are_listed k (node.Spec users groups)) h)
@@ -97,6 +99,7 @@ roots_stand k name (node.Defaults scope params) h =
     named_stands k name (listed (node.Defaults scope params)) (subst (λ ms. Has (names_in ms) name) (members_are_listed k (node.Defaults scope params)) h)
 roots_stand k name other h = absurd h
 
+-- the name of an alias in a line is a root of it
 stands_rooted : (n : Node) (a : AliasMember) → Has (rooted n) a → Has (roots_in a.kind n) a.name
 stands_rooted (node.Spec users groups) a h =
     subst (λ ms. Has (names_in ms) a.name) (sym (members_are_listed a.kind (node.Spec users groups))) (stands_named (listed (node.Spec users groups)) a h)
@@ -107,11 +110,13 @@ stands_rooted other a h = absurd h
 -- ---- the lines of a policy
 
 module _ (lines : List Line) where
+  -- an alias in a line that leads to a cycle
   pub is_reachable : (line : Line) → Has lines line → LeadToCycle lines (rooted line.node) → HasReachableCycle lines
   is_reachable line stands h =
       let a : AliasMember = h.alias in
       list_reaches lines line stands a.kind (called a.name) (λ name own. elim own [ inl e ↦ subst (Has (roots_in a.kind line.node)) e (stands_rooted line.node a h.among) | inr none_other ↦ absurd none_other ]) h.leads
 
+  -- a reachable cycle comes from an alias in a line
   pub reachable_is : HasReachableCycle lines → (line : Line) × Has lines line × LeadToCycle lines (rooted line.node)
   reachable_is h =
       let k = h.alias.kind in
