@@ -80,16 +80,16 @@ fn rule_text(
 fn append_inner(
     alloc: Global,
     out: &mut Vec<u8>,
-    policy: &Acyclic<'_>,
+    policy: &Policy,
     inner: &Inner<'_>,
     file: &[u8],
 ) -> Result<(), AllocError>
     ensures { OnOk result (out.new.items ≡ out.old.items ++ inner_text file.now policy.now (Some (inner_shown inner.now))) }
 {
-    let Some(place) = policy.policy().definition(Kind::Cmnd, inner.name) else {
+    let Some(place) = policy.definition(Kind::Cmnd, inner.name) else {
         return Ok(());
     };
-    let Some(at) = find_line(policy.policy(), place.line) else {
+    let Some(at) = find_line(policy, place.line) else {
         return Ok(());
     };
     let spot = spot_in(at.row, at.line.text, inner.member.start);
@@ -114,12 +114,13 @@ fn answer_text(
     requires user { names.now.user.now ≡ request.now.who.user.name }
     ensures { IfOk result (λ text. NamesRule policy.now request.now file.now names.now.default.now (answer_shown answer.now) text.items) }
 {
-    let Some(rule) = find_rule(policy.policy(), answer) else {
+    let lines = policy.policy();
+    let Some(rule) = find_rule(lines, answer) else {
         return no_rule(alloc);
     };
     let mut text = rule_text(alloc, names, &rule, answer.allow, file)?;
     if let Some(inner) = innermost(alloc, policy, request, &rule.command.member)? {
-        append_inner(alloc, &mut text, policy, &inner, file)?;
+        append_inner(alloc, &mut text, lines, &inner, file)?;
     }
     Ok(text)
 }
