@@ -1,7 +1,0 @@
-use Rattle.std.proofs.Common.{Err, ap}
-use Rattle.sudoers_run.proofs.ShowLemmas.{tells_large}
-use Rattle.sudoers_run.proofs.show.run_show.Goals as goal
-
-pub returns-in-Err-InputTooLarge-clause-fault : goal.returns-in-Err-InputTooLarge-clause-fault
-returns-in-Err-InputTooLarge-clause-fault g c =
-    tells_large (g.R.Read.remaining c.args.reader.now) c.too_large.result c.too_large.ensures (c.in-Err-InputTooLarge.ensures.large (ap Err c.in-Err-InputTooLarge.field-0-is))
