@@ -2,7 +2,7 @@
 use Rattle.std.proofs.Common.{◌≡◌, ◌≢◌, ◌⊎◌, inl, inr, ◌∙◌, ◌<◌, ◌≤◌, ◌+◌, ◌++◌, ⊎_elim, ℕ, List, length, Option, Some, None, IfSome, Result, Ok, Err, Vec, Global, IfErr, refl, sym, ap, subst, arith}
 use Rattle.std.proofs.lemmas.Bool.{lt-ltb, le-ltb, cases_lt}
 use Rattle.std.proofs.lemmas.List.{length-append}
-use Rattle.std.specs.Prelude.{if◌then◌else◌, IsOkAnd}
+use Rattle.std.specs.Prelude.{if◌then◌else◌}
 use Rattle.std.specs.Io.KnownBytes.{Consumes}
 use Rattle.sudoers_text.specs.Cut.{cut_of}
 use Rattle.sudoers_text.specs.Fault.{text_limit}
@@ -15,11 +15,10 @@ use Rattle.sudoers_tree.specs.Reading.{ReadGives, read_of}
 use Rattle.sudoers_edit.specs.Memory.{IsOfText}
 use Rattle.sudoers_run.specs.declared.fault.LayerFault.{LayerFault}
 use Rattle.sudoers_run.specs.declared.fault.LayerFault.TheVariants as layer
-use Rattle.sudoers_run.specs.declared.fault.ToolFault.{ToolFault}
 use Rattle.sudoers_run.specs.declared.fault.ToolFault.TheVariants as tool
 use Rattle.sudoers_run.specs.Device.{Meter}
 use Rattle.sudoers_run.specs.Policy.{IsOfReader, file_end, policy_end, policy_of}
-use Rattle.sudoers_run.specs.Reading.{IsFront, IsFrontFault, IsTextOf, ReadingEnd, ReadsFile, TooLarge, WasRead, Whole, fault_end, front_end}
+use Rattle.sudoers_run.specs.Reading.{IsFront, IsTextOf, ReadsFile, TooLarge, WasRead, Whole, front_end}
 use Rattle.sudoers_run.proofs.InputLemmas.{no_memory}
 
 -- ---- fronts
@@ -115,24 +114,6 @@ policy_was_read policy = tt
 
 -- ---- what comes of it
 
-known_by : (o : Option (List ℕ)) (input : List ℕ) (policy : Result (List Line) ReadFault) (P : Result (List Line) ReadFault → Type 0) → IfSome o (λ (bytes : List ℕ). input ≡ bytes)
-    → policy_of input ≡ policy → P policy → IfSome o (λ (known : List ℕ). P (policy_of known))
-known_by None input policy P is outcome holds = tt
-known_by (Some known) input policy P is outcome holds = subst (λ (x : List ℕ). P (policy_of x)) is (subst P (sym outcome) holds)
-
--- What holds of the policy that was loaded holds of that of the known bytes.
-pub of_known : (old : Meter) (policy : Result (List Line) ReadFault) (P : Result (List Line) ReadFault → Type 0) → IsOfReader old policy → P policy
-    → IfSome old.remaining (λ (known : List ℕ). P (policy_of known))
-of_known old policy P is holds = known_by old.remaining is.input policy P is.is_text is.outcome holds
-
-pub ok_and : {E : Type 0} (r : Result (List ℕ) E) (text : List ℕ) (P : List ℕ → Type 0) → r ≡ Ok text → P text → IsOkAnd r P
-ok_and r text P is holds = subst (λ x. IsOkAnd x P) (sym is) holds
-
--- A fault of reading.
-pub file_failed : (fault : ToolFault) → IsFrontFault fault → fault_end fault ≡ file_end {A = ℕ} (Err fault)
-file_failed (tool.Layer (layer.Policy f)) is = absurd cc
-file_failed fault is = refl
-
 -- a fault that a policy leads to
 abbrev pub IsLater : LayerFault → Type 0
 IsLater (layer.Policy fault) = ⊥
@@ -144,10 +125,13 @@ later_end (layer.Policy f) later = absurd later
 later_end layer.NoMemory later = absurd later
 later_end fault later = refl
 
--- How the reading of a policy's file ended, by the fault that comes of it: want of memory, the fault of the policy, or one to which the
--- policy leads.
-pub file_told : (policy : Result (List Line) ReadFault) (fault : LayerFault) (old new : Meter) → ReadsFile text_limit (policy_end policy) old new
-    → (fault ≡ layer.NoMemory) ⊎ (((f : ReadFault) × (policy ≡ Err f) × (fault ≡ layer.Policy f)) ⊎ ((lines : List Line) × (policy ≡ Ok lines) × IsLater fault))
+-- A fault is want of memory, or that of the policy, or one to which the policy leads.
+abbrev pub IsToldOf : Result (List Line) ReadFault → LayerFault → Type 0
+IsToldOf policy fault =
+    (fault ≡ layer.NoMemory) ⊎ (((f : ReadFault) × (policy ≡ Err f) × (fault ≡ layer.Policy f)) ⊎ ((lines : List Line) × (policy ≡ Ok lines) × IsLater fault))
+
+-- How the reading of a policy's file ended, by the fault that comes of it.
+pub file_told : (policy : Result (List Line) ReadFault) (fault : LayerFault) (old new : Meter) → ReadsFile text_limit (policy_end policy) old new → IsToldOf policy fault
     → ReadsFile text_limit (file_end {A = ℕ} (Err (tool.Layer fault))) old new
 file_told policy fault old new reads (inl e) =
     subst (λ x. ReadsFile text_limit (file_end {A = ℕ} (Err (tool.Layer x))) old new) (sym e) (no_memory text_limit (policy_end policy) old new (policy_was_read policy) reads)
