@@ -109,12 +109,12 @@ impl<W: Write> Write for Counted<W> {
 
 impl<R: Read> Source for Counted<R> {
     ghost meter = { λ c. record {
-        failures = c.failures;
-        pulls = c.pulls;
-        offers = c.offers;
-        given = c.given;
-        ends = c.ends;
-        remaining = R.remaining c.device;
+      failures = c.failures;
+      pulls = c.pulls;
+      offers = c.offers;
+      given = c.given;
+      ends = c.ends;
+      remaining = R.remaining c.device;
     } };
 
     ghost same_remaining = { λ c. refl };
