@@ -1,6 +1,9 @@
+mod InputLemmas
+mod OutputLemmas
+mod PolicyLemmas
 mod ProgramLemmas
 mod ShowLemmas
 mod ConvertLemmas
 mod RewriteLemmas
 mod ListLemmas
-mod ListLarge
+mod ListEnds

@@ -1,17 +1,13 @@
--- What `list` says of files of which a front was read, and of words.
-use Rattle.std.proofs.Common.{◌≡◌, ◌⊎◌, inl, inr, ◌∙◌, ◌<◌, ◌≤◌, ◌+◌, ◌++◌, ⊎_elim, true, false, ℕ, List, [], ◌∷◌, length, Option, Some, None, IfSome, Result, Ok, Err, MatchResult, refl, sym, ap, subst, arith}
-use Rattle.std.proofs.lemmas.Bool.{lt-ltb, cases_lt, false≢true}
-use Rattle.std.proofs.lemmas.List.{length-append}
-use Rattle.std.specs.Borrow.{Bor}
-use Rattle.std.specs.Option.{is_some, option_or, unwrap_or}
+-- What `list` says of a policy, of files of which a front was read, and of words.
+use Rattle.std.proofs.Common.{◌≡◌, ◌⊎◌, inl, inr, ◌∙◌, ◌<◌, false, ℕ, List, [], ◌∷◌, length, Option, Some, None, Result, Ok, Err, MatchResult, refl, sym, ap, subst}
+use Rattle.std.proofs.lemmas.Bool.{lt-ltb}
+use Rattle.std.specs.Option.{is_some, option_or}
 use Rattle.sudoers_text.specs.Fault.{text_limit}
 use Rattle.sudoers_tree.specs.Line.{Line}
-use Rattle.sudoers_tree.specs.Reading.{read_of}
+use Rattle.sudoers_tree.specs.declared.fault.ReadFault.{ReadFault}
 use Rattle.sudoers_check.specs.Chains.{HasReachableCycle}
 use Rattle.sudoers_hits.specs.declared.asked.Who.{Who}
 use Rattle.sudoers_hits.specs.declared.request.Request.{Request}
-use Rattle.sudoers_verdict.specs.declared.verdict.AskFault.{AskFault}
-use Rattle.sudoers_verdict.specs.declared.verdict.AskFault.TheVariants as ask
 use Rattle.sudoers_match.specs.Default.{IsRunasDefault}
 use Rattle.sudoers_people.specs.declared.fault.PeopleFile.{PeopleFile}
 use Rattle.sudoers_people.specs.declared.fault.PeopleFile.TheVariants.{Passwd, Group}
@@ -19,39 +15,20 @@ use Rattle.sudoers_people.specs.declared.fault.PeopleFault.{PeopleFault}
 use Rattle.sudoers_people.specs.declared.fault.PeopleFault.TheVariants as people
 use Rattle.sudoers_people.specs.declared.fault.WhoFault.{WhoFault}
 use Rattle.sudoers_people.specs.Rows.{account_in, group_in}
-use Rattle.sudoers_people.specs.Person.{account_named, who_told}
-use Rattle.sudoers_hits.specs.declared.asked.Group.{Group as GroupOf}
-use Rattle.sudoers_people.specs.declared.account.Account.{Account}
-use Rattle.sudoers_people.specs.Asked.{group_asked, moment_in, request_from, request_told}
+use Rattle.sudoers_people.specs.Person.{who_told}
+use Rattle.sudoers_people.specs.Asked.{request_told}
 use Rattle.sudoers_people.specs.People.{People, file_fault, people_of, people_told, unless}
 use Rattle.sudoers_run.specs.declared.fault.LayerFault.{LayerFault}
 use Rattle.sudoers_run.specs.declared.fault.LayerFault.TheVariants as layer
 use Rattle.sudoers_run.specs.declared.fault.ToolFault.{ToolFault}
 use Rattle.sudoers_run.specs.declared.fault.ToolFault.TheVariants as tool
-use Rattle.sudoers_run.specs.Device.{Rose, counted_by}
+use Rattle.sudoers_run.specs.declared.output.Output.{Output}
 use Rattle.sudoers_run.specs.declared.words.ListWords.{ListWords}
-use Rattle.sudoers_run.specs.LayerOf.{layer_of_ask}
-use Rattle.sudoers_run.specs.Program.{IsFront, IsFrontFault}
-use Rattle.sudoers_run.specs.declared.list.Listed.{Listed}
-use Rattle.sudoers_run.specs.List.{AsUser, IsAnswered, IsAsked, IsListOutcome, IsTextOf, OfFirst, OfPeople, OfPolicy, OfRequest, OfTexts, OfWho, OfWords, Outcome, Stopped, TellsList, TellsWho, text_shown}
-use Rattle.sudoers_run.proofs.ShowLemmas.{read_large}
-
--- It says what the file says: it is all of it, or both are too large.
-abbrev pub Stands : List ℕ → List ℕ → Type 0
-Stands front known = (front ≡ known) ⊎ ((text_limit < length front) × (text_limit < length known))
-
-longer : (front rest known : List ℕ) → known ≡ front ++ rest → text_limit < length front → text_limit < length known
-longer front rest known e h = let l : length known ≡ length front + length rest = ap length e ∙ length-append front rest in omega (arith, h, l)
-
-pub stands : (old new : Option (List ℕ)) (front : List ℕ) → IsFront text_limit old new front → IfSome old (Stands front)
-stands None new front is = tt
-stands (Some known) None front is = absurd is.taken
-stands (Some known) (Some rest) front is =
-    ⊎_elim (λ h. inr (h, longer front rest known is.taken h)) (λ h. inl (is.all h)) (cases_lt text_limit (length front))
-
-pub same_policy : (front known : List ℕ) → Stands front known → read_of front ≡ read_of known
-same_policy front known (inl e) = ap read_of e
-same_policy front known (inr h) = read_large front h.0 ∙ sym (read_large known h.1)
+use Rattle.sudoers_run.specs.Device.{Meter}
+use Rattle.sudoers_run.specs.Policy.{IsOfReader, policy_of}
+use Rattle.sudoers_run.specs.Reading.{IsFrontFault}
+use Rattle.sudoers_run.specs.List.{AsUser, IsAnswered, IsAsked, IsListOutcome, OfFirst, OfPeople, OfPolicy, OfRequest, OfTexts, OfWho, OfWords, Outcome, TellsList, TellsWho, text_shown}
+use Rattle.sudoers_run.proofs.PolicyLemmas.{Stands, is_text, text_of}
 
 large_file : {X : Type 0} (file : PeopleFile) (said : List ℕ → Option X) (text : List ℕ) → text_limit < length text → file_fault file said text ≡ Some people.TooLarge
 large_file file said text h = rw (lt-ltb text_limit (length text) h) refl
@@ -65,223 +42,128 @@ unless_later (Some f) later fault x y e = refl
 unless_first : {X : Type 0} (first later : Option PeopleFault) (fault : PeopleFault) (x : X) → first ≡ Some fault → unless (option_or first later) x ≡ Err fault
 unless_first first later fault x e = ap (λ o. unless (option_or o later) x) e
 
-pub large_passwd : (passwd group : List ℕ) → text_limit < length passwd → people_told passwd group ≡ Err people.TooLarge
+large_passwd : (passwd group : List ℕ) → text_limit < length passwd → people_told passwd group ≡ Err people.TooLarge
 large_passwd passwd group h =
     unless_first (file_fault Passwd account_in passwd) (file_fault Group group_in group) people.TooLarge (people_of passwd group) (large_file Passwd account_in passwd h)
-
-pub large_group_file : (group : List ℕ) → text_limit < length group → file_fault Group group_in group ≡ Some people.TooLarge
-large_group_file group h = large_file Group group_in group h
 
 large_group : (passwd group other : List ℕ) → text_limit < length group → text_limit < length other → people_told passwd group ≡ people_told passwd other
 large_group passwd group other h g =
     unless_later (file_fault Passwd account_in passwd) (file_fault Group group_in group) people.TooLarge (people_of passwd group) (people_of passwd other) (large_file Group group_in group h)
     ∙ sym (unless_later (file_fault Passwd account_in passwd) (file_fault Group group_in other) people.TooLarge (people_of passwd other) (people_of passwd other) (large_file Group group_in other g))
 
-pub same_people : (p u g h : List ℕ) → Stands p u → Stands g h → people_told p g ≡ people_told u h
+same_people : (p u g h : List ℕ) → Stands p u → Stands g h → people_told p g ≡ people_told u h
 same_people p u g h (inr l) s = large_passwd p g l.0 ∙ sym (large_passwd u h l.1)
 same_people p u g h (inl e) (inl f) = ap (λ t. people_told t g) e ∙ ap (people_told u) f
 same_people p u g h (inl e) (inr l) = ap (λ t. people_told t g) e ∙ large_group u g h l.0 l.1
 
--- What comes of fronts comes of the files.
-pub moved : (w : ListWords) (p u g p' u' g' : List ℕ) (o : Outcome) → Stands p p' → Stands u u' → Stands g g' → IsListOutcome w p u g o → IsListOutcome w p' u' g' o
-moved w p u g p' u' g' o sp su sg is =
-    subst (λ r. OfPolicy w (people_told u' g') r o) (same_policy p p' sp) (subst (λ r. OfPolicy w r (read_of p) o) (same_people u u' g g' su sg) is)
+-- What comes of slices comes of what they hold.
+pub of_slices : (u u' g g' : List ℕ) → u ≡ u' → g ≡ g' → (P : Result People PeopleFault → Type 0) → P (people_told u g) → P (people_told u' g')
+of_slices u u' g g' a b P is = subst (λ (x : List ℕ). P (people_told u' x)) b (subst (λ (x : List ℕ). P (people_told x g)) a is)
 
--- The text of a reader, of which a front was read.
-abbrev text_of : Option (List ℕ) → List ℕ → List ℕ
-text_of None front = front
-text_of (Some known) front = known
+-- What comes of a policy and of fronts comes of the texts of the three readers.
+pub moved : (w : ListWords) (file : List ℕ) (input u g u' g' : List ℕ) (policy : Result (List Line) ReadFault) (o : Outcome) → policy_of input ≡ policy → Stands u u' → Stands g g'
+    → OfPolicy w file (people_told u g) policy o → IsListOutcome w file input u' g' o
+moved w file input u g u' g' policy o outcome su sg is =
+    subst (λ r. OfPolicy w file (people_told u' g') r o) (sym outcome) (subst (λ r. OfPolicy w file r policy o) (same_people u u' g g' su sg) is)
 
-is_text : (o : Option (List ℕ)) (front : List ℕ) → IsTextOf o (text_of o front)
-is_text None front = tt
-is_text (Some known) front = refl
-
-stands_for : (o : Option (List ℕ)) (front : List ℕ) → IfSome o (Stands front) → Stands front (text_of o front)
-stands_for None front is = inl refl
-stands_for (Some known) front is = is
-
--- What holds of all that stands for fronts holds of the texts.
-pub of_texts : (po uo go : Option (List ℕ)) (p u g : List ℕ) (Q : List ℕ → List ℕ → List ℕ → Type 0) → IfSome po (Stands p) → IfSome uo (Stands u) → IfSome go (Stands g)
-    → ((p' u' g' : List ℕ) → Stands p p' → Stands u u' → Stands g g' → Q p' u' g') → OfTexts po uo go Q
-of_texts po uo go p u g Q sp su sg all = record {
-  policy_text = text_of po p;
-  passwd_text = text_of uo u;
-  group_text = text_of go g;
-  is_policy = is_text po p;
+-- What holds of a policy, and of all that stands for fronts, holds of the texts.
+pub of_texts : (po uo go : Meter) (policy : Result (List Line) ReadFault) (u g : List ℕ) (Q : List ℕ → List ℕ → List ℕ → Type 0) → IsOfReader po policy
+    → Stands u (text_of uo.remaining u) → Stands g (text_of go.remaining g)
+    → ((input u' g' : List ℕ) → policy_of input ≡ policy → Stands u u' → Stands g g' → Q input u' g') → OfTexts po uo go Q
+of_texts po uo go policy u g Q is su sg all = record {
+  policy_text = is.input;
+  passwd_text = text_of uo.remaining u;
+  group_text = text_of go.remaining g;
+  is_policy = is.is_text;
   is_passwd = is_text uo u;
   is_group = is_text go g;
-  holds = all (text_of po p) (text_of uo u) (text_of go g) (stands_for po p sp) (stands_for uo u su) (stands_for go g sg);
+  holds = all is.input (text_of uo.remaining u) (text_of go.remaining g) is.outcome su sg;
 }
 
 -- What holds of all texts holds of those of the readers.
-pub of_any : (po uo go : Option (List ℕ)) (Q : List ℕ → List ℕ → List ℕ → Type 0) → ((p u g : List ℕ) → Q p u g) → OfTexts po uo go Q
+pub of_any : (po uo go : Meter) (Q : List ℕ → List ℕ → List ℕ → Type 0) → ((p u g : List ℕ) → Q p u g) → OfTexts po uo go Q
 of_any po uo go Q all = record {
-  policy_text = text_of po [];
-  passwd_text = text_of uo [];
-  group_text = text_of go [];
+  policy_text = text_of po.remaining [];
+  passwd_text = text_of uo.remaining [];
+  group_text = text_of go.remaining [];
   is_policy = is_text po [];
   is_passwd = is_text uo [];
   is_group = is_text go [];
-  holds = all (text_of po []) (text_of uo []) (text_of go []);
+  holds = all (text_of po.remaining []) (text_of uo.remaining []) (text_of go.remaining []);
 }
 
 -- A fault of reading says nothing of the texts.
-pub front_tells : (w : ListWords) (fault : ToolFault) → IsFrontFault fault → (p u g : List ℕ) → TellsList w fault p u g
-front_tells w tool.Read is p u g = tt
-front_tells w tool.NoEnd is p u g = tt
-front_tells w (tool.Layer fault) is p u g = inl is
-front_tells w tool.Write is p u g = tt
-front_tells w tool.NoMark is p u g = absurd is
-front_tells w tool.InputTooLarge is p u g = absurd is
+pub front_tells : (w : ListWords) (file : List ℕ) (fault : ToolFault) → IsFrontFault fault → (p u g : List ℕ) → TellsList w file fault p u g
+front_tells w file tool.Read is p u g = tt
+front_tells w file tool.NoEnd is p u g = tt
+front_tells w file (tool.Layer fault) is p u g = inl is
+front_tells w file tool.Write is p u g = tt
+front_tells w file tool.NoMark is p u g = absurd is
+front_tells w file tool.InputTooLarge is p u g = absurd is
 
 -- ---- words
 
-pub of_request : (w : ListWords) (lines : List Line) (told : Result Request WhoFault) (fault : LayerFault) → TellsWho told fault → OfRequest w lines told (Err fault)
-of_request w lines (Ok r) fault is = absurd is
-of_request w lines (Err said) fault is = ap Err is
+of_request : (w : ListWords) (file : List ℕ) (lines : List Line) (told : Result Request WhoFault) (fault : LayerFault) → TellsWho told fault → OfRequest w file lines told (Err fault)
+of_request w file lines (Ok r) fault is = absurd is
+of_request w file lines (Err said) fault is = ap Err is
 
 -- What is asked without a user and a group is asked as runas_default.
-pub asked_as_default : (w : ListWords) (lines : List Line) (people : People) (who : Who) (first : Request) (user : List ℕ) → text_shown w.target ≡ None → text_shown w.group ≡ None
+asked_as_default : (w : ListWords) (file : List ℕ) (lines : List Line) (people : People) (who : Who) (first : Request) (user : List ℕ) → text_shown w.target ≡ None → text_shown w.group ≡ None
     → request_told people who w.user.now (text_shown w.group) w.words.now w.moment.now ≡ Ok first
     → (HasReachableCycle lines → ⊥) → IsRunasDefault lines first.who user
-    → (o : Outcome) → AsUser w lines people first.who user o → IsAsked w lines people who (text_shown w.target) (text_shown w.group) o
-asked_as_default w lines people who first user none nobody told straight is o asked =
-    subst (λ t. IsAsked w lines people who t (text_shown w.group) o) (sym none)
-    (subst (λ g. IsAsked w lines people who None g o) (sym nobody)
-    (subst (λ r. OfFirst w lines people r o) (sym (ap (λ g. request_told people who w.user.now g w.words.now w.moment.now) (sym nobody) ∙ told))
+    → (o : Outcome) → AsUser w file lines people first.who user o → IsAsked w file lines people who (text_shown w.target) (text_shown w.group) o
+asked_as_default w file lines people who first user none nobody told straight is o asked =
+    subst (λ t. IsAsked w file lines people who t (text_shown w.group) o) (sym none)
+    (subst (λ g. IsAsked w file lines people who None g o) (sym nobody)
+    (subst (λ r. OfFirst w file lines people r o) (sym (ap (λ g. request_told people who w.user.now g w.words.now w.moment.now) (sym nobody) ∙ told))
     (inr (record { straight = straight; user = user; is_default = is; asked = asked }))))
 
--- A request is that of the user who asks.
-abbrev KeepsWho : Who → Result Request WhoFault → Type 0
-KeepsWho who (Ok r) = r.who ≡ who
-KeepsWho who (Err fault) = Unit {0}
-
-keeps_who : (people : People) (who : Who) (words : List (List ℕ)) (a : Option Account) (g : Option (Option GroupOf)) (m : Option ℕ) → KeepsWho who (request_from people who words a g m)
-keeps_who people who words None g m = tt
-keeps_who people who words (Some a) None m = tt
-keeps_who people who words (Some a) (Some g) None = tt
-keeps_who people who words (Some a) (Some g) (Some m) = refl
-
-pub who_kept : (people : People) (who : Who) (target : List ℕ) (group : Option (List ℕ)) (words : List (List ℕ)) (stamp : List ℕ) (r : Request)
-    → request_told people who target group words stamp ≡ Ok r → r.who ≡ who
-who_kept people who target group words stamp r told =
-    subst (KeepsWho who) told (keeps_who people who words (account_named people target) (group_asked people group) (moment_in stamp))
-
--- The first request is that of the user who is named, or of the user himself.
-abbrev pub first_told : ListWords → People → Who → Option (Bor (List ℕ)) → Result Request WhoFault
-first_told w people who target = request_told people who (unwrap_or target w.user).now (text_shown w.group) w.words.now w.moment.now
-
-of_first : (w : ListWords) (lines : List Line) (people : People) (told : Result Request WhoFault) (fault : LayerFault) → TellsWho told fault → OfFirst w lines people told (Err fault)
-of_first w lines people (Ok r) fault is = absurd is
-of_first w lines people (Err said) fault is = ap Err is
-
-module _ (w : ListWords) (lines : List Line) (people : People) (who : Who) where
-  -- Without a user and a group the first request is made for the user himself.
-  himself : (group : Option (List ℕ)) → text_shown w.group ≡ group → first_told w people who None ≡ request_told people who w.user.now group w.words.now w.moment.now
-  himself group same = ap (λ g. request_told people who w.user.now g w.words.now w.moment.now) same
-
-  first_refused : (target : Option (Bor (List ℕ))) (group : Option (List ℕ)) → text_shown w.group ≡ group → (fault : LayerFault) → TellsWho (first_told w people who target) fault
-      → IsAsked w lines people who (text_shown target) group (Err fault)
-  first_refused (Some t) group same fault is = of_request w lines (first_told w people who (Some t)) fault is
-  first_refused None (Some g) same fault is = of_request w lines (first_told w people who None) fault is
-  first_refused None None same fault is =
-      subst (λ told. OfFirst w lines people told (Err fault)) (himself None same) (of_first w lines people (first_told w people who None) fault is)
-
-  first_cyclic : (target : Option (Bor (List ℕ))) (group : Option (List ℕ)) → text_shown w.group ≡ group → (first : Request) → first_told w people who target ≡ Ok first → HasReachableCycle lines
-      → IsAsked w lines people who (text_shown target) group (Err (layer.Ask Cycle))
-  first_cyclic (Some t) group same first told cycle = subst (λ r. OfRequest w lines r (Err (layer.Ask Cycle))) (sym told) (inl (refl, cycle))
-  first_cyclic None (Some g) same first told cycle = subst (λ r. OfRequest w lines r (Err (layer.Ask Cycle))) (sym told) (inl (refl, cycle))
-  first_cyclic None None same first told cycle =
-      subst (λ r. OfFirst w lines people r (Err (layer.Ask Cycle))) (sym told ∙ himself None same) (inl (cycle, refl))
-
-  first_asked : (target : Option (Bor (List ℕ))) (group : Option (List ℕ)) → text_shown w.group ≡ group → (is_some target ≡ true) ⊎ (is_some group ≡ true)
-      → (first : Request) → first_told w people who target ≡ Ok first → (o : Outcome) → IsAnswered w lines first o
-      → IsAsked w lines people who (text_shown target) group o
-  first_asked (Some t) group same one first told o answered = subst (λ r. OfRequest w lines r o) (sym told) answered
-  first_asked None (Some g) same one first told o answered = subst (λ r. OfRequest w lines r o) (sym told) answered
-  first_asked None None same (inl e) first told o answered = absurd (false≢true e)
-  first_asked None None same (inr e) first told o answered = absurd (false≢true e)
-
-  -- What is asked, in the words of the call.
-  abbrev pub Asked : Outcome → Type 0
-  Asked = IsAsked w lines people who (text_shown w.target) (text_shown w.group)
-
-  pub refused : (fault : LayerFault) → (fault ≡ layer.NoMemory) ⊎ TellsWho (first_told w people who w.target) fault → (fault ≡ layer.NoMemory) ⊎ Asked (Err fault)
-  refused fault (inl e) = inl e
-  refused fault (inr is) = inr (first_refused w.target (text_shown w.group) refl fault is)
-
-  pub cyclic : (first : Request) → first_told w people who w.target ≡ Ok first → (fault : AskFault) → (fault ≡ ask.NoMemory) ⊎ ((fault ≡ ask.Cycle) × HasReachableCycle lines)
-      → (layer_of_ask fault ≡ layer.NoMemory) ⊎ Asked (Err (layer_of_ask fault))
-  cyclic first told fault (inl e) = inl (ap layer_of_ask e)
-  cyclic first told fault (inr is) =
-      inr (subst (λ f. Asked (Err (layer_of_ask f))) (sym is.0) (first_cyclic w.target (text_shown w.group) refl first told is.1))
-
-  -- The answer is asked for, whatever it comes to.
-  answer_asked : (r : Request) → ((o : Outcome) → IsAnswered w lines r o → Asked o) → (result : Result Listed LayerFault)
-      → MatchResult result (λ listed. IsAnswered w lines r (Ok (listed.text.items, listed.status))) (λ fault. (fault ≡ layer.NoMemory) ⊎ IsAnswered w lines r (Err fault))
-      → MatchResult result (λ listed. Asked (Ok (listed.text.items, listed.status))) (λ fault. (fault ≡ layer.NoMemory) ⊎ Asked (Err fault))
-  answer_asked r asked (Ok listed) is = asked (Ok (listed.text.items, listed.status)) is
-  answer_asked r asked (Err fault) (inl e) = inl e
-  answer_asked r asked (Err fault) (inr is) = inr (asked (Err fault) is)
-
-  pub named_answered : (is_some w.target ≡ true) ⊎ (is_some (text_shown w.group) ≡ true) → (first : Request) → first_told w people who w.target ≡ Ok first → (result : Result Listed LayerFault)
-      → MatchResult result (λ listed. IsAnswered w lines first (Ok (listed.text.items, listed.status))) (λ fault. (fault ≡ layer.NoMemory) ⊎ IsAnswered w lines first (Err fault))
-      → MatchResult result (λ listed. Asked (Ok (listed.text.items, listed.status))) (λ fault. (fault ≡ layer.NoMemory) ⊎ Asked (Err fault))
-  named_answered one first told result is = answer_asked first (first_asked w.target (text_shown w.group) refl one first told) result is
-
-  -- Without a user and a group the command is to run as runas_default.
-  module _ (none : w.target ≡ None) (nobody : w.group ≡ None) (first : Request) (told : first_told w people who w.target ≡ Ok first)
-      (straight : HasReachableCycle lines → ⊥) (user : List ℕ) (is : IsRunasDefault lines first.who user) where
-    abbrev second_told : Result Request WhoFault
-    second_told = request_told people first.who user (text_shown w.group) w.words.now w.moment.now
-
-    as_default : (o : Outcome) → OfRequest w lines second_told o → Asked o
-    as_default = asked_as_default w lines people who first user (ap text_shown none) (ap text_shown nobody)
-        (ap (λ t. request_told people who (unwrap_or t w.user).now (text_shown w.group) w.words.now w.moment.now) (sym none) ∙ told) straight is
-
-    pub default_refused : (fault : LayerFault) → (fault ≡ layer.NoMemory) ⊎ TellsWho second_told fault → (fault ≡ layer.NoMemory) ⊎ Asked (Err fault)
-    default_refused fault (inl e) = inl e
-    default_refused fault (inr t) = inr (as_default (Err fault) (of_request w lines second_told fault t))
-
-    pub default_answered : (r : Request) → second_told ≡ Ok r → (result : Result Listed LayerFault)
-        → MatchResult result (λ listed. IsAnswered w lines r (Ok (listed.text.items, listed.status))) (λ fault. (fault ≡ layer.NoMemory) ⊎ IsAnswered w lines r (Err fault))
-        → MatchResult result (λ listed. Asked (Ok (listed.text.items, listed.status))) (λ fault. (fault ≡ layer.NoMemory) ⊎ Asked (Err fault))
-    default_answered r e result answered = answer_asked r (λ o a. as_default o (subst (λ x. OfRequest w lines x o) (sym e) a)) result answered
+pub asked_of : (w : ListWords) (lines : List Line) (people : People) (who : Who) (first : Request) (user : List ℕ) (result : Result Request LayerFault) → text_shown w.target ≡ None → text_shown w.group ≡ None
+    → request_told people who w.user.now (text_shown w.group) w.words.now w.moment.now ≡ Ok first
+    → (HasReachableCycle lines → ⊥) → IsRunasDefault lines first.who user
+    → MatchResult result (λ r. request_told people first.who user (text_shown w.group) w.words.now w.moment.now ≡ Ok r)
+    (λ fault. (fault ≡ layer.NoMemory) ⊎ TellsWho (request_told people first.who user (text_shown w.group) w.words.now w.moment.now) fault)
+    → MatchResult result (λ r. (file : List ℕ) (o : Outcome) → IsAnswered w file lines r o → IsAsked w file lines people who (text_shown w.target) (text_shown w.group) o)
+    (λ fault. (fault ≡ layer.NoMemory) ⊎ ((file : List ℕ) → IsAsked w file lines people who (text_shown w.target) (text_shown w.group) (Err fault)))
+asked_of w lines people who first user (Ok r) none nobody told straight is e =
+    λ file o a. asked_as_default w file lines people who first user none nobody told straight is o (subst (λ x. OfRequest w file lines x o) (sym e) a)
+asked_of w lines people who first user (Err fault) none nobody told straight is (inl e) = inl e
+asked_of w lines people who first user (Err fault) none nobody told straight is (inr t) =
+    inr (λ file. asked_as_default w file lines people who first user none nobody told straight is (Err fault) (of_request w file lines _ fault t))
 
 -- What comes of words, where there are some.
-of_words : (w : ListWords) (lines : List Line) (people : People) (who : Who) (words : List (List ℕ)) (o : Outcome) → (words ≡ [] → ⊥)
-    → IsAsked w lines people who (text_shown w.target) (text_shown w.group) o → OfWords w lines people who words o
-of_words w lines people who [] o some asked = absurd (some refl)
-of_words w lines people who (word ∷ words) o some asked = asked
+of_words : (w : ListWords) (file : List ℕ) (lines : List Line) (people : People) (who : Who) (words : List (List ℕ)) (o : Outcome) → (words ≡ [] → ⊥)
+    → IsAsked w file lines people who (text_shown w.target) (text_shown w.group) o → OfWords w file lines people who words o
+of_words w file lines people who [] o some asked = absurd (some refl)
+of_words w file lines people who (word ∷ words) o some asked = asked
 
-pub outcome_of_words : (w : ListWords) (policy passwd group : List ℕ) (lines : List Line) (people : People) (who : Who) → read_of policy ≡ Ok lines
+outcome_of_words : (w : ListWords) (file : List ℕ) (policy : Result (List Line) ReadFault) (passwd group : List ℕ) (lines : List Line) (people : People) (who : Who) → policy ≡ Ok lines
     → people_told passwd group ≡ Ok people → who_told people w.user.now w.host.now w.interfaces.now ≡ Ok who → (w.words.now ≡ [] → ⊥)
-    → (o : Outcome) → IsAsked w lines people who (text_shown w.target) (text_shown w.group) o → IsListOutcome w policy passwd group o
-outcome_of_words w policy passwd group lines people who read told is some o asked =
-    subst (λ r. OfPolicy w (people_told passwd group) r o) (sym read)
-    (subst (λ r. OfPeople w lines r o) (sym told)
-    (subst (λ r. OfWho w lines people r o) (sym is) (of_words w lines people who w.words.now o some asked)))
+    → (o : Outcome) → IsAsked w file lines people who (text_shown w.target) (text_shown w.group) o → OfPolicy w file (people_told passwd group) policy o
+outcome_of_words w file policy passwd group lines people who read told is some o asked =
+    subst (λ r. OfPolicy w file (people_told passwd group) r o) (sym read)
+    (subst (λ r. OfPeople w file lines r o) (sym told)
+    (subst (λ r. OfWho w file lines people r o) (sym is) (of_words w file lines people who w.words.now o some asked)))
 
-pub outcome_of : (w : ListWords) (policy passwd group : List ℕ) (lines : List Line) (people : People) (who : Who) (result : Result Listed LayerFault) → read_of policy ≡ Ok lines
-    → people_told passwd group ≡ Ok people → who_told people w.user.now w.host.now w.interfaces.now ≡ Ok who → (w.words.now ≡ [] → ⊥)
-    → MatchResult result (λ listed. Asked w lines people who (Ok (listed.text.items, listed.status))) (λ fault. (fault ≡ layer.NoMemory) ⊎ Asked w lines people who (Err fault))
-    → MatchResult result (λ listed. IsListOutcome w policy passwd group (Ok (listed.text.items, listed.status))) (λ fault. (fault ≡ layer.NoMemory) ⊎ IsListOutcome w policy passwd group (Err fault))
-outcome_of w policy passwd group lines people who (Ok listed) read told is some asked =
-    outcome_of_words w policy passwd group lines people who read told is some (Ok (listed.text.items, listed.status)) asked
-outcome_of w policy passwd group lines people who (Err fault) read told is some (inl e) = inl e
-outcome_of w policy passwd group lines people who (Err fault) read told is some (inr asked) =
-    inr (outcome_of_words w policy passwd group lines people who read told is some (Err fault) asked)
+pub outcome_of : (w : ListWords) (file : List ℕ) (policy : Result (List Line) ReadFault) (passwd group : List ℕ) (lines : List Line) (people : People) (who : Who) (r : Request) (result : Result Output LayerFault)
+    → policy ≡ Ok lines → people_told passwd group ≡ Ok people → who_told people w.user.now w.host.now w.interfaces.now ≡ Ok who → (w.words.now ≡ [] → ⊥)
+    → ((o : Outcome) → IsAnswered w file lines r o → IsAsked w file lines people who (text_shown w.target) (text_shown w.group) o)
+    → MatchResult result (λ output. IsAnswered w file lines r (Ok (output.text.items, output.status))) (λ fault. (fault ≡ layer.NoMemory) ⊎ IsAnswered w file lines r (Err fault))
+    → MatchResult result (λ output. OfPolicy w file (people_told passwd group) policy (Ok (output.text.items, output.status)))
+    (λ fault. (fault ≡ layer.NoMemory) ⊎ OfPolicy w file (people_told passwd group) policy (Err fault))
+outcome_of w file policy passwd group lines people who r (Ok output) read told is some asked a =
+    outcome_of_words w file policy passwd group lines people who read told is some (Ok (output.text.items, output.status)) (asked _ a)
+outcome_of w file policy passwd group lines people who r (Err fault) read told is some asked (inl e) = inl e
+outcome_of w file policy passwd group lines people who r (Err fault) read told is some asked (inr a) =
+    inr (outcome_of_words w file policy passwd group lines people who read told is some (Err fault) (asked _ a))
 
--- ---- readers
+-- ---- faults
 
-pub stopped : (ends ends-new given given-new size : ℕ) → (size ≤ text_limit → Rose ends ends-new) → (text_limit < size → counted_by (text_limit + 1) given ≤ given-new)
-    → Stopped ends ends-new given given-new
-stopped ends ends-new given given-new size ended more = ⊎_elim (λ h. inr (more h)) (λ h. inl (ended h)) (cases_lt text_limit size)
-
-pub tells : (w : ListWords) (policy passwd group : List ℕ) (fault : LayerFault) → (fault ≡ layer.NoMemory) ⊎ IsListOutcome w policy passwd group (Err fault)
-    → (p' u' g' : List ℕ) → Stands policy p' → Stands passwd u' → Stands group g' → TellsList w (tool.Layer fault) p' u' g'
-tells w policy passwd group fault (inl e) p' u' g' sp su sg = inl e
-tells w policy passwd group fault (inr o) p' u' g' sp su sg = inr (moved w policy passwd group p' u' g' (Err fault) sp su sg o)
+pub tells : (w : ListWords) (file : List ℕ) (policy : Result (List Line) ReadFault) (passwd group : List ℕ) (fault : LayerFault)
+    → (fault ≡ layer.NoMemory) ⊎ OfPolicy w file (people_told passwd group) policy (Err fault)
+    → (input u' g' : List ℕ) → policy_of input ≡ policy → Stands passwd u' → Stands group g' → TellsList w file (tool.Layer fault) input u' g'
+tells w file policy passwd group fault (inl e) input u' g' outcome su sg = inl e
+tells w file policy passwd group fault (inr o) input u' g' outcome su sg = inr (moved w file input passwd group u' g' policy (Err fault) outcome su sg o)
 
 -- what stands behind an option that is not there
 pub none_of : {X : Type 0} (o : Option X) → ((x : X) → o ≡ Some x → ⊥) → o ≡ None

@@ -22,20 +22,3 @@ pub split_found : (front line after : List ℕ) → join (physical_lines after) 
 split_found front line after rest h =
     let begin : front ++ [] ≡ front = append-nil front in
     rw h (ap (λ z. Some (z, join (physical_lines after))) begin ∙ ap (λ z. Some (front, z)) rest)
-
--- two appends in turn
-pub appends_more : (old mid new : Option (List ℕ)) (xs ys : List ℕ) → Appends old mid xs → Appends mid new ys → Appends old new (xs ++ ys)
-appends_more None mid new xs ys a b = tt
-appends_more (Some o) None new xs ys a b = absurd a
-appends_more (Some o) (Some m) None xs ys a b = absurd b
-appends_more (Some o) (Some m) (Some n) xs ys a b = rw (b, a) (append_assoc o xs ys)
-
--- two reads in turn
-pub consumes_more : (old mid new : Option (List ℕ)) (xs ys : List ℕ) → Consumes old mid xs → Consumes mid new ys → Consumes old new (xs ++ ys)
-consumes_more None mid new xs ys a b = tt
-consumes_more (Some o) None new xs ys a b = absurd a
-consumes_more (Some o) (Some m) None xs ys a b = absurd b
-consumes_more (Some o) (Some m) (Some n) xs ys a b = a ∙ ap (λ z. xs ++ z) b ∙ sym (append_assoc xs ys n)
-
-pub takes_bytes : (old new : Option (List ℕ)) (pulled : Pulled) (n : ℕ) (buf : List ℕ) → pulled ≡ Bytes n → Takes old new pulled buf → Consumes old new (take n buf)
-takes_bytes old new pulled n buf e t = (subst (λ p. Takes old new p buf) e t).0

@@ -1,15 +1,16 @@
 -- What `check` writes for a policy file.
-use Rattle.std.specs.Prelude.{◌≡◌, ℕ, Bool, if◌then◌else◌, List, [], ◌++◌, codes, Option, Result, Ok, Err}
+use Rattle.std.specs.Prelude.{◌≡◌, ℕ, Bool, if◌then◌else◌, List, [], ◌++◌, codes, Result, Ok, Err}
 use Rattle.sudoers_text.specs.Fault.{text_limit}
 use Rattle.sudoers_tree.specs.Line.{Line}
 use Rattle.sudoers_tree.specs.declared.fault.ReadFault.{ReadFault}
-use Rattle.sudoers_tree.specs.Reading.{read_of}
 use Rattle.sudoers_check.specs.Report.{report_of, report_text, is_fine}
 use Rattle.sudoers_run.specs.declared.fault.LayerFault.{LayerFault}
 use Rattle.sudoers_run.specs.declared.fault.LayerFault.TheVariants as layer
 use Rattle.sudoers_run.specs.declared.fault.ToolFault.{ToolFault}
 use Rattle.sudoers_run.specs.declared.fault.ToolFault.TheVariants as tool
-use Rattle.sudoers_run.specs.Device.{TakesAtMost}
+use Rattle.sudoers_run.specs.Device.{Meter}
+use Rattle.sudoers_run.specs.Policy.{policy_of}
+use Rattle.sudoers_run.specs.Reading.{ReadingEnd, ReadsFile, TooLarge, reading_end}
 use Rattle.sudoers_run.specs.Faults.{DeviceOr}
 use Rattle.sudoers_run.specs.FaultText.{text_of_read}
 
@@ -25,31 +26,22 @@ check_status strict (Err fault) = 1
 
 -- what is told of an input
 abbrev pub TellsCheck : List ℕ → Bool → List ℕ → ℕ → List ℕ → Type 0
-TellsCheck file strict text status input = (text ≡ check_text file strict (read_of input)) × (status ≡ check_status strict (read_of input))
+TellsCheck file strict text status input = (text ≡ check_text file strict (policy_of input)) × (status ≡ check_status strict (policy_of input))
 
 -- what is written: nothing, if it is to be quiet
 abbrev pub check_output : List ℕ → Bool → Bool → List ℕ → List ℕ
-check_output file quiet strict input = if quiet then [] else check_text file strict (read_of input)
+check_output file quiet strict input = if quiet then [] else check_text file strict (policy_of input)
 
 -- the faults of checking a file; those of the file are told in what is written
 abbrev pub IsCheckFault : ToolFault → Type 0
 IsCheckFault fault = DeviceOr (λ (said : LayerFault). said ≡ layer.NoMemory) fault
 
--- a reader that failed or was given up had given no byte past the limit
-abbrev pub StopsCheck : Option (List ℕ) → Option (List ℕ) → ToolFault → Type 0
-StopsCheck old new tool.Read = TakesAtMost old new text_limit
-StopsCheck old new tool.NoEnd = TakesAtMost old new text_limit
-StopsCheck old new (tool.Layer fault) = Unit {0}
-StopsCheck old new tool.Write = Unit {0}
-StopsCheck old new tool.NoMark = Unit {0}
-StopsCheck old new tool.InputTooLarge = Unit {0}
+-- How the reading of the file ended, by what comes of it. A file that is too large is an answer, with status 1.
+abbrev pub IsCheckEnd : Result ℕ ToolFault → ReadingEnd → Type 0
+IsCheckEnd (Ok status) TooLarge = status ≡ 1
+IsCheckEnd (Err tool.Write) TooLarge = Unit {0}
+IsCheckEnd result how = how ≡ reading_end result
 
--- The outcome asks that the file was read: not if reading failed or was given up, nor if memory ran out.
-abbrev pub NeedsFile : Result ℕ ToolFault → Type 0
-NeedsFile (Ok status) = Unit {0}
-NeedsFile (Err tool.Write) = Unit {0}
-NeedsFile (Err tool.Read) = ⊥
-NeedsFile (Err tool.NoEnd) = ⊥
-NeedsFile (Err (tool.Layer fault)) = ⊥
-NeedsFile (Err tool.NoMark) = ⊥
-NeedsFile (Err tool.InputTooLarge) = ⊥
+-- what checking a file does to its reader
+abbrev pub ReadsChecked : Result ℕ ToolFault → Meter → Meter → Type 0
+ReadsChecked result old new = (how : ReadingEnd) × IsCheckEnd result how × ReadsFile text_limit how old new

@@ -4,7 +4,6 @@ use Rattle.std.specs.Borrow.{Bor}
 use Rattle.std.specs.Option.{is_some, option_map}
 use Rattle.sudoers_tree.specs.Line.{Line}
 use Rattle.sudoers_tree.specs.declared.fault.ReadFault.{ReadFault}
-use Rattle.sudoers_tree.specs.Reading.{read_of}
 use Rattle.sudoers_cvt.specs.declared.fault.CvtFault.{CvtFault}
 use Rattle.sudoers_cvt.specs.declared.fault.CvtFault.TheVariants.{Cycle, TooLarge, NotUtf8}
 use Rattle.sudoers_cvt.specs.Rules.{Rules, rules_of, fits, printed}
@@ -23,6 +22,7 @@ use Rattle.sudoers_run.specs.declared.fault.LayerFault.TheVariants as layer
 use Rattle.sudoers_run.specs.declared.fault.ToolFault.{ToolFault}
 use Rattle.sudoers_edit.specs.Memory.{IsOfText}
 use Rattle.sudoers_run.specs.Faults.{DeviceOr, IsPairFault}
+use Rattle.sudoers_run.specs.Policy.{policy_of}
 use Rattle.sudoers_run.specs.Program.{TellsLayer}
 
 -- rules as the text of a policy, if it is within the limits; or as JSON, if all their texts are UTF-8
@@ -69,7 +69,7 @@ convert_read words (Ok lines) = convert_lines words lines
 convert_read words (Err fault) = Err (layer.Policy fault)
 
 abbrev pub convert_output : ConvertWords → List ℕ → Result (List ℕ) LayerFault
-convert_output words input = convert_read words (read_of input)
+convert_output words input = convert_read words (policy_of input)
 
 -- a fault that the file has, or the words; those of the devices and of memory say nothing of them
 abbrev pub TellsConvert : ConvertWords → ToolFault → List ℕ → Type 0

@@ -1,11 +1,21 @@
--- What one pull, one push and a failure of a device do.
-use Rattle.std.specs.Prelude.{◌≡◌, ◌≢◌, ℕ, ◌+◌, ◌-◌, min, ◌^◌, ◌<◌, ◌≤◌, ◌⊎◌, ◌&&◌, ◌==◌, nat_lt, List, length, take, Option, Result, Ok, Err, IfErr, MatchBool}
+-- What one pull, one push and a failure of a device do, and what is counted of a reader.
+use Rattle.std.specs.Prelude.{◌≡◌, ◌≢◌, ℕ, ◌+◌, ◌-◌, min, ◌^◌, ◌<◌, ◌≤◌, ◌⊎◌, ◌&&◌, ◌==◌, nat_lt, List, length, take, Option, Result, Ok, Err, IfOk, IfErr, IfSome, OnErr, MatchBool}
 use Rattle.std.specs.Io.KnownBytes.{Keeps, Consumes, IsAtEnd, Appends}
 use Rattle.sudoers_run.specs.declared.device.Pulled.{Pulled}
 use Rattle.sudoers_run.specs.declared.device.Pulled.TheVariants.{Bytes, Interrupted}
 use Rattle.sudoers_run.specs.declared.device.DeviceFailed.{DeviceFailed}
 use Rattle.sudoers_run.specs.declared.fault.ToolFault.{ToolFault}
-use Rattle.sudoers_run.specs.declared.fault.ToolFault.TheVariants.{Read, Write, NoEnd}
+use Rattle.sudoers_run.specs.declared.fault.ToolFault.TheVariants.{Write}
+
+-- What is counted of a reader, each up to the greatest number that is counted: how often it failed, was asked, was asked with room for a
+-- byte; how many bytes it gave; how often it told its end. And what it has left to give, if that is known.
+pub record Meter : Type 0 where
+  pub failures : ℕ
+  pub pulls : ℕ
+  pub offers : ℕ
+  pub given : ℕ
+  pub ends : ℕ
+  pub remaining : Option (List ℕ)
 
 -- a count rose, or is the greatest that it can be
 abbrev pub Rose : ℕ → ℕ → Type 0
@@ -14,6 +24,10 @@ Rose old new = (old < new) ⊎ (new ≡ 2 ^ 64 - 1)
 -- one more, up to the greatest number that is counted
 abbrev pub counted_up : ℕ → ℕ
 counted_up n = min (n + 1) (2 ^ 64 - 1)
+
+-- so many more, up to the greatest number that is counted
+abbrev pub counted_by : ℕ → ℕ → ℕ
+counted_by count n = min (n + count) (2 ^ 64 - 1)
 
 -- The count of failures goes up with a failure, and stays with anything else.
 abbrev pub CountsFailures : {A : Type 0} → ℕ → ℕ → Result A DeviceFailed → Type 0
@@ -30,25 +44,32 @@ abbrev pub Takes : Option (List ℕ) → Option (List ℕ) → Pulled → List �
 Takes old new (Bytes n) buf = Consumes old new (take n buf) × (n ≡ 0 → 0 < length buf → IsAtEnd new)
 Takes old new Interrupted buf = Keeps old new
 
--- The count of ends goes up with no bytes where there is room, and stays with anything else.
-abbrev pub CountsEnds : ℕ → ℕ → Result Pulled DeviceFailed → List ℕ → Type 0
-CountsEnds old new (Ok (Bytes n)) buf = MatchBool ((n == 0) && nat_lt 0 (length buf)) (new ≡ counted_up old) (new ≡ old)
-CountsEnds old new (Ok Interrupted) buf = new ≡ old
-CountsEnds old new (Err failed) buf = new ≡ old
-
 -- The count of calls that offer room goes up with such a call, and stays with one that offers none.
 abbrev pub CountsOffers : ℕ → ℕ → List ℕ → Type 0
 CountsOffers old new buf = MatchBool (nat_lt 0 (length buf)) (new ≡ counted_up old) (new ≡ old)
-
--- so many more, up to the greatest number that is counted
-abbrev pub counted_by : ℕ → ℕ → ℕ
-counted_by count n = min (n + count) (2 ^ 64 - 1)
 
 -- The count of bytes goes up by those that are given, and stays with anything else.
 abbrev pub CountsBytes : ℕ → ℕ → Result Pulled DeviceFailed → Type 0
 CountsBytes old new (Ok (Bytes n)) = new ≡ counted_by n old
 CountsBytes old new (Ok Interrupted) = new ≡ old
 CountsBytes old new (Err failed) = new ≡ old
+
+-- The count of ends goes up with no bytes where there is room, and stays with anything else.
+abbrev pub CountsEnds : ℕ → ℕ → Result Pulled DeviceFailed → List ℕ → Type 0
+CountsEnds old new (Ok (Bytes n)) buf = MatchBool ((n == 0) && nat_lt 0 (length buf)) (new ≡ counted_up old) (new ≡ old)
+CountsEnds old new (Ok Interrupted) buf = new ≡ old
+CountsEnds old new (Err failed) buf = new ≡ old
+
+-- What one pull does: it takes bytes into the buffer, or none if it fails, and is counted.
+pub record Pulls (result : Result Pulled DeviceFailed) (buf : List ℕ) (old new : Meter) : Type 0 where
+  pub within : IfOk result (λ pulled. IsWithin pulled buf)
+  pub bytes : IfOk result (λ pulled. Takes old.remaining new.remaining pulled buf)
+  pub kept : OnErr result (Keeps old.remaining new.remaining)
+  pub failed : CountsFailures old.failures new.failures result
+  pub asked : new.pulls ≡ counted_up old.pulls
+  pub offered : CountsOffers old.offers new.offers buf
+  pub given : CountsBytes old.given new.given result
+  pub ended : CountsEnds old.ends new.ends result buf
 
 -- known bytes grow by a front of these
 abbrev pub AppendsFront : Option (List ℕ) → Option (List ℕ) → List ℕ → Type 0
@@ -61,13 +82,9 @@ TakesAtMost old new most = (bytes : List ℕ) × (length bytes ≤ most) × Cons
 abbrev pub TakesExactly : Option (List ℕ) → Option (List ℕ) → ℕ → Type 0
 TakesExactly old new count = (bytes : List ℕ) × (length bytes ≡ count) × Consumes old new bytes
 
--- What a call does with its reader. `Read` means that the count of failures rose, and without `Read` it did not. The reader is asked
--- at most `most` times. `NoEnd` comes only after `most` calls with room for a byte.
-pub record Reads {A : Type 0} (most : ℕ) (result : Result A ToolFault) (failures failures-new pulls pulls-new offers offers-new : ℕ) : Type 0 where
-  pub told : result ≡ Err Read → Rose failures failures-new
-  pub well : result ≢ Err Read → failures-new ≡ failures
-  pub asked : pulls-new ≤ pulls + most
-  pub no_end : result ≡ Err NoEnd → counted_by most offers ≤ offers-new
+-- all known bytes were taken, and they are at most so many
+abbrev pub TakesAll : Option (List ℕ) → Option (List ℕ) → ℕ → Type 0
+TakesAll old new most = IfSome old (λ known. (length known ≤ most) × Consumes old new known)
 
 -- What a call does with its writer. `Write` means that the count of failures rose, and without `Write` it did not. Before any other
 -- fault nothing is written.

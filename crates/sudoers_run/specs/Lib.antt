@@ -1,4 +1,6 @@
 pub mod Device
+pub mod Reading
+pub mod Policy
 pub mod FaultText
 pub mod Shown
 pub mod LayerOf

@@ -1,11 +1,9 @@
 -- What `edit` writes for what it reads, and its faults in their order.
-use Rattle.std.specs.Prelude.{◌≡◌, ◌⊎◌, ◌+◌, ◌≤◌, IfSome, ℕ, Bool, false, ◌&&◌, ◌==◌, nat_lt, if◌then◌else◌, List, [], ◌∷◌, ◌++◌, length, Option, Some, None, Result, Ok, Err}
-use Rattle.std.specs.Io.KnownBytes.{Consumes}
+use Rattle.std.specs.Prelude.{◌≡◌, ◌⊎◌, ℕ, Bool, false, ◌&&◌, ◌==◌, nat_lt, if◌then◌else◌, List, [], ◌∷◌, ◌++◌, length, Option, Some, None, Result, Ok, Err}
 use Rattle.std.specs.Option.{option_map}
 use Rattle.sudoers_text.specs.Line.{join}
 use Rattle.sudoers_tree.specs.declared.fault.ReadFault.{ReadFault}
 use Rattle.sudoers_tree.specs.Policy.{texts}
-use Rattle.sudoers_tree.specs.Reading.{read_of}
 use Rattle.sudoers_script.specs.declared.edit.Edit.{Edit}
 use Rattle.sudoers_edit.specs.declared.fault.EditFault.{EditFault}
 use Rattle.sudoers_script.specs.declared.script.ScriptFault.{ScriptFault}
@@ -14,7 +12,7 @@ use Rattle.sudoers_run.specs.declared.fault.LayerFault.{LayerFault}
 use Rattle.sudoers_run.specs.declared.fault.LayerFault.TheVariants as layer
 use Rattle.sudoers_run.specs.declared.fault.ToolFault.{ToolFault}
 use Rattle.sudoers_run.specs.declared.fault.ToolFault.TheVariants as tool
-use Rattle.sudoers_run.specs.Device.{TakesAtMost, TakesExactly}
+use Rattle.sudoers_run.specs.Policy.{policy_of}
 use Rattle.sudoers_edit.specs.Memory.{IsOfText}
 use Rattle.sudoers_run.specs.Faults.{IsScriptFault, IsRefusal}
 use Rattle.sudoers_script.specs.Physical.{physical_lines}
@@ -25,10 +23,6 @@ use Rattle.sudoers_script.specs.ScriptReading.{reading}
 -- how many bytes `edit` reads
 abbrev pub input_limit : ℕ
 input_limit = 4000000
-
--- how often it asks the reader
-abbrev pub pull_limit : ℕ
-pull_limit = 4194304
 
 -- the line `%%`, which only LF ends
 abbrev pub is_mark : List ℕ → Bool
@@ -75,7 +69,7 @@ edited_output edits lines = by_edit (run_all 0 edits lines) >>= (λ new. output_
 -- the same of a script and a policy; or the first fault of the script, of the policy, of the edits
 abbrev pub edit_output : List ℕ → List ℕ → Result (List ℕ) LayerFault
 edit_output script policy =
-    by_script (reading script) >>= (λ edits. by_read (read_of policy) >>= (λ lines. edited_output edits (texts lines)))
+    by_script (reading script) >>= (λ edits. by_read (policy_of policy) >>= (λ lines. edited_output edits (texts lines)))
 
 abbrev pub by_layer : {A : Type 0} → Result A LayerFault → Result A ToolFault
 by_layer (Ok x) = Ok x
@@ -102,58 +96,6 @@ TellsTool tool.NoEnd input = Unit {0}
 TellsTool (tool.Layer fault) input = (fault ≡ layer.NoMemory) ⊎ (output_of input ≡ Err (tool.Layer fault))
 TellsTool tool.NoMark input = output_of input ≡ Err tool.NoMark
 TellsTool tool.InputTooLarge input = output_of input ≡ Err tool.InputTooLarge
-
--- The outcome asks that the reader told its end: not if reading failed, was given up or was too much, and not if memory ran out.
-abbrev pub NeedsEnd : Result ℕ ToolFault → Type 0
-NeedsEnd (Ok status) = Unit {0}
-NeedsEnd (Err tool.Read) = ⊥
-NeedsEnd (Err tool.NoEnd) = ⊥
-NeedsEnd (Err tool.InputTooLarge) = ⊥
-NeedsEnd (Err (tool.Layer layer.NoMemory)) = ⊥
-NeedsEnd (Err (tool.Layer (layer.Policy fault))) = Unit {0}
-NeedsEnd (Err (tool.Layer (layer.Script fault))) = Unit {0}
-NeedsEnd (Err (tool.Layer (layer.Edit place fault))) = Unit {0}
-NeedsEnd (Err (tool.Layer (layer.Convert fault))) = Unit {0}
-NeedsEnd (Err (tool.Layer (layer.Filter fault))) = Unit {0}
-NeedsEnd (Err (tool.Layer (layer.People fault))) = Unit {0}
-NeedsEnd (Err (tool.Layer (layer.Who fault))) = Unit {0}
-NeedsEnd (Err (tool.Layer (layer.Ask fault))) = Unit {0}
-NeedsEnd (Err tool.NoMark) = Unit {0}
-NeedsEnd (Err tool.Write) = Unit {0}
-
--- Where reading stopped that has this limit: with the first byte past it the input is too large; a reader that failed or was
--- given up had given no such byte.
-abbrev pub StopsReading : ℕ → Option (List ℕ) → Option (List ℕ) → ToolFault → Type 0
-StopsReading limit old new tool.InputTooLarge = TakesExactly old new (limit + 1)
-StopsReading limit old new tool.Read = TakesAtMost old new limit
-StopsReading limit old new tool.NoEnd = TakesAtMost old new limit
-StopsReading limit old new (tool.Layer fault) = Unit {0}
-StopsReading limit old new tool.NoMark = Unit {0}
-StopsReading limit old new tool.Write = Unit {0}
-
--- What was read of a reader, up to one byte past a limit: all, if it is within the limit.
-pub record IsFront (limit : ℕ) (old new : Option (List ℕ)) (front : List ℕ) : Type 0 where
-  pub taken : Consumes old new front
-  pub most : length front ≤ limit + 1
-  pub all : length front ≤ limit → IfSome old (λ known. front ≡ known)
-
--- the faults of reading so
-abbrev pub IsFrontFault : ToolFault → Type 0
-IsFrontFault tool.Read = Unit {0}
-IsFrontFault tool.NoEnd = Unit {0}
-IsFrontFault (tool.Layer fault) = fault ≡ layer.NoMemory
-IsFrontFault tool.InputTooLarge = ⊥
-IsFrontFault tool.Write = ⊥
-IsFrontFault tool.NoMark = ⊥
-
--- the faults of reading
-abbrev pub IsReadFault : ToolFault → Type 0
-IsReadFault tool.Read = Unit {0}
-IsReadFault tool.NoEnd = Unit {0}
-IsReadFault tool.InputTooLarge = Unit {0}
-IsReadFault (tool.Layer fault) = fault ≡ layer.NoMemory
-IsReadFault tool.Write = ⊥
-IsReadFault tool.NoMark = ⊥
 
 -- the faults of the input of `edit`: of its script, of its policy, or of an edit
 abbrev pub IsInputFault : LayerFault → Type 0

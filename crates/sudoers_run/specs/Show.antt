@@ -1,16 +1,11 @@
 -- What `show` writes for a policy file.
-use Rattle.std.specs.Prelude.{◌+◌, ℕ, List, Option, Result, Ok, Err}
-use Rattle.sudoers_text.specs.Fault.{text_limit}
-use Rattle.sudoers_text.specs.declared.fault.TextFault.TheVariants as text
+use Rattle.std.specs.Prelude.{ℕ, List, Result, Ok, Err}
 use Rattle.sudoers_tree.specs.Line.{Line}
 use Rattle.sudoers_tree.specs.declared.fault.ReadFault.{ReadFault}
-use Rattle.sudoers_tree.specs.declared.fault.ReadFault.TheVariants as read
-use Rattle.sudoers_tree.specs.Reading.{read_of}
 use Rattle.sudoers_run.specs.declared.fault.LayerFault.{LayerFault}
 use Rattle.sudoers_run.specs.declared.fault.LayerFault.TheVariants as layer
 use Rattle.sudoers_run.specs.declared.fault.ToolFault.{ToolFault}
-use Rattle.sudoers_run.specs.declared.fault.ToolFault.TheVariants as tool
-use Rattle.sudoers_run.specs.Device.{TakesAtMost, TakesExactly}
+use Rattle.sudoers_run.specs.Policy.{policy_of}
 use Rattle.sudoers_edit.specs.Memory.{IsOfText}
 use Rattle.sudoers_run.specs.Faults.{DeviceOr}
 use Rattle.sudoers_run.specs.Program.{TellsLayer}
@@ -22,7 +17,7 @@ show_read (Ok lines) = Ok (shown lines)
 show_read (Err fault) = Err (layer.Policy fault)
 
 abbrev pub show_output : List ℕ → Result (List ℕ) LayerFault
-show_output input = show_read (read_of input)
+show_output input = show_read (policy_of input)
 
 -- a fault that the file has; those of the devices and of memory say nothing of it
 abbrev pub TellsShow : ToolFault → List ℕ → Type 0
@@ -43,20 +38,3 @@ IsFileFault (layer.Ask fault) = ⊥
 -- the faults of showing a file
 abbrev pub IsShowFault : ToolFault → Type 0
 IsShowFault fault = DeviceOr IsFileFault fault
-
--- Where reading stopped: with the first byte past the limit the file is too large; a reader that failed or was given up had
--- given no such byte.
-abbrev pub StopsShow : Option (List ℕ) → Option (List ℕ) → ToolFault → Type 0
-StopsShow old new (tool.Layer (layer.Policy (read.Text text.TooLarge))) = TakesExactly old new (text_limit + 1)
-StopsShow old new tool.Read = TakesAtMost old new text_limit
-StopsShow old new tool.NoEnd = TakesAtMost old new text_limit
-StopsShow old new fault = Unit {0}
-
--- The outcome asks that the reader told its end: not if reading failed or was given up, nor if the file is too large or memory
--- ran out.
-abbrev pub NeedsShowEnd : Result ℕ ToolFault → Type 0
-NeedsShowEnd (Err tool.Read) = ⊥
-NeedsShowEnd (Err tool.NoEnd) = ⊥
-NeedsShowEnd (Err (tool.Layer layer.NoMemory)) = ⊥
-NeedsShowEnd (Err (tool.Layer (layer.Policy (read.Text text.TooLarge)))) = ⊥
-NeedsShowEnd outcome = Unit {0}

@@ -2,25 +2,26 @@
 ghost use Rattle.std.specs.Prelude.{ℕ, List, ◌≡◌, ◌≢◌, ◌⊎◌, ◌+◌, ◌<◌, ◌≤◌, length, Ok, Err, IfOk, IfErr, IfSome, IsOkAnd, MatchResult, min, ◌-◌, ◌^◌};
 ghost use Rattle.std.specs.Io.KnownBytes.{Keeps, Appends};
 ghost use Rattle.sudoers_text.specs.Fault.{text_limit};
-ghost use Rattle.sudoers_run.specs.Device.{Rose, Reads, Writes, AppendsFront, counted_by};
-ghost use Rattle.sudoers_run.specs.Program.{pull_limit, TellsLayer};
-ghost use Rattle.sudoers_run.specs.Show.{StopsShow, NeedsShowEnd};
+ghost use Rattle.sudoers_edit.specs.Memory.{IsOfText};
+ghost use Rattle.sudoers_run.specs.Device.{Writes, AppendsFront};
+ghost use Rattle.sudoers_run.specs.Reading.{ReadsFile};
+ghost use Rattle.sudoers_run.specs.Policy.{file_end};
+ghost use Rattle.sudoers_run.specs.Program.{TellsLayer};
 ghost use Rattle.std.specs.Borrow.{Bor};
 ghost use Rattle.std.specs.Option.{option_map};
 ghost use Rattle.sudoers_rewrite.specs.Changed.{changes_shown};
-ghost use Rattle.sudoers_run.specs.Convert.{convert_lines, convert_output, converted, filter_in, form_fault, rewritten_rules, TellsConvert, IsConvertFault, IsFilterFault, IsRewriteFault, IsRulesFault};
+ghost use Rattle.sudoers_run.specs.Convert.{convert_lines, convert_output, convert_read, converted, filter_in, form_fault, rewritten_rules, TellsConvert, IsConvertFault, IsFilterFault, IsRewriteFault, IsRulesFault};
 
 use crate::device::{Sink, Source};
 use crate::fault::{LayerFault, ToolFault};
 use crate::form::Form;
-use crate::program::{read_all, write_all};
-use crate::show::too_large;
+use crate::input::load_policy;
+use crate::output::write_all;
 use crate::words::ConvertWords;
 use std::alloc::Global;
 use sudoers_cvt::{Rules, print};
 use sudoers_json::json;
 use sudoers_rewrite::{Changes, Filter, read_filter, rewrite};
-use sudoers_text::{TEXT_LIMIT, TextFault};
 use sudoers_tree::{Policy, ReadFault};
 
 /// Reads a policy file, and writes its rules as `words` ask for: as the text of a policy, all Defaults lines, then all definitions of
@@ -38,49 +39,37 @@ pub fn run_convert<R: Source, W: Sink>(
     writer: &mut W,
 ) -> Result<u8, ToolFault>
     // Status 0, and what is written is the stated function of what is read.
-    ensures ok { IfOk result (λ status. (status ≡ 0) × IfSome (R.remaining reader.old) (λ input.
+    ensures ok { IfOk result (λ status. (status ≡ 0) × IfSome (R.meter reader.old).remaining (λ input.
         IsOkAnd (convert_output words.now input) (Appends (W.contents writer.old) (W.contents writer.new)))) }
     // A fault of the file is the stated one.
-    ensures fault { IfErr result (λ fault. IfSome (R.remaining reader.old) (TellsConvert words.now fault)) }
+    ensures fault { IfErr result (λ fault. IfSome (R.meter reader.old).remaining (TellsConvert words.now fault)) }
     // There are no other faults.
     ensures named { IfErr result (IsConvertFault words.now) }
     // After `Write`, what was written is a beginning of the output.
-    ensures front { result ≡ Err ToolFault.Write → IfSome (R.remaining reader.old) (λ input.
+    ensures front { result ≡ Err ToolFault.Write → IfSome (R.meter reader.old).remaining (λ input.
         IsOkAnd (convert_output words.now input) (AppendsFront (W.contents writer.old) (W.contents writer.new))) }
-    // `Read` means that the reader failed, and `Write` that the writer failed, as their counts show. The reader is asked at most
-    // `pull_limit` times. `NoEnd` comes only after that many calls with room for a byte.
-    ensures reads { Reads pull_limit result (R.Source.failures reader.old) (R.Source.failures reader.new)
-        (R.Source.pulls reader.old) (R.Source.pulls reader.new) (R.offers reader.old) (R.offers reader.new) }
+    // How the file was read, and that nothing is written before a fault, as the counts of the devices show.
+    ensures reads { ReadsFile text_limit (file_end result) (R.meter reader.old) (R.meter reader.new) }
     ensures writes { Writes result (W.Sink.failures writer.old) (W.Sink.failures writer.new)
         (W.contents writer.old) (W.contents writer.new) }
-    // It stops at the first byte past the limit of a policy file, and only there is the file too large.
-    ensures stops { IfErr result (StopsShow (R.remaining reader.old) (R.remaining reader.new)) }
-    ensures given { result ≡ Err (ToolFault.Layer (LayerFault.Policy (ReadFault.Text TextFault.TooLarge)))
-        → counted_by (text_limit + 1) (R.given reader.old) ≤ R.given reader.new }
-    // Any other outcome, but want of memory and a file that is too large, comes only where the reader told its end.
-    ensures ended { NeedsShowEnd result → Rose (R.ends reader.old) (R.ends reader.new) }
 {
-    let input = match read_all(alloc, reader, TEXT_LIMIT) {
-        Ok(input) => input,
-        Err(ToolFault::InputTooLarge) => return Err(too_large()),
-        Err(fault) => return Err(fault),
-    };
-    let output = convert_text(alloc, input.as_slice(), words)?;
-    write_all(writer, output.as_slice())?;
+    let policy = load_policy(alloc, reader)?;
+    let text = convert_text(alloc, policy, words)?;
+    write_all(writer, text.as_slice())?;
     Ok(0)
 }
 
-/// Returns the rules of the policy that a text is, as the words ask for.
+/// Returns the rules of `policy` as `words` ask for them, or its error.
 fn convert_text(
     alloc: Global,
-    input: &[u8],
+    policy: Result<Policy, ReadFault>,
     words: &ConvertWords<'_>,
 ) -> Result<Vec<u8>, LayerFault>
-    ensures converted { MatchResult result (λ out. convert_output words.now input.now ≡ Ok out.items)
-        (λ fault. TellsLayer fault (convert_output words.now input.now) × IsRulesFault words.now fault) }
-    ensures size { IfErr result (λ fault. fault ≡ LayerFault.Policy (ReadFault.Text TextFault.TooLarge) → text_limit < length input.now) }
+    requires { IfErr policy IsOfText }
+    ensures { MatchResult result (λ text. convert_read words.now policy ≡ Ok text.items)
+        (λ fault. TellsLayer fault (convert_read words.now policy) × IsRulesFault words.now fault) }
 {
-    let policy = Policy::read(alloc, input)?;
+    let policy = policy?;
     convert_policy(alloc, &policy, words)
 }
 

@@ -1,8 +1,8 @@
 //! Readers and writers that count what they do.
-ghost use Rattle.std.specs.Prelude.{◌≡◌, ℕ, ◌<◌, ◌≤◌, length, IfOk, OnErr};
+ghost use Rattle.std.specs.Prelude.{◌≡◌, ℕ, ◌<◌, ◌≤◌, length, IfOk, refl};
 ghost use Rattle.std.specs.Io.{WritesAtMost, ReadsAtMost};
 ghost use Rattle.std.specs.Io.KnownBytes.{Keeps, WriteAppends, ReadConsumes};
-ghost use Rattle.sudoers_run.specs.Device.{CountsFailures, CountsEnds, CountsOffers, CountsBytes, IsWithin, Takes, counted_up};
+ghost use Rattle.sudoers_run.specs.Device.{CountsFailures, Meter, Pulls, counted_up};
 
 use std::io;
 use std::io::{ErrorKind, Read, Write};
@@ -18,23 +18,10 @@ pub enum Pulled {
 #[derive(Clone, Copy, Debug, PartialEq, Eq)]
 pub struct DeviceFailed;
 
-/// A reader that counts how often it was asked, how often with room, how many bytes it gave, how often it failed and how often it
-/// told its end.
+/// A reader that counts what it does: a [`Meter`](../specs/Device.antt).
 pub trait Source: Read {
-    /// How often it has failed, up to the greatest number.
-    ghost failures: { Self → ℕ };
-
-    /// How often it has been asked, up to the greatest number.
-    ghost pulls: { Self → ℕ };
-
-    /// How often it has been asked with a buffer that has room, up to the greatest number.
-    ghost offers: { Self → ℕ };
-
-    /// How many bytes it has given, up to the greatest number.
-    ghost given: { Self → ℕ };
-
-    /// How often it has told its end, up to the greatest number.
-    ghost ends: { Self → ℕ };
+    /// What is counted of it, and what it has left to give.
+    ghost meter: { Self → Meter };
 
     /// One read. No bytes, where the buffer has room, tell the end of the input.
     ///
@@ -42,18 +29,14 @@ pub trait Source: Read {
     ///
     /// The device failed; what it has left to give is as before.
     fn pull(&mut self, buf: &mut [u8]) -> Result<Pulled, DeviceFailed>
-        ensures within { IfOk result (λ pulled. IsWithin pulled buf.new) }
-        ensures bytes { IfOk result (λ pulled. Takes (Self.remaining self.old) (Self.remaining self.new) pulled buf.new) }
-        ensures kept { OnErr result (Keeps (Self.remaining self.old) (Self.remaining self.new)) }
-        ensures failed { CountsFailures (failures self.old) (failures self.new) result }
-        ensures asked { pulls self.new ≡ counted_up (pulls self.old) }
-        ensures offered { CountsOffers (offers self.old) (offers self.new) buf.new }
-        ensures given { CountsBytes (given self.old) (given self.new) result }
-        ensures ended { CountsEnds (ends self.old) (ends self.new) result buf.new };
+        ensures { Pulls result buf.new (meter self.old) (meter self.new) };
 
     /// How often it has failed, up to the greatest number.
     fn failures(&self) -> u64
-        ensures { result ≡ failures self.now };
+        ensures { result ≡ (meter self.now).failures };
+
+    /// What it has left to give is what it has as a reader.
+    ghost same_remaining: { (reader : Self) → (meter reader).remaining ≡ Self.remaining reader };
 }
 
 /// A writer that counts its failures.
@@ -125,15 +108,16 @@ impl<W: Write> Write for Counted<W> {
 }
 
 impl<R: Read> Source for Counted<R> {
-    ghost failures = { λ c. c.failures };
+    ghost meter = { λ c. record {
+      failures = c.failures;
+      pulls = c.pulls;
+      offers = c.offers;
+      given = c.given;
+      ends = c.ends;
+      remaining = R.remaining c.device;
+    } };
 
-    ghost pulls = { λ c. c.pulls };
-
-    ghost offers = { λ c. c.offers };
-
-    ghost given = { λ c. c.given };
-
-    ghost ends = { λ c. c.ends };
+    ghost same_remaining = { λ c. refl };
 
     fn pull(&mut self, buf: &mut [u8]) -> Result<Pulled, DeviceFailed> {
         self.pulls = self.pulls.saturating_add(1);

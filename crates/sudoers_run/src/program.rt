@@ -1,14 +1,17 @@
-//! `edit`; and how each command reads an input whole and writes an output whole.
-ghost use Rattle.std.specs.Prelude.{◌≡◌, ◌≢◌, ◌+◌, ◌<◌, ◌≤◌, ◌++◌, length, Ok, Err, IfOk, IfErr, OnOk, OnErr, IfSome, IsOkAnd, MatchResult, min, ◌-◌, ◌^◌};
+//! `edit`: a script and a policy, and the policy that comes of them.
+ghost use Rattle.std.specs.Prelude.{◌≡◌, ◌≢◌, ◌+◌, ◌<◌, ◌≤◌, ◌++◌, length, Ok, Err, IfOk, IfErr, IfSome, IsOkAnd, MatchResult, min, ◌-◌, ◌^◌};
 ghost use Rattle.std.specs.Option.{option_map};
 ghost use Rattle.std.specs.Io.KnownBytes.{Keeps, Appends};
 ghost use Rattle.sudoers_tree.specs.Policy.{texts};
 ghost use Rattle.sudoers_edit.specs.Named.{AreNamed};
-ghost use Rattle.sudoers_run.specs.Device.{Rose, Reads, Writes, AppendsFront, TakesAtMost, TakesExactly, counted_up, counted_by};
-ghost use Rattle.sudoers_run.specs.Program.{is_mark as is_mark_text, split_text, edit_output as output_of_edit, edited_output, output_of, output_text, input_limit, TellsLayer, TellsTool, NeedsEnd, StopsReading, IsFront, IsFrontFault, IsReadFault, IsAnswerFault, IsEditFault, IsInputFault, pull_limit};
+ghost use Rattle.sudoers_run.specs.Device.{Writes, AppendsFront};
+ghost use Rattle.sudoers_run.specs.Reading.{ReadsFile, reading_end};
+ghost use Rattle.sudoers_run.specs.Program.{is_mark as is_mark_text, split_text, edit_output as output_of_edit, edited_output, output_of, output_text, input_limit, TellsLayer, TellsTool, IsAnswerFault, IsEditFault, IsInputFault};
 
-use crate::device::{DeviceFailed, Pulled, Sink, Source};
+use crate::device::{Sink, Source};
 use crate::fault::{LayerFault, ToolFault};
+use crate::input::read_all;
+use crate::output::write_all;
 use std::alloc::Global;
 use sudoers_edit::{
     Edit, Editor, Edits, first_line_len, named_are_written, physical_lines_join, read_script,
@@ -18,9 +21,6 @@ use sudoers_tree::Policy;
 
 /// How many bytes `edit` reads at most.
 pub const INPUT_LIMIT: usize = 4_000_000;
-
-/// How often it asks one reader at most.
-pub const PULL_LIMIT: usize = 4_194_304;
 
 /// The line between the script and the policy.
 const MARK: &[u8] = b"%%\n";
@@ -38,114 +38,24 @@ pub fn run_edit<R: Source, W: Sink>(
     writer: &mut W,
 ) -> Result<u8, ToolFault>
     // Status 0, and what is written is the stated function of what is read.
-    ensures ok { IfOk result (λ status. (status ≡ 0) × IfSome (R.remaining reader.old) (λ input.
+    ensures ok { IfOk result (λ status. (status ≡ 0) × IfSome (R.meter reader.old).remaining (λ input.
         IsOkAnd (output_of input) (Appends (W.contents writer.old) (W.contents writer.new)))) }
     // A fault of the input is the stated one.
-    ensures fault { IfErr result (λ fault. IfSome (R.remaining reader.old) (TellsTool fault)) }
+    ensures fault { IfErr result (λ fault. IfSome (R.meter reader.old).remaining (TellsTool fault)) }
     // There are no other faults.
     ensures named { IfErr result IsEditFault }
     // After `Write`, what was written is a beginning of the output.
-    ensures front { result ≡ Err ToolFault.Write → IfSome (R.remaining reader.old) (λ input.
+    ensures front { result ≡ Err ToolFault.Write → IfSome (R.meter reader.old).remaining (λ input.
         IsOkAnd (output_of input) (AppendsFront (W.contents writer.old) (W.contents writer.new))) }
-    // `Read` means that the reader failed, and `Write` that the writer failed, as their counts show. The reader is asked at most
-    // `pull_limit` times. `NoEnd` comes only after that many calls with room for a byte.
-    ensures reads { Reads pull_limit result (R.Source.failures reader.old) (R.Source.failures reader.new)
-        (R.Source.pulls reader.old) (R.Source.pulls reader.new) (R.offers reader.old) (R.offers reader.new) }
+    // How the input was read, and that nothing is written before a fault, as the counts of the devices show.
+    ensures reads { ReadsFile input_limit (reading_end result) (R.meter reader.old) (R.meter reader.new) }
     ensures writes { Writes result (W.Sink.failures writer.old) (W.Sink.failures writer.new)
         (W.contents writer.old) (W.contents writer.new) }
-    // It stops at the first byte past the limit, and only there is the input too large.
-    ensures stops { IfErr result (StopsReading input_limit (R.remaining reader.old) (R.remaining reader.new)) }
-    ensures given { result ≡ Err ToolFault.InputTooLarge
-        → counted_by (input_limit + 1) (R.given reader.old) ≤ R.given reader.new }
-    // Any other outcome, but want of memory and an input that is too large, comes only where the reader told its end.
-    ensures ended { NeedsEnd result → Rose (R.ends reader.old) (R.ends reader.new) }
 {
     let input = read_all(alloc, reader, INPUT_LIMIT)?;
     let output = answer(alloc, input.as_slice())?;
     write_all(writer, output.as_slice())?;
     Ok(0)
-}
-
-/// Reads all there is, up to a limit: with the first byte past it the input is too large.
-pub fn read_all<R: Source>(
-    alloc: Global,
-    reader: &mut R,
-    limit: usize,
-) -> Result<Vec<u8>, ToolFault>
-    requires { limit ≤ input_limit }
-    ensures all { IfOk result (λ input. (length input.items ≤ limit)
-        × IfSome (R.remaining reader.old) (λ known. input.items ≡ known)) }
-    ensures large { result ≡ Err ToolFault.InputTooLarge
-        → IfSome (R.remaining reader.old) (λ known. limit < length known) }
-    ensures faults { IfErr result IsReadFault }
-    ensures reads { Reads pull_limit result (R.Source.failures reader.old) (R.Source.failures reader.new)
-        (R.Source.pulls reader.old) (R.Source.pulls reader.new) (R.offers reader.old) (R.offers reader.new) }
-    ensures stops { IfErr result (StopsReading limit (R.remaining reader.old) (R.remaining reader.new)) }
-    ensures given { result ≡ Err ToolFault.InputTooLarge
-        → counted_by (limit + 1) (R.given reader.old) ≤ R.given reader.new }
-    ensures ended { OnOk result (Rose (R.ends reader.old) (R.ends reader.new)) }
-{
-    let input = read_front(alloc, reader, limit)?;
-    if input.len() > limit {
-        return Err(ToolFault::InputTooLarge);
-    }
-    Ok(input)
-}
-
-/// Reads all there is, but no more than one byte past a limit.
-pub fn read_front<R: Source>(
-    alloc: Global,
-    reader: &mut R,
-    limit: usize,
-) -> Result<Vec<u8>, ToolFault>
-    requires { limit ≤ input_limit }
-    ensures front { IfOk result (λ front. IsFront limit (R.remaining reader.old) (R.remaining reader.new) front.items) }
-    ensures most { TakesAtMost (R.remaining reader.old) (R.remaining reader.new) (limit + 1) }
-    ensures faults { IfErr result IsFrontFault }
-    ensures reads { Reads pull_limit result (R.Source.failures reader.old) (R.Source.failures reader.new)
-        (R.Source.pulls reader.old) (R.Source.pulls reader.new) (R.offers reader.old) (R.offers reader.new) }
-    ensures stops { IfErr result (StopsReading limit (R.remaining reader.old) (R.remaining reader.new)) }
-    ensures given { IfOk result (λ front. limit < length front.items → counted_by (limit + 1) (R.given reader.old) ≤ R.given reader.new) }
-    ensures ended { IfOk result (λ front. length front.items ≤ limit → Rose (R.ends reader.old) (R.ends reader.new)) }
-{
-    let mut input = Vec::new(alloc);
-    let mut buffer = [0u8; 65_536];
-    for pull in 0..PULL_LIMIT {
-        // Only the proof looks at this count.
-        let _ = pull;
-        let room = buffer.len().min(limit + 1 - input.len());
-        let n = match reader.pull(&mut buffer[..room]) {
-            Ok(Pulled::Bytes(n)) => n,
-            Ok(Pulled::Interrupted) => continue,
-            Err(DeviceFailed) => return Err(ToolFault::Read),
-        };
-        if n == 0 {
-            return Ok(input);
-        }
-        input.extend_from_slice(&buffer[..n])?;
-        if input.len() > limit {
-            return Ok(input);
-        }
-    }
-    Err(ToolFault::NoEnd)
-}
-
-/// Writes all the bytes.
-pub fn write_all<W: Sink>(writer: &mut W, bytes: &[u8]) -> Result<(), ToolFault>
-    ensures all { OnOk result (Appends (W.contents writer.old) (W.contents writer.new) bytes.now) }
-    ensures part { OnErr result (AppendsFront (W.contents writer.old) (W.contents writer.new) bytes.now) }
-    ensures fault { IfErr result (λ fault. (fault ≡ ToolFault.Write)
-        × Rose (W.Sink.failures writer.old) (W.Sink.failures writer.new)) }
-    ensures well { OnOk result (W.Sink.failures writer.new ≡ W.Sink.failures writer.old) }
-{
-    let mut at = 0;
-    while at < bytes.len() {
-        match writer.push(&bytes[at..]) {
-            Ok(n) => at += n,
-            Err(DeviceFailed) => return Err(ToolFault::Write),
-        }
-    }
-    Ok(())
 }
 
 /// What is written for an input within the limit.

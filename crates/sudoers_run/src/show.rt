@@ -2,19 +2,22 @@
 ghost use Rattle.std.specs.Prelude.{◌≡◌, ◌≢◌, ◌+◌, ◌<◌, ◌≤◌, ◌++◌, codes, length, Ok, Err, IfOk, IfErr, OnOk, OnErr, IfSome, IsOkAnd, MatchResult, min, ◌-◌, ◌^◌};
 ghost use Rattle.std.specs.Io.KnownBytes.{Keeps, Appends};
 ghost use Rattle.sudoers_text.specs.Fault.{text_limit};
-ghost use Rattle.sudoers_run.specs.Device.{Rose, Reads, Writes, AppendsFront, counted_by};
-ghost use Rattle.sudoers_run.specs.Program.{pull_limit, TellsLayer};
+ghost use Rattle.sudoers_edit.specs.Memory.{IsOfText};
+ghost use Rattle.sudoers_run.specs.Device.{Writes, AppendsFront};
+ghost use Rattle.sudoers_run.specs.Reading.{ReadsFile};
+ghost use Rattle.sudoers_run.specs.Policy.{file_end};
+ghost use Rattle.sudoers_run.specs.Program.{TellsLayer};
 ghost use Rattle.sudoers_rows.specs.View.{def_shown, defs_shown, node_shown};
 ghost use Rattle.sudoers_run.specs.Shown.{kind_word as word_of_kind, shown as shown_policy, shown_def, shown_defs, shown_line};
-ghost use Rattle.sudoers_run.specs.Show.{show_output, TellsShow, IsFileFault, IsShowFault, StopsShow, NeedsShowEnd};
+ghost use Rattle.sudoers_run.specs.Show.{show_output, show_read, TellsShow, IsFileFault, IsShowFault};
 
 use crate::device::{Sink, Source};
 use crate::fault::{LayerFault, ToolFault};
-use crate::program::{read_all, write_all};
+use crate::input::load_policy;
+use crate::output::write_all;
 use std::alloc::{AllocError, Global};
 use sudoers_line::kind_name;
 use sudoers_print::append_number;
-use sudoers_text::{TEXT_LIMIT, TextFault};
 use sudoers_tree::{Def, DefRow, Kind, Line, LineKind, Node, Policy, ReadFault, Rows, lf_count};
 
 /// Reads a policy file, and writes for each of its lines its number, its kind and the number of its first physical line, and
@@ -29,52 +32,33 @@ pub fn run_show<R: Source, W: Sink>(
     writer: &mut W,
 ) -> Result<u8, ToolFault>
     // Status 0, and what is written is the stated function of what is read.
-    ensures ok { IfOk result (λ status. (status ≡ 0) × IfSome (R.remaining reader.old) (λ input.
+    ensures ok { IfOk result (λ status. (status ≡ 0) × IfSome (R.meter reader.old).remaining (λ input.
         IsOkAnd (show_output input) (Appends (W.contents writer.old) (W.contents writer.new)))) }
     // A fault of the file is the stated one.
-    ensures fault { IfErr result (λ fault. IfSome (R.remaining reader.old) (TellsShow fault)) }
+    ensures fault { IfErr result (λ fault. IfSome (R.meter reader.old).remaining (TellsShow fault)) }
     // There are no other faults.
     ensures named { IfErr result IsShowFault }
     // After `Write`, what was written is a beginning of the output.
-    ensures front { result ≡ Err ToolFault.Write → IfSome (R.remaining reader.old) (λ input.
+    ensures front { result ≡ Err ToolFault.Write → IfSome (R.meter reader.old).remaining (λ input.
         IsOkAnd (show_output input) (AppendsFront (W.contents writer.old) (W.contents writer.new))) }
-    // `Read` means that the reader failed, and `Write` that the writer failed, as their counts show. The reader is asked at most
-    // `pull_limit` times. `NoEnd` comes only after that many calls with room for a byte.
-    ensures reads { Reads pull_limit result (R.Source.failures reader.old) (R.Source.failures reader.new)
-        (R.Source.pulls reader.old) (R.Source.pulls reader.new) (R.offers reader.old) (R.offers reader.new) }
+    // How the file was read, and that nothing is written before a fault, as the counts of the devices show.
+    ensures reads { ReadsFile text_limit (file_end result) (R.meter reader.old) (R.meter reader.new) }
     ensures writes { Writes result (W.Sink.failures writer.old) (W.Sink.failures writer.new)
         (W.contents writer.old) (W.contents writer.new) }
-    // It stops at the first byte past the limit of a policy file, and only there is the file too large.
-    ensures stops { IfErr result (StopsShow (R.remaining reader.old) (R.remaining reader.new)) }
-    ensures given { result ≡ Err (ToolFault.Layer (LayerFault.Policy (ReadFault.Text TextFault.TooLarge)))
-        → counted_by (text_limit + 1) (R.given reader.old) ≤ R.given reader.new }
-    // Any other outcome, but want of memory and a file that is too large, comes only where the reader told its end.
-    ensures ended { NeedsShowEnd result → Rose (R.ends reader.old) (R.ends reader.new) }
 {
-    let input = match read_all(alloc, reader, TEXT_LIMIT) {
-        Ok(input) => input,
-        Err(ToolFault::InputTooLarge) => return Err(too_large()),
-        Err(fault) => return Err(fault),
-    };
-    let output = show_text(alloc, input.as_slice())?;
-    write_all(writer, output.as_slice())?;
+    let policy = load_policy(alloc, reader)?;
+    let text = show_text(alloc, policy)?;
+    write_all(writer, text.as_slice())?;
     Ok(0)
 }
 
-/// Returns the fault of a policy file that is too large.
-pub fn too_large() -> ToolFault
-    ensures { result ≡ ToolFault.Layer (LayerFault.Policy (ReadFault.Text TextFault.TooLarge)) }
+/// Returns what is shown of `policy`, or its error.
+fn show_text(alloc: Global, policy: Result<Policy, ReadFault>) -> Result<Vec<u8>, LayerFault>
+    requires { IfErr policy IsOfText }
+    ensures { MatchResult result (λ text. show_read policy ≡ Ok text.items)
+        (λ fault. TellsLayer fault (show_read policy) × IsFileFault fault) }
 {
-    ToolFault::Layer(LayerFault::Policy(ReadFault::Text(TextFault::TooLarge)))
-}
-
-/// What is shown of the policy that a text is.
-fn show_text(alloc: Global, input: &[u8]) -> Result<Vec<u8>, LayerFault>
-    ensures shown { MatchResult result (λ out. show_output input.now ≡ Ok out.items)
-        (λ fault. TellsLayer fault (show_output input.now) × IsFileFault fault) }
-    ensures size { IfErr result (λ fault. fault ≡ LayerFault.Policy (ReadFault.Text TextFault.TooLarge) → text_limit < length input.now) }
-{
-    let policy = Policy::read(alloc, input)?;
+    let policy = policy?;
     Ok(shown(alloc, &policy)?)
 }
 

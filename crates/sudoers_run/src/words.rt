@@ -32,8 +32,6 @@ pub struct ListWords<'a> {
     pub group: Option<&'a [u8]>,
     /// The command and its arguments. Without words all that the user may run is listed.
     pub words: &'a [Items<u8>],
-    /// The rule that decides is written in place of the command.
+    /// The rule that decides is written in place of the command, with the name of the policy.
     pub why: bool,
-    /// The name of the policy in that rule.
-    pub file: &'a [u8],
 }

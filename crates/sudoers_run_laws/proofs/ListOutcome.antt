@@ -39,65 +39,65 @@ by_why : Laws → (why : Bool) (lines : List Line) (r : Request) (file : List �
 by_why l true lines r file answer wanted t u a b = l.reason lines r file answer t u a b
 by_why l false lines r file answer wanted t u a b = a ∙ sym b
 
-one_told : Laws → (w : ListWords) (lines : List Line) (r : Request) (t u : List ℕ × ℕ) → IsAnswerTold w lines r t → IsAnswerTold w lines r u → t ≡ u
-one_told l w lines r t u a b =
+one_told : Laws → (w : ListWords) (file : List ℕ) (lines : List Line) (r : Request) (t u : List ℕ × ℕ) → IsAnswerTold w file lines r t → IsAnswerTold w file lines r u → t ≡ u
+one_told l w file lines r t u a b =
     let e : a.answer ≡ b.answer = l.answer lines r a.answer b.answer a.is_answer b.is_answer in
     one_pair t u
-    (by_why l w.why lines r w.file.now b.answer (allowed_text w.words.now b.answer) t.0 u.0 (subst (λ x. IsAnswerText w lines r x t.0) e a.text) b.text)
+    (by_why l w.why lines r file b.answer (allowed_text w.words.now b.answer) t.0 u.0 (subst (λ x. IsAnswerText w file lines r x t.0) e a.text) b.text)
     (a.status ∙ ap allowed_status e ∙ sym b.status)
 
-one_answered : Laws → (w : ListWords) (lines : List Line) (r : Request) (o p : Outcome) → IsAnswered w lines r o → IsAnswered w lines r p → o ≡ p
-one_answered l w lines r (Ok t) (Ok u) a b = ap Ok (one_told l w lines r t u a b)
-one_answered l w lines r (Ok t) (Err f) a (inl b) = absurd (a.straight b.1)
-one_answered l w lines r (Ok t) (Err f) a (inr b) = let s = a.short in let g = b.2 in absurd (omega (arith, s, g))
-one_answered l w lines r (Err f) (Ok u) (inl a) b = absurd (b.straight a.1)
-one_answered l w lines r (Err f) (Ok u) (inr a) b = let s = b.short in let g = a.2 in absurd (omega (arith, s, g))
-one_answered l w lines r (Err f) (Err g) (inl a) (inl b) = ap Err (a.0 ∙ sym b.0)
-one_answered l w lines r (Err f) (Err g) (inl a) (inr b) = absurd (b.1 a.1)
-one_answered l w lines r (Err f) (Err g) (inr a) (inl b) = absurd (a.1 b.1)
-one_answered l w lines r (Err f) (Err g) (inr a) (inr b) = ap Err (a.0 ∙ sym b.0)
+one_answered : Laws → (w : ListWords) (file : List ℕ) (lines : List Line) (r : Request) (o p : Outcome) → IsAnswered w file lines r o → IsAnswered w file lines r p → o ≡ p
+one_answered l w file lines r (Ok t) (Ok u) a b = ap Ok (one_told l w file lines r t u a b)
+one_answered l w file lines r (Ok t) (Err f) a (inl b) = absurd (a.straight b.1)
+one_answered l w file lines r (Ok t) (Err f) a (inr b) = let s = a.short in let g = b.2 in absurd (omega (arith, s, g))
+one_answered l w file lines r (Err f) (Ok u) (inl a) b = absurd (b.straight a.1)
+one_answered l w file lines r (Err f) (Ok u) (inr a) b = let s = b.short in let g = a.2 in absurd (omega (arith, s, g))
+one_answered l w file lines r (Err f) (Err g) (inl a) (inl b) = ap Err (a.0 ∙ sym b.0)
+one_answered l w file lines r (Err f) (Err g) (inl a) (inr b) = absurd (b.1 a.1)
+one_answered l w file lines r (Err f) (Err g) (inr a) (inl b) = absurd (a.1 b.1)
+one_answered l w file lines r (Err f) (Err g) (inr a) (inr b) = ap Err (a.0 ∙ sym b.0)
 
-one_request : Laws → (w : ListWords) (lines : List Line) (told : Result Request WhoFault) (o p : Outcome) → OfRequest w lines told o → OfRequest w lines told p → o ≡ p
-one_request l w lines (Ok r) o p a b = one_answered l w lines r o p a b
-one_request l w lines (Err f) o p a b = a ∙ sym b
+one_request : Laws → (w : ListWords) (file : List ℕ) (lines : List Line) (told : Result Request WhoFault) (o p : Outcome) → OfRequest w file lines told o → OfRequest w file lines told p → o ≡ p
+one_request l w file lines (Ok r) o p a b = one_answered l w file lines r o p a b
+one_request l w file lines (Err f) o p a b = a ∙ sym b
 
-one_as_user : Laws → (w : ListWords) (lines : List Line) (people : People) (who : Who) (user : List ℕ) (o p : Outcome) → AsUser w lines people who user o → AsUser w lines people who user p → o ≡ p
-one_as_user l w lines people who user o p a b = one_request l w lines (request_told people who user (text_shown w.group) w.words.now w.moment.now) o p a b
+one_as_user : Laws → (w : ListWords) (file : List ℕ) (lines : List Line) (people : People) (who : Who) (user : List ℕ) (o p : Outcome) → AsUser w file lines people who user o → AsUser w file lines people who user p → o ≡ p
+one_as_user l w file lines people who user o p a b = one_request l w file lines (request_told people who user (text_shown w.group) w.words.now w.moment.now) o p a b
 
-one_as_default : Laws → (w : ListWords) (lines : List Line) (people : People) (who : Who) (o p : Outcome) → AsDefault w lines people who o → AsDefault w lines people who p → o ≡ p
-one_as_default l w lines people who o p (inl a) (inl b) = a.1 ∙ sym b.1
-one_as_default l w lines people who o p (inl a) (inr b) = absurd (b.straight a.0)
-one_as_default l w lines people who o p (inr a) (inl b) = absurd (a.straight b.0)
-one_as_default l w lines people who o p (inr a) (inr b) =
-    one_as_user l w lines people who b.user o p
-    (subst (λ user. AsUser w lines people who user o) (l.default lines who a.user b.user a.is_default b.is_default) a.asked) b.asked
+one_as_default : Laws → (w : ListWords) (file : List ℕ) (lines : List Line) (people : People) (who : Who) (o p : Outcome) → AsDefault w file lines people who o → AsDefault w file lines people who p → o ≡ p
+one_as_default l w file lines people who o p (inl a) (inl b) = a.1 ∙ sym b.1
+one_as_default l w file lines people who o p (inl a) (inr b) = absurd (b.straight a.0)
+one_as_default l w file lines people who o p (inr a) (inl b) = absurd (a.straight b.0)
+one_as_default l w file lines people who o p (inr a) (inr b) =
+    one_as_user l w file lines people who b.user o p
+    (subst (λ user. AsUser w file lines people who user o) (l.default lines who a.user b.user a.is_default b.is_default) a.asked) b.asked
 
-one_first : Laws → (w : ListWords) (lines : List Line) (people : People) (told : Result Request WhoFault) (o p : Outcome) → OfFirst w lines people told o → OfFirst w lines people told p → o ≡ p
-one_first l w lines people (Ok r) o p a b = one_as_default l w lines people r.who o p a b
-one_first l w lines people (Err f) o p a b = a ∙ sym b
+one_first : Laws → (w : ListWords) (file : List ℕ) (lines : List Line) (people : People) (told : Result Request WhoFault) (o p : Outcome) → OfFirst w file lines people told o → OfFirst w file lines people told p → o ≡ p
+one_first l w file lines people (Ok r) o p a b = one_as_default l w file lines people r.who o p a b
+one_first l w file lines people (Err f) o p a b = a ∙ sym b
 
-one_asked : Laws → (w : ListWords) (lines : List Line) (people : People) (who : Who) (target group : Option (List ℕ)) (o p : Outcome)
-    → IsAsked w lines people who target group o → IsAsked w lines people who target group p → o ≡ p
-one_asked l w lines people who (Some target) group o p a b = one_as_user l w lines people who target o p a b
-one_asked l w lines people who None (Some group) o p a b = one_as_user l w lines people who w.user.now o p a b
-one_asked l w lines people who None None o p a b = one_first l w lines people (request_told people who w.user.now None w.words.now w.moment.now) o p a b
+one_asked : Laws → (w : ListWords) (file : List ℕ) (lines : List Line) (people : People) (who : Who) (target group : Option (List ℕ)) (o p : Outcome)
+    → IsAsked w file lines people who target group o → IsAsked w file lines people who target group p → o ≡ p
+one_asked l w file lines people who (Some target) group o p a b = one_as_user l w file lines people who target o p a b
+one_asked l w file lines people who None (Some group) o p a b = one_as_user l w file lines people who w.user.now o p a b
+one_asked l w file lines people who None None o p a b = one_first l w file lines people (request_told people who w.user.now None w.words.now w.moment.now) o p a b
 
-one_words : Laws → (w : ListWords) (lines : List Line) (people : People) (who : Who) (words : List (List ℕ)) (o p : Outcome)
-    → OfWords w lines people who words o → OfWords w lines people who words p → o ≡ p
-one_words l w lines people who [] o p a b = one_listed l lines who o p a b
-one_words l w lines people who (word ∷ words) o p a b = one_asked l w lines people who (text_shown w.target) (text_shown w.group) o p a b
+one_words : Laws → (w : ListWords) (file : List ℕ) (lines : List Line) (people : People) (who : Who) (words : List (List ℕ)) (o p : Outcome)
+    → OfWords w file lines people who words o → OfWords w file lines people who words p → o ≡ p
+one_words l w file lines people who [] o p a b = one_listed l lines who o p a b
+one_words l w file lines people who (word ∷ words) o p a b = one_asked l w file lines people who (text_shown w.target) (text_shown w.group) o p a b
 
-one_who : Laws → (w : ListWords) (lines : List Line) (people : People) (told : Result Who WhoFault) (o p : Outcome) → OfWho w lines people told o → OfWho w lines people told p → o ≡ p
-one_who l w lines people (Ok who) o p a b = one_words l w lines people who w.words.now o p a b
-one_who l w lines people (Err f) o p a b = a ∙ sym b
+one_who : Laws → (w : ListWords) (file : List ℕ) (lines : List Line) (people : People) (told : Result Who WhoFault) (o p : Outcome) → OfWho w file lines people told o → OfWho w file lines people told p → o ≡ p
+one_who l w file lines people (Ok who) o p a b = one_words l w file lines people who w.words.now o p a b
+one_who l w file lines people (Err f) o p a b = a ∙ sym b
 
-one_people : Laws → (w : ListWords) (lines : List Line) (told : Result People PeopleFault) (o p : Outcome) → OfPeople w lines told o → OfPeople w lines told p → o ≡ p
-one_people l w lines (Ok people) o p a b = one_who l w lines people (who_told people w.user.now w.host.now w.interfaces.now) o p a b
-one_people l w lines (Err f) o p a b = a ∙ sym b
+one_people : Laws → (w : ListWords) (file : List ℕ) (lines : List Line) (told : Result People PeopleFault) (o p : Outcome) → OfPeople w file lines told o → OfPeople w file lines told p → o ≡ p
+one_people l w file lines (Ok people) o p a b = one_who l w file lines people (who_told people w.user.now w.host.now w.interfaces.now) o p a b
+one_people l w file lines (Err f) o p a b = a ∙ sym b
 
-one_policy : Laws → (w : ListWords) (told : Result People PeopleFault) (policy : Result (List Line) ReadFault) (o p : Outcome) → OfPolicy w told policy o → OfPolicy w told policy p → o ≡ p
-one_policy l w told (Ok lines) o p a b = one_people l w lines told o p a b
-one_policy l w told (Err f) o p a b = a ∙ sym b
+one_policy : Laws → (w : ListWords) (file : List ℕ) (told : Result People PeopleFault) (policy : Result (List Line) ReadFault) (o p : Outcome) → OfPolicy w file told policy o → OfPolicy w file told policy p → o ≡ p
+one_policy l w file told (Ok lines) o p a b = one_people l w file lines told o p a b
+one_policy l w file told (Err f) o p a b = a ∙ sym b
 
-pub one_outcome : Laws → (w : ListWords) (policy passwd group : List ℕ) (o p : Outcome) → IsListOutcome w policy passwd group o → IsListOutcome w policy passwd group p → o ≡ p
-one_outcome l w policy passwd group o p a b = one_policy l w (people_told passwd group) (read_of policy) o p a b
+pub one_outcome : Laws → (w : ListWords) (file : List ℕ) (policy passwd group : List ℕ) (o p : Outcome) → IsListOutcome w file policy passwd group o → IsListOutcome w file policy passwd group p → o ≡ p
+one_outcome l w file policy passwd group o p a b = one_policy l w file (people_told passwd group) (read_of policy) o p a b

@@ -55,10 +55,10 @@ pub fn filtered_policy_is_printed()
     filtered_rules_are_read();
 }
 
-/// The three files and the words determine what `list` writes and its status, or its fault.
+/// The three files, the words and the name of the policy determine what `list` writes and its status, or its fault.
 pub fn one_list_outcome()
-    ensures { (words : WordsOf) (policy passwd group : List ℕ) (outcome other : Outcome) → IsListOutcome words policy passwd group outcome
-        → IsListOutcome words policy passwd group other → outcome ≡ other }
+    ensures { (words : WordsOf) (file policy passwd group : List ℕ) (outcome other : Outcome) → IsListOutcome words file policy passwd group outcome
+        → IsListOutcome words file policy passwd group other → outcome ≡ other }
 {
     one_listing();
     one_reason();

@@ -144,7 +144,6 @@ impl Asked {
             group: bytes_of(&self.group),
             words: self.command.as_slice(),
             why: self.why,
-            file: self.file.as_slice(),
         }
     }
 }
@@ -198,11 +197,11 @@ pub fn list_file(rt: &HostRuntime, file: &str, words: &ArgMatches<'_>) -> Result
             return Err(ToolFault::Read);
         }
         let mut policy = Counted::new(rt.stdin());
-        return list_policy(rt, &mut policy, passwd, group, &asked.words());
+        return list_policy(rt, &mut policy, passwd, group, &asked);
     }
     let mut policy = Counted::new(open(rt, file)?);
     let (passwd, group) = open_people(rt, words)?;
-    list_policy(rt, &mut policy, passwd, group, &asked.words())
+    list_policy(rt, &mut policy, passwd, group, &asked)
 }
 
 /// Opens the files of users and of groups that `words` name.
@@ -221,14 +220,15 @@ fn list_policy<P: Source>(
     policy: &mut P,
     passwd: fs::File,
     group: fs::File,
-    asked: &ListWords<'_>,
+    asked: &Asked,
 ) -> Result<u8, ToolFault> {
     run_list(
         rt.alloc(),
         policy,
+        asked.file.as_slice(),
         &mut Counted::new(passwd),
         &mut Counted::new(group),
-        asked,
+        &asked.words(),
         &mut Counted::new(rt.stdout()),
     )
 }

@@ -67,6 +67,7 @@ pub fn convert_before_errors<R: Source, W: Sink>(
 pub fn list_before_errors<P: Source, U: Source, G: Source, W: Sink>(
     alloc: Global,
     policy: &mut P,
+    file: &[u8],
     passwd: &mut U,
     group: &mut G,
     words: &ListWords<'_>,
@@ -75,5 +76,5 @@ pub fn list_before_errors<P: Source, U: Source, G: Source, W: Sink>(
     ensures writes { Writes result (W.Sink.failures writer.old) (W.Sink.failures writer.new)
         (W.contents writer.old) (W.contents writer.new) }
 {
-    run_list(alloc, policy, passwd, group, words, writer)
+    run_list(alloc, policy, file, passwd, group, words, writer)
 }

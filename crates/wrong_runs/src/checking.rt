@@ -2,7 +2,7 @@
 
 ghost use Rattle.std.specs.Prelude.{◌≡◌, IfOk, IfSome};
 ghost use Rattle.sudoers_run.specs.Check.{check_status};
-ghost use Rattle.sudoers_tree.specs.Reading.{read_of};
+ghost use Rattle.sudoers_run.specs.Policy.{policy_of};
 
 use std::alloc::Global;
 use sudoers_run::{Sink, Source, ToolFault, run_check};
@@ -20,7 +20,7 @@ pub fn check_policy<R: Source, W: Sink>(
     strict: bool,
     writer: &mut W,
 ) -> Result<u8, ToolFault>
-    ensures status { IfOk result (λ status. IfSome (R.remaining reader.old) (λ input. status ≡ check_status strict (read_of input))) }
+    ensures status { IfOk result (λ status. IfSome (R.meter reader.old).remaining (λ input. status ≡ check_status strict (policy_of input))) }
 {
     run_check(alloc, reader, file, quiet, strict, writer)
 }

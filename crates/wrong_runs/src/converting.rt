@@ -18,7 +18,7 @@ pub fn convert_policy<R: Source, W: Sink>(
     words: &ConvertWords<'_>,
     writer: &mut W,
 ) -> Result<u8, ToolFault>
-    ensures ok { IfOk result (λ status. (status ≡ 0) × IfSome (R.remaining reader.old) (λ input.
+    ensures ok { IfOk result (λ status. (status ≡ 0) × IfSome (R.meter reader.old).remaining (λ input.
         IsOkAnd (convert_output words.now input) (Appends (W.contents writer.old) (W.contents writer.new)))) }
 {
     run_convert(alloc, reader, words, writer)

@@ -1,13 +1,12 @@
-//! What `Read` and `NoEnd` of `list` say of its readers.
+//! What the results of `list` say of its readers, and in which order it reads its files.
 
-ghost use Rattle.std.specs.Prelude.{◌≡◌, ◌≢◌, ◌⊎◌, Err};
-ghost use Rattle.sudoers_run.specs.List.{FailedWithin, GivenUpWithin};
-ghost use Rattle.sudoers_run.specs.declared.fault.ToolFault.TheVariants as ToolFault;
+ghost use Rattle.sudoers_run.specs.List.{ReadsFiles};
 
 use std::alloc::Global;
 use sudoers_run::{ListWords, Sink, Source, ToolFault, run_list};
 
-/// Reads a policy, passwd and group. `Read` means that a reader failed, and `NoEnd` that one did not end.
+/// Reads a policy, passwd and group in this order, each only after the one before it ended. `Read` means that a reader failed, and
+/// `NoEnd` that one did not end.
 ///
 /// # Errors
 ///
@@ -15,19 +14,14 @@ use sudoers_run::{ListWords, Sink, Source, ToolFault, run_list};
 pub fn list_devices<P: Source, U: Source, G: Source, W: Sink>(
     alloc: Global,
     policy: &mut P,
+    file: &[u8],
     passwd: &mut U,
     group: &mut G,
     words: &ListWords<'_>,
     writer: &mut W,
 ) -> Result<u8, ToolFault>
-    ensures told { result ≡ Err ToolFault.Read
-        → FailedWithin (P.Source.failures policy.old) (P.Source.failures policy.new) (P.remaining policy.old) (P.remaining policy.new)
-        ⊎ (FailedWithin (U.Source.failures passwd.old) (U.Source.failures passwd.new) (U.remaining passwd.old) (U.remaining passwd.new)
-        ⊎ FailedWithin (G.Source.failures group.old) (G.Source.failures group.new) (G.remaining group.old) (G.remaining group.new)) }
-    ensures no_end { result ≡ Err ToolFault.NoEnd
-        → GivenUpWithin (P.offers policy.old) (P.offers policy.new) (P.remaining policy.old) (P.remaining policy.new)
-        ⊎ (GivenUpWithin (U.offers passwd.old) (U.offers passwd.new) (U.remaining passwd.old) (U.remaining passwd.new)
-        ⊎ GivenUpWithin (G.offers group.old) (G.offers group.new) (G.remaining group.old) (G.remaining group.new)) }
+    ensures reads { ReadsFiles result (P.meter policy.old) (P.meter policy.new) (U.meter passwd.old) (U.meter passwd.new)
+        (G.meter group.old) (G.meter group.new) }
 {
-    run_list(alloc, policy, passwd, group, words, writer)
+    run_list(alloc, policy, file, passwd, group, words, writer)
 }

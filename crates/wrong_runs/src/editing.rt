@@ -17,7 +17,7 @@ pub fn edit_policy<R: Source, W: Sink>(
     reader: &mut R,
     writer: &mut W,
 ) -> Result<u8, ToolFault>
-    ensures ok { IfOk result (λ status. (status ≡ 0) × IfSome (R.remaining reader.old) (λ input.
+    ensures ok { IfOk result (λ status. (status ≡ 0) × IfSome (R.meter reader.old).remaining (λ input.
         IsOkAnd (output_of input) (Appends (W.contents writer.old) (W.contents writer.new)))) }
 {
     run_edit(alloc, reader, writer)

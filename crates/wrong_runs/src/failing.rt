@@ -1,7 +1,8 @@
 //! How a reader that fails is reported.
 
-ghost use Rattle.sudoers_run.specs.Device.{Reads};
-ghost use Rattle.sudoers_run.specs.Program.{pull_limit};
+ghost use Rattle.sudoers_run.specs.Policy.{file_end};
+ghost use Rattle.sudoers_run.specs.Reading.{ReadsFile};
+ghost use Rattle.sudoers_text.specs.Fault.{text_limit};
 
 use std::alloc::Global;
 use sudoers_run::{Sink, Source, ToolFault, run_show};
@@ -16,8 +17,7 @@ pub fn show_or_fail<R: Source, W: Sink>(
     reader: &mut R,
     writer: &mut W,
 ) -> Result<u8, ToolFault>
-    ensures reads { Reads pull_limit result (R.Source.failures reader.old) (R.Source.failures reader.new)
-        (R.Source.pulls reader.old) (R.Source.pulls reader.new) (R.offers reader.old) (R.offers reader.new) }
+    ensures reads { ReadsFile text_limit (file_end result) (R.meter reader.old) (R.meter reader.new) }
 {
     run_show(alloc, reader, writer)
 }

@@ -15,13 +15,14 @@ use sudoers_run::{ListWords, Sink, Source, ToolFault, run_list};
 pub fn list_status<P: Source, U: Source, G: Source, W: Sink>(
     alloc: Global,
     policy: &mut P,
+    file: &[u8],
     passwd: &mut U,
     group: &mut G,
     words: &ListWords<'_>,
     writer: &mut W,
 ) -> Result<u8, ToolFault>
-    ensures ok { IfOk result (λ status. OfTexts (P.remaining policy.old) (U.remaining passwd.old) (G.remaining group.old) (λ p u g.
-        (text : List ℕ) × IsListOutcome words.now p u g (Ok (text, status)) × Appends (W.contents writer.old) (W.contents writer.new) text)) }
+    ensures ok { IfOk result (λ status. OfTexts (P.meter policy.old) (U.meter passwd.old) (G.meter group.old) (λ p u g.
+        (text : List ℕ) × IsListOutcome words.now file.now p u g (Ok (text, status)) × Appends (W.contents writer.old) (W.contents writer.new) text)) }
 {
-    run_list(alloc, policy, passwd, group, words, writer)
+    run_list(alloc, policy, file, passwd, group, words, writer)
 }

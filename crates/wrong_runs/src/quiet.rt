@@ -21,7 +21,7 @@ pub fn check_quietly<R: Source, W: Sink>(
     strict: bool,
     writer: &mut W,
 ) -> Result<u8, ToolFault>
-    ensures ok { IfOk result (λ status. IfSome (R.remaining reader.old) (λ input.
+    ensures ok { IfOk result (λ status. IfSome (R.meter reader.old).remaining (λ input.
         Appends (W.contents writer.old) (W.contents writer.new) (check_output file.now quiet strict input))) }
     ensures silent { quiet ≡ true → (result ≢ Err ToolFault.Write) × Keeps (W.contents writer.old) (W.contents writer.new) }
 {

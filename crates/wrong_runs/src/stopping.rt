@@ -1,7 +1,7 @@
 //! Where `edit` stops reading.
 
-ghost use Rattle.sudoers_run.specs.Device.{Reads};
-ghost use Rattle.sudoers_run.specs.Program.{pull_limit};
+ghost use Rattle.sudoers_run.specs.Program.{input_limit};
+ghost use Rattle.sudoers_run.specs.Reading.{ReadsFile, reading_end};
 
 use std::alloc::Global;
 use sudoers_run::{Sink, Source, ToolFault, run_edit};
@@ -16,8 +16,7 @@ pub fn edit_within_limit<R: Source, W: Sink>(
     reader: &mut R,
     writer: &mut W,
 ) -> Result<u8, ToolFault>
-    ensures reads { Reads pull_limit result (R.Source.failures reader.old) (R.Source.failures reader.new)
-        (R.Source.pulls reader.old) (R.Source.pulls reader.new) (R.offers reader.old) (R.offers reader.new) }
+    ensures reads { ReadsFile input_limit (reading_end result) (R.meter reader.old) (R.meter reader.new) }
 {
     run_edit(alloc, reader, writer)
 }

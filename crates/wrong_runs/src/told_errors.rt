@@ -25,8 +25,8 @@ pub fn show_told_errors<R: Source, W: Sink>(
     reader: &mut R,
     writer: &mut W,
 ) -> Result<u8, ToolFault>
-    ensures fault { IfErr result (λ fault. IfSome (R.remaining reader.old) (TellsShow fault)) }
-    ensures front { result ≡ Err ToolFault.Write → IfSome (R.remaining reader.old) (λ input.
+    ensures fault { IfErr result (λ fault. IfSome (R.meter reader.old).remaining (TellsShow fault)) }
+    ensures front { result ≡ Err ToolFault.Write → IfSome (R.meter reader.old).remaining (λ input.
         IsOkAnd (show_output input) (AppendsFront (W.contents writer.old) (W.contents writer.new))) }
 {
     run_show(alloc, reader, writer)
@@ -42,8 +42,8 @@ pub fn edit_told_errors<R: Source, W: Sink>(
     reader: &mut R,
     writer: &mut W,
 ) -> Result<u8, ToolFault>
-    ensures fault { IfErr result (λ fault. IfSome (R.remaining reader.old) (TellsTool fault)) }
-    ensures front { result ≡ Err ToolFault.Write → IfSome (R.remaining reader.old) (λ input.
+    ensures fault { IfErr result (λ fault. IfSome (R.meter reader.old).remaining (TellsTool fault)) }
+    ensures front { result ≡ Err ToolFault.Write → IfSome (R.meter reader.old).remaining (λ input.
         IsOkAnd (output_of input) (AppendsFront (W.contents writer.old) (W.contents writer.new))) }
 {
     run_edit(alloc, reader, writer)
@@ -63,7 +63,7 @@ pub fn check_told_errors<R: Source, W: Sink>(
     writer: &mut W,
 ) -> Result<u8, ToolFault>
     ensures named { IfErr result IsCheckFault }
-    ensures front { result ≡ Err ToolFault.Write → IfSome (R.remaining reader.old) (λ input.
+    ensures front { result ≡ Err ToolFault.Write → IfSome (R.meter reader.old).remaining (λ input.
         AppendsFront (W.contents writer.old) (W.contents writer.new) (check_output file.now quiet strict input)) }
 {
     run_check(alloc, reader, file, quiet, strict, writer)
@@ -81,8 +81,8 @@ pub fn convert_told_errors<R: Source, W: Sink>(
     words: &ConvertWords<'_>,
     writer: &mut W,
 ) -> Result<u8, ToolFault>
-    ensures fault { IfErr result (λ fault. IfSome (R.remaining reader.old) (TellsConvert words.now fault)) }
-    ensures front { result ≡ Err ToolFault.Write → IfSome (R.remaining reader.old) (λ input.
+    ensures fault { IfErr result (λ fault. IfSome (R.meter reader.old).remaining (TellsConvert words.now fault)) }
+    ensures front { result ≡ Err ToolFault.Write → IfSome (R.meter reader.old).remaining (λ input.
         IsOkAnd (convert_output words.now input) (AppendsFront (W.contents writer.old) (W.contents writer.new))) }
 {
     run_convert(alloc, reader, words, writer)
@@ -97,14 +97,15 @@ pub fn convert_told_errors<R: Source, W: Sink>(
 pub fn list_told_errors<P: Source, U: Source, G: Source, W: Sink>(
     alloc: Global,
     policy: &mut P,
+    file: &[u8],
     passwd: &mut U,
     group: &mut G,
     words: &ListWords<'_>,
     writer: &mut W,
 ) -> Result<u8, ToolFault>
-    ensures fault { IfErr result (λ fault. OfTexts (P.remaining policy.old) (U.remaining passwd.old) (G.remaining group.old) (TellsList words.now fault)) }
-    ensures front { result ≡ Err ToolFault.Write → OfTexts (P.remaining policy.old) (U.remaining passwd.old) (G.remaining group.old) (λ p u g.
-        (text : List ℕ) × ((status : ℕ) × IsListOutcome words.now p u g (Ok (text, status))) × AppendsFront (W.contents writer.old) (W.contents writer.new) text) }
+    ensures fault { IfErr result (λ fault. OfTexts (P.meter policy.old) (U.meter passwd.old) (G.meter group.old) (TellsList words.now file.now fault)) }
+    ensures front { result ≡ Err ToolFault.Write → OfTexts (P.meter policy.old) (U.meter passwd.old) (G.meter group.old) (λ p u g.
+        (text : List ℕ) × ((status : ℕ) × IsListOutcome words.now file.now p u g (Ok (text, status))) × AppendsFront (W.contents writer.old) (W.contents writer.new) text) }
 {
-    run_list(alloc, policy, passwd, group, words, writer)
+    run_list(alloc, policy, file, passwd, group, words, writer)
 }

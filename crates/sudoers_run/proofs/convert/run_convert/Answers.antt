@@ -1,7 +1,17 @@
-use Rattle.std.proofs.Common.{Err, ap}
-use Rattle.sudoers_run.proofs.ConvertLemmas.{tells_large}
+use Rattle.std.proofs.Common.{◌≡◌, Err, rules, subst, sym}
+use Rattle.sudoers_text.specs.Fault.{text_limit}
+use Rattle.sudoers_run.specs.declared.fault.LayerFault.{LayerFault}
+use Rattle.sudoers_run.specs.declared.fault.ToolFault.TheVariants as tool
+use Rattle.sudoers_run.specs.Policy.{file_end}
+use Rattle.sudoers_run.specs.Reading.{ReadsFile}
+use Rattle.sudoers_run.proofs.ConvertLemmas.{told}
+use Rattle.sudoers_run.proofs.PolicyLemmas.{file_told}
 use Rattle.sudoers_run.proofs.convert.run_convert.Goals as goal
 
-pub returns-in-Err-InputTooLarge-clause-fault : goal.returns-in-Err-InputTooLarge-clause-fault
-returns-in-Err-InputTooLarge-clause-fault g c =
-    tells_large c.args.words.now (g.R.Read.remaining c.args.reader.now) c.too_large.result c.too_large.ensures (c.in-Err-InputTooLarge.ensures.large (ap Err c.in-Err-InputTooLarge.field-0-is))
+pub returns-in_err-text-clause-reads : goal.returns-in_err-text-clause-reads
+returns-in_err-text-clause-reads g c =
+    let policy = c.in_ok-policy.policy in
+    let fault : LayerFault = c.in_err-text.field-0.0 in
+    let same : c.from_residual-in_err-text.result ≡ Err (tool.Layer fault) = search rules in
+    subst (λ r. ReadsFile text_limit (file_end r) (g.R.Source.meter c.args.reader.now) (g.R.Source.meter c.load_policy.new.reader)) (sym same)
+    (file_told policy fault _ _ c.in_ok-policy.ensures.reads (told c.args.words.now policy fault c.in_err-text.ensures.0))

@@ -2,8 +2,8 @@ use Rattle.std.proofs.Common.{◌≡◌, ◌++◌, ◌-◌, ℕ, List, ap, ◌�
 use Rattle.std.proofs.lemmas.List.{take_rest, length-drop}
 use Rattle.std.proofs.Math.Seq.{take-add}
 use Rattle.std.specs.Io.KnownBytes.{Appends}
-use Rattle.sudoers_run.proofs.ProgramLemmas.{appends_more}
-use Rattle.sudoers_run.proofs.program.write_all.Goals as goal
+use Rattle.sudoers_run.proofs.OutputLemmas.{appends_more}
+use Rattle.sudoers_run.proofs.output.write_all.Goals as goal
 
 pub loop-at-preserved : goal.loop-at-preserved
 loop-at-preserved g c =

@@ -1,0 +1,36 @@
+//! What a command writes, and how.
+ghost use Rattle.std.specs.Prelude.{◌≡◌, ◌+◌, ◌<◌, ◌≤◌, length, IfErr, OnOk, OnErr, min, ◌-◌, ◌^◌};
+ghost use Rattle.std.specs.Io.KnownBytes.{Appends};
+ghost use Rattle.sudoers_run.specs.Device.{Rose, AppendsFront};
+
+use crate::device::{DeviceFailed, Sink};
+use crate::fault::ToolFault;
+
+/// What is written, and the exit status.
+#[derive(Drop)]
+pub struct Output {
+    pub text: Vec<u8>,
+    pub status: u8,
+}
+
+/// Writes all of `bytes`.
+///
+/// # Errors
+///
+/// The writer failed; a beginning of `bytes` is written.
+pub fn write_all<W: Sink>(writer: &mut W, bytes: &[u8]) -> Result<(), ToolFault>
+    ensures all { OnOk result (Appends (W.contents writer.old) (W.contents writer.new) bytes.now) }
+    ensures part { OnErr result (AppendsFront (W.contents writer.old) (W.contents writer.new) bytes.now) }
+    ensures fault { IfErr result (λ fault. (fault ≡ ToolFault.Write)
+        × Rose (W.Sink.failures writer.old) (W.Sink.failures writer.new)) }
+    ensures well { OnOk result (W.Sink.failures writer.new ≡ W.Sink.failures writer.old) }
+{
+    let mut at = 0;
+    while at < bytes.len() {
+        match writer.push(&bytes[at..]) {
+            Ok(n) => at += n,
+            Err(DeviceFailed) => return Err(ToolFault::Write),
+        }
+    }
+    Ok(())
+}
