@@ -1,12 +1,11 @@
 -- What reads take.
-use Rattle.std.proofs.Common.{◌≡◌, ◌<◌, ◌≤◌, ◌+◌, ℕ, nat_lt, List, [], length, ◌++◌, Option, Some, None, Result, Ok, Err, Vec, Global, IfSome, if◌then◌else◌, subst, sym, ap, ◌∙◌, append_assoc, take, arith}
+use Rattle.std.proofs.Common.{◌≡◌, ◌<◌, ◌+◌, ℕ, List, [], length, ◌++◌, Option, Some, None, Result, Ok, Err, Vec, Global, if◌then◌else◌, subst, sym, ap, ◌∙◌, append_assoc, take, arith}
 use Rattle.std.proofs.lemmas.Bool.{lt-ltb}
-use Rattle.std.proofs.lemmas.List.{length-append}
 use Rattle.std.specs.Io.KnownBytes.{Consumes}
 use Rattle.sudoers_run.specs.declared.device.Pulled.{Pulled}
 use Rattle.sudoers_run.specs.declared.device.Pulled.TheVariants.{Bytes}
 use Rattle.sudoers_run.specs.declared.fault.ToolFault.{ToolFault}
-use Rattle.sudoers_run.specs.Device.{Meter, Takes, TakesAll, TakesAtMost, TakesExactly}
+use Rattle.sudoers_run.specs.Device.{Meter, Takes, TakesAll, TakesAtMost}
 use Rattle.sudoers_run.specs.Reading.{OutOfMemory, ReadingEnd, ReadsFile, TooLarge, WasRead, Whole, fault_end, front_end}
 
 -- two reads in turn
@@ -27,14 +26,6 @@ reads_large limit front old new h reads =
 pub reads_failed : (limit : ℕ) (result : Result (Vec ℕ Global) ToolFault) (fault : ToolFault) (old new : Meter) → result ≡ Err fault → ReadsFile limit (fault_end fault) old new
     → ReadsFile limit (front_end limit result) old new
 reads_failed limit result fault old new is reads = subst (λ r. ReadsFile limit (front_end limit r) old new) (sym is) reads
-
--- What was taken past a limit is more than that.
-pub takes_past : (limit : ℕ) (old new : Option (List ℕ)) → TakesExactly old new (limit + 1) → IfSome old (λ (known : List ℕ). limit < length known)
-takes_past limit None new past = tt
-takes_past limit (Some known) None past = absurd past.2
-takes_past limit (Some known) (Some rest) past =
-    let size : length known ≡ length past.0 + length rest = ap length past.2 ∙ length-append past.0 rest in
-    omega (arith, past.1, size)
 
 takes_all : (limit : ℕ) (old new : Option (List ℕ)) → TakesAll old new limit → TakesAtMost old new (limit + 1)
 takes_all limit None new all = ([], omega arith, tt)

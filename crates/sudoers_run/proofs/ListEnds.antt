@@ -1,5 +1,5 @@
 -- How the files of `list` were read, by the outcome.
-use Rattle.std.proofs.Common.{◌≡◌, ◌⊎◌, inl, inr, ℕ, nat_lt, Bool, true, false, if◌then◌else◌, List, [], ◌∷◌, length, Option, Some, None, Result, Ok, Err, Vec, Global, refl, sym, ap, subst, ◌≤◌, ◌+◌, arith}
+use Rattle.std.proofs.Common.{◌≡◌, ◌⊎◌, inl, inr, ℕ, nat_lt, Bool, true, false, if◌then◌else◌, List, [], ◌∷◌, length, Option, Some, None, Result, Ok, Err, Vec, Global, refl, sym, subst, arith}
 use Rattle.std.specs.List.{position_from}
 use Rattle.std.specs.Option.{option_map, option_or}
 use Rattle.sudoers_text.specs.Fault.{text_limit}
@@ -22,8 +22,8 @@ use Rattle.sudoers_run.specs.declared.fault.ToolFault.{ToolFault}
 use Rattle.sudoers_run.specs.declared.fault.ToolFault.TheVariants as tool
 use Rattle.sudoers_run.specs.declared.words.ListWords.{ListWords}
 use Rattle.sudoers_run.specs.Device.{Meter}
-use Rattle.sudoers_run.specs.Policy.{load_end, policy_end}
-use Rattle.sudoers_run.specs.Reading.{Failed, GivenUp, IsAfter, IsFrontFault, OutOfMemory, ReadingEnd, ReadsFile, TooLarge, Unread, WasRead, Whole, fault_end, front_end}
+use Rattle.sudoers_run.specs.Policy.{policy_end}
+use Rattle.sudoers_run.specs.Reading.{IsAfter, IsFrontFault, ReadingEnd, ReadsFile, TooLarge, Unread, WasRead, Whole, fault_end, front_end}
 use Rattle.sudoers_run.specs.List.{AreEnds, ArePeopleEnds, AsDefault, IsAnswered, IsAsked, OfFirst, OfPolicy, OfRequest, OfWho, OfWords, Outcome, ReadsFiles, text_shown}
 use Rattle.sudoers_run.proofs.PolicyLemmas.{front_was_read, policy_was_read}
 

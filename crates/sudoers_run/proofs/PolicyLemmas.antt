@@ -17,7 +17,7 @@ use Rattle.sudoers_run.specs.declared.fault.LayerFault.{LayerFault}
 use Rattle.sudoers_run.specs.declared.fault.LayerFault.TheVariants as layer
 use Rattle.sudoers_run.specs.declared.fault.ToolFault.TheVariants as tool
 use Rattle.sudoers_run.specs.Device.{Meter}
-use Rattle.sudoers_run.specs.Policy.{IsOfReader, file_end, policy_end, policy_of}
+use Rattle.sudoers_run.specs.Policy.{IsOfReader, file_end, policy_end}
 use Rattle.sudoers_run.specs.Reading.{IsFront, IsTextOf, ReadsFile, TooLarge, WasRead, Whole, front_end}
 use Rattle.sudoers_run.proofs.InputLemmas.{no_memory}
 

@@ -1,12 +1,8 @@
 -- The mark, and what writes append.
-use Rattle.std.proofs.Common.{◌≡◌, ℕ, true, false, List, [], ◌∷◌, ◌++◌, Option, Some, None, refl, sym, ap, subst, take, ◌∙◌, append_assoc, append-nil}
+use Rattle.std.proofs.Common.{◌≡◌, ℕ, true, false, List, [], ◌∷◌, ◌++◌, Option, Some, None, refl, ap, ◌∙◌, append_assoc, append-nil}
 use Rattle.std.specs.Option.{option_map}
-use Rattle.std.specs.Io.KnownBytes.{Appends, Consumes}
 use Rattle.sudoers_text.specs.Line.{join}
 use Rattle.sudoers_script.specs.Physical.{physical_lines}
-use Rattle.sudoers_run.specs.declared.device.Pulled.{Pulled}
-use Rattle.sudoers_run.specs.declared.device.Pulled.TheVariants.{Bytes}
-use Rattle.sudoers_run.specs.Device.{Takes}
 use Rattle.sudoers_run.specs.Program.{is_mark, split_lines}
 
 split_map : (front line : List ℕ) (o : Option (List (List ℕ) × List (List ℕ))) → option_map {U = List ℕ × List ℕ} (λ p. ((front ++ line) ++ join p.0, join p.1)) o ≡ option_map {U = List ℕ × List ℕ} (λ p. (front ++ join p.0, join p.1)) (option_map {U = List (List ℕ) × List (List ℕ)} (λ p. (line ∷ p.0, p.1)) o)

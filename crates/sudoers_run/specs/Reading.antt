@@ -1,5 +1,5 @@
 -- What reading a file does to its reader: to the file's end, or to the first byte past a limit.
-use Rattle.std.specs.Prelude.{◌≡◌, ◌≢◌, ℕ, ◌+◌, ◌≤◌, nat_lt, if◌then◌else◌, List, length, Option, Result, Ok, Err, IfSome, Vec}
+use Rattle.std.specs.Prelude.{◌≡◌, ◌≢◌, ℕ, ◌+◌, ◌≤◌, nat_lt, if◌then◌else◌, List, length, Result, Ok, Err, IfSome, Vec}
 use Rattle.std.specs.declared.alloc.Global.{Global}
 use Rattle.std.specs.Io.KnownBytes.{Consumes}
 use Rattle.sudoers_run.specs.declared.fault.LayerFault.TheVariants as layer

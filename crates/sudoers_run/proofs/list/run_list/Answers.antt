@@ -1,10 +1,10 @@
-use Rattle.std.proofs.Common.{◌≡◌, ◌⊎◌, List, ℕ, Ok, Err, IfErr, sym, subst, rules}
+use Rattle.std.proofs.Common.{◌≡◌, ◌⊎◌, Ok, Err, IfErr, sym, subst, rules}
 use Rattle.std.specs.Io.KnownBytes.{Appends}
 use Rattle.sudoers_run.specs.declared.fault.LayerFault.{LayerFault}
 use Rattle.sudoers_run.specs.declared.fault.LayerFault.TheVariants as layer
 use Rattle.sudoers_run.specs.declared.fault.ToolFault.{ToolFault}
 use Rattle.sudoers_run.specs.declared.fault.ToolFault.TheVariants as tool
-use Rattle.sudoers_run.specs.Device.{AppendsFront, Meter}
+use Rattle.sudoers_run.specs.Device.{AppendsFront}
 use Rattle.sudoers_run.specs.List.{OfPolicy, OfTexts, TellsList}
 use Rattle.sudoers_run.proofs.ListEnds.{Ends, all_read, at_group, at_passwd, at_policy, ends_of, ends_of_layer}
 use Rattle.sudoers_run.proofs.ListLemmas.{front_tells, moved, of_any, of_slices, of_texts, tells}
