@@ -24,10 +24,6 @@ abbrev pub check_status : Bool → Result (List Line) ReadFault → ℕ
 check_status strict (Ok lines) = if is_fine strict (report_of lines) then 0 else 1
 check_status strict (Err fault) = 1
 
--- what is told of an input
-abbrev pub TellsCheck : List ℕ → Bool → List ℕ → ℕ → List ℕ → Type 0
-TellsCheck file strict text status input = (text ≡ check_text file strict (policy_of input)) × (status ≡ check_status strict (policy_of input))
-
 -- what is written: nothing, if it is to be quiet
 abbrev pub check_output : List ℕ → Bool → Bool → List ℕ → List ℕ
 check_output file quiet strict input = if quiet then [] else check_text file strict (policy_of input)
@@ -36,7 +32,7 @@ check_output file quiet strict input = if quiet then [] else check_text file str
 abbrev pub IsCheckFault : ToolFault → Type 0
 IsCheckFault fault = DeviceOr (λ (said : LayerFault). said ≡ layer.NoMemory) fault
 
--- How the reading of the file ended, by what comes of it. A file that is too large is an answer, with status 1.
+-- How the reading of the file ended, by what comes of a run. A file that is too large is reported in what is printed, with status 1.
 abbrev pub IsCheckEnd : Result ℕ ToolFault → ReadingEnd → Type 0
 IsCheckEnd (Ok status) TooLarge = status ≡ 1
 IsCheckEnd (Err tool.Write) TooLarge = Unit {0}

@@ -8,7 +8,7 @@ use Rattle.sudoers_run.specs.declared.fault.ToolFault.{ToolFault}
 use Rattle.sudoers_run.specs.declared.fault.ToolFault.TheVariants.{Write}
 
 -- What is counted of a reader, each up to the greatest number that is counted: how often it failed, was asked, was asked with room for a
--- byte; how many bytes it gave; how often it told its end. And what it has left to give, if that is known.
+-- byte; how many bytes it gave; how often it reported its end. And what it has left to give, if that is known.
 pub record Meter : Type 0 where
   pub failures : ℕ
   pub pulls : ℕ

@@ -172,17 +172,17 @@ IsListFault fault = DeviceOr IsAskFault fault
 
 -- ---- how the files were read
 
--- One of the three ended the reading, and so.
+-- The reading ended with one of the three files, in this way.
 abbrev pub EndedWith : ReadingEnd → ReadingEnd → ReadingEnd → ReadingEnd → Type 0
 EndedWith how policy passwd group = (policy ≡ how) ⊎ ((passwd ≡ how) ⊎ (group ≡ how))
 
--- By the fault of passwd and group: one of them is too large; or a row of passwd is bad, and group was not looked at yet.
+-- How passwd and group were read, by their error: one of them is too large; or a row of passwd is bad, and group was not looked at yet.
 abbrev pub ArePeopleEnds : PeopleFault → ReadingEnd → ReadingEnd → Type 0
 ArePeopleEnds people.TooLarge passwd group = ((passwd ≡ TooLarge) × WasRead group) ⊎ (WasRead passwd × (group ≡ TooLarge))
 ArePeopleEnds (people.BadRow Passwd line) passwd group = (passwd ≡ Whole) × WasRead group
 ArePeopleEnds fault passwd group = (passwd ≡ Whole) × (group ≡ Whole)
 
--- By what comes of a run. A fault of the policy comes before passwd and group are looked at.
+-- How the three files were read, by what comes of a run. An error of the policy comes before passwd and group are looked at.
 abbrev pub AreEnds : Result ℕ ToolFault → ReadingEnd → ReadingEnd → ReadingEnd → Type 0
 AreEnds (Err tool.Read) policy passwd group = EndedWith Failed policy passwd group
 AreEnds (Err tool.NoEnd) policy passwd group = EndedWith GivenUp policy passwd group

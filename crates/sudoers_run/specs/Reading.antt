@@ -12,7 +12,7 @@ abbrev pub pull_limit : ℕ
 pull_limit = 4194304
 
 -- How it ended: the reader failed; or it was asked as often as it may be; or memory ran out; or the file passed the limit; or the reader
--- told its end. Or the reader was not asked.
+-- reported its end. Or the reader was not asked.
 pub data ReadingEnd : Type 0 where
   Failed : ReadingEnd
   GivenUp : ReadingEnd
@@ -21,7 +21,7 @@ pub data ReadingEnd : Type 0 where
   Whole : ReadingEnd
   Unread : ReadingEnd
 
--- by the fault that comes of it; those that come later need the whole file
+-- How it ended, by the error that comes of it. An error that comes later needs the whole file.
 abbrev pub fault_end : ToolFault → ReadingEnd
 fault_end tool.Read = Failed
 fault_end tool.NoEnd = GivenUp
@@ -29,17 +29,17 @@ fault_end (tool.Layer layer.NoMemory) = OutOfMemory
 fault_end tool.InputTooLarge = TooLarge
 fault_end fault = Whole
 
--- by what comes of it
+-- the same, by what comes of it
 abbrev pub reading_end : {A : Type 0} → Result A ToolFault → ReadingEnd
 reading_end (Ok x) = Whole
 reading_end (Err fault) = fault_end fault
 
--- by what was read of it, up to one byte past the limit
+-- the same, by what was read, up to one byte past the limit
 abbrev pub front_end : ℕ → Result (Vec ℕ Global) ToolFault → ReadingEnd
 front_end limit (Ok front) = if nat_lt limit (length front.items) then TooLarge else Whole
 front_end limit (Err fault) = fault_end fault
 
--- What the reader shows of it. One that failed or was given up had given no byte past the limit. Past the limit one byte is taken, and
+-- What the reader shows of it. One that failed or was given up has given no byte past the limit. Past the limit one byte is taken, and
 -- no more.
 abbrev pub Shows : ℕ → ReadingEnd → Meter → Meter → Type 0
 Shows limit Failed old new = Rose old.failures new.failures × TakesAtMost old.remaining new.remaining limit
@@ -49,7 +49,8 @@ Shows limit TooLarge old new = (counted_by (limit + 1) old.given ≤ new.given) 
 Shows limit Whole old new = Rose old.ends new.ends × TakesAll old.remaining new.remaining limit
 Shows limit Unread old new = new ≡ old
 
--- What reading does that ended so. The reader is asked at most `pull_limit` times. It has not failed, unless the reading ended so.
+-- What reading a file does to its reader, if it ended in this way. The reader is asked at most `pull_limit` times. Its count of failures
+-- stays, unless the reading ended with a failure.
 pub record ReadsFile (limit : ℕ) (how : ReadingEnd) (old new : Meter) : Type 0 where
   pub asked : new.pulls ≤ old.pulls + pull_limit
   pub well : how ≢ Failed → new.failures ≡ old.failures
@@ -77,7 +78,7 @@ pub record IsFront (limit : ℕ) (old new : Meter) (front : List ℕ) : Type 0 w
   pub most : length front ≤ limit + 1
   pub all : length front ≤ limit → IsTextOf old front
 
--- the faults of reading a front
+-- the errors of reading a front
 abbrev pub IsFrontFault : ToolFault → Type 0
 IsFrontFault tool.Read = Unit {0}
 IsFrontFault tool.NoEnd = Unit {0}
@@ -86,7 +87,7 @@ IsFrontFault tool.InputTooLarge = ⊥
 IsFrontFault tool.Write = ⊥
 IsFrontFault tool.NoMark = ⊥
 
--- the faults of reading a whole input
+-- the errors of reading a whole input
 abbrev pub IsReadFault : ToolFault → Type 0
 IsReadFault tool.InputTooLarge = Unit {0}
 IsReadFault fault = IsFrontFault fault

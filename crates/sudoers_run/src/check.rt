@@ -1,5 +1,5 @@
 //! The check of a policy file.
-ghost use Rattle.std.specs.Prelude.{◌≡◌, ◌≢◌, ◌⊎◌, ◌+◌, ◌<◌, ◌≤◌, ◌++◌, true, codes, length, Ok, Err, IfOk, IfErr, IfSome, OnOk, min, ◌-◌, ◌^◌};
+ghost use Rattle.std.specs.Prelude.{◌≡◌, ◌≢◌, ◌+◌, ◌<◌, ◌≤◌, ◌++◌, true, codes, length, Ok, Err, IfOk, IfErr, IfSome, min, ◌-◌, ◌^◌};
 ghost use Rattle.std.specs.Io.KnownBytes.{Keeps, Appends};
 ghost use Rattle.sudoers_run.specs.Device.{Rose, Writes, AppendsFront};
 ghost use Rattle.sudoers_run.specs.Policy.{policy_of};

@@ -2,7 +2,7 @@
 ghost use Rattle.std.specs.Prelude.{◌≡◌, ℕ, ◌<◌, ◌≤◌, length, IfOk, refl};
 ghost use Rattle.std.specs.Io.{WritesAtMost, ReadsAtMost};
 ghost use Rattle.std.specs.Io.KnownBytes.{Keeps, WriteAppends, ReadConsumes};
-ghost use Rattle.sudoers_run.specs.Device.{CountsFailures, Meter, Pulls, counted_up};
+ghost use Rattle.sudoers_run.specs.Device.{CountsFailures, Meter, Pulls};
 
 use std::io;
 use std::io::{ErrorKind, Read, Write};
@@ -18,7 +18,8 @@ pub enum Pulled {
 #[derive(Clone, Copy, Debug, PartialEq, Eq)]
 pub struct DeviceFailed;
 
-/// A reader that counts what it does: a [`Meter`](../specs/Device.antt).
+/// A reader that counts how often it was asked, how often with room, how many bytes it gave, how often it failed and how often it
+/// reported its end.
 pub trait Source: Read {
     /// What is counted of it, and what it has left to give.
     ghost meter: { Self → Meter };

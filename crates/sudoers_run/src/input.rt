@@ -1,5 +1,5 @@
 //! How each command reads its input whole, and the policy in it.
-ghost use Rattle.std.specs.Prelude.{◌≡◌, ◌≢◌, ◌+◌, ◌<◌, ◌≤◌, length, IfOk, IfErr, MatchResult, min, ◌-◌, ◌^◌};
+ghost use Rattle.std.specs.Prelude.{◌≡◌, ◌+◌, ◌<◌, ◌≤◌, length, IfOk, IfErr, MatchResult, min, ◌-◌, ◌^◌};
 ghost use Rattle.sudoers_text.specs.Fault.{text_limit};
 ghost use Rattle.sudoers_edit.specs.Memory.{IsOfText};
 ghost use Rattle.sudoers_run.specs.Program.{input_limit};
@@ -15,8 +15,8 @@ use sudoers_tree::{Policy, ReadFault};
 /// How often one reader is asked at most.
 pub const PULL_LIMIT: usize = 4_194_304;
 
-/// Reads the file of a policy, and returns the policy or its error. With the first byte past its limit the file is too large, and
-/// no more is read.
+/// Reads the file of a policy from `reader`, and returns the policy or its error. With the first byte past its limit the file is too
+/// large, and no more is read.
 ///
 /// # Errors
 ///
@@ -39,7 +39,7 @@ pub fn load_policy<R: Source>(
     }
 }
 
-/// Reads all there is, up to `limit` bytes. With the first byte past it the input is too large.
+/// Reads all that `reader` gives, up to `limit` bytes. With the first byte past it the input is too large.
 ///
 /// # Errors
 ///
@@ -61,7 +61,7 @@ pub fn read_all<R: Source>(
     Ok(input)
 }
 
-/// Reads all there is, but no more than one byte past `limit` bytes.
+/// Reads all that `reader` gives, but no more than one byte past `limit` bytes.
 ///
 /// # Errors
 ///

@@ -1,8 +1,7 @@
 //! What a user may run on a host, or whether he may run a command there.
-ghost use Rattle.std.specs.Prelude.{◌≡◌, ◌≢◌, ◌⊎◌, ◌+◌, ◌<◌, ◌≤◌, ℕ, List, length, true, Ok, Err, IfOk, IfErr, OnOk, OnErr, IfSome, MatchResult, if◌then◌else◌, min, ◌-◌, ◌^◌};
+ghost use Rattle.std.specs.Prelude.{◌≡◌, ◌≢◌, ◌⊎◌, ◌+◌, ◌<◌, ◌≤◌, ℕ, List, length, true, Ok, Err, IfOk, IfErr, OnOk, MatchResult, if◌then◌else◌, min, ◌-◌, ◌^◌};
 ghost use Rattle.std.specs.Io.KnownBytes.{Keeps, Appends};
 ghost use Rattle.std.specs.Option.{option_map, is_some};
-ghost use Rattle.sudoers_text.specs.Fault.{text_limit};
 ghost use Rattle.sudoers_edit.specs.Memory.{IsOfText};
 ghost use Rattle.sudoers_check.specs.Chains.{HasReachableCycle};
 ghost use Rattle.sudoers_match.specs.Answer.{IsAnswer, answer_shown};

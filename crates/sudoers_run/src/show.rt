@@ -1,5 +1,5 @@
 //! The lines of a policy, shown with their numbers and kinds.
-ghost use Rattle.std.specs.Prelude.{◌≡◌, ◌≢◌, ◌+◌, ◌<◌, ◌≤◌, ◌++◌, codes, length, Ok, Err, IfOk, IfErr, OnOk, OnErr, IfSome, IsOkAnd, MatchResult, min, ◌-◌, ◌^◌};
+ghost use Rattle.std.specs.Prelude.{◌≡◌, ◌≢◌, ◌+◌, ◌<◌, ◌≤◌, ◌++◌, codes, length, Ok, Err, IfOk, IfErr, OnOk, IfSome, IsOkAnd, MatchResult, min, ◌-◌, ◌^◌};
 ghost use Rattle.std.specs.Io.KnownBytes.{Keeps, Appends};
 ghost use Rattle.sudoers_text.specs.Fault.{text_limit};
 ghost use Rattle.sudoers_edit.specs.Memory.{IsOfText};
