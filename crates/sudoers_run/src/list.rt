@@ -5,7 +5,8 @@ ghost use Rattle.std.specs.Option.{option_map, is_some};
 ghost use Rattle.sudoers_text.specs.Fault.{text_limit};
 ghost use Rattle.sudoers_tree.specs.Reading.{read_of};
 ghost use Rattle.sudoers_check.specs.Chains.{HasReachableCycle};
-ghost use Rattle.sudoers_match.specs.Answer.{IsAnswer, answer_shown};
+ghost use Rattle.sudoers_match.specs.Answer.{IsAnswer};
+ghost use Rattle.sudoers_match.specs.Found.{found_answer};
 ghost use Rattle.sudoers_match.specs.Default.{IsRunasDefault};
 ghost use Rattle.sudoers_people.specs.People.{people_told};
 ghost use Rattle.sudoers_people.specs.Person.{who_told};
@@ -22,7 +23,7 @@ use std::alloc::{AllocError, Global};
 use sudoers_hits::Who;
 use sudoers_line::Items;
 use sudoers_list::{explain_answer, list};
-use sudoers_match::{Answer, Request, find_answer, find_default, join_words};
+use sudoers_match::{Found, Request, find_answer, find_default, join_words};
 use sudoers_people::{People, PeopleFault, request_for, who_for};
 use sudoers_text::{TEXT_LIMIT, TextFault};
 use sudoers_tree::{Policy, ReadFault, read_is};
@@ -198,22 +199,22 @@ fn answer_text(
     ensures statuses { IfOk result (λ listed. listed.status ≤ 1) }
     ensures named { IfErr result IsAskFault }
 {
-    let answer = find_answer(alloc, policy, request, default)?;
-    let status = allowed_status(answer);
+    let found = find_answer(alloc, policy, request, default)?;
+    let status = allowed_status(found);
     if words.why {
-        let text = explain_answer(alloc, policy, request, default, answer, words.file)?;
+        let text = explain_answer(alloc, policy, request, default, found, words.file)?;
         return Ok(Listed { text, status });
     }
-    let text = allowed_text(alloc, words.words, answer)?;
+    let text = allowed_text(alloc, words.words, found)?;
     Ok(Listed { text, status })
 }
 
 /// Returns the exit status of an answer.
-fn allowed_status(answer: Option<Answer<'_>>) -> u8
-    ensures { result ≡ allowed_status (option_map answer_shown answer.entry) }
+fn allowed_status(found: Option<Found<'_>>) -> u8
+    ensures { result ≡ allowed_status (option_map found_answer found.entry) }
 {
-    match answer {
-        Some(answer) if answer.allow => 0,
+    match found {
+        Some(found) if found.answer.allow => 0,
         _ => 1,
     }
 }
@@ -222,12 +223,12 @@ fn allowed_status(answer: Option<Answer<'_>>) -> u8
 fn allowed_text(
     alloc: Global,
     words: &[Items<u8>],
-    answer: Option<Answer<'_>>,
+    found: Option<Found<'_>>,
 ) -> Result<Vec<u8>, AllocError>
-    ensures { IfOk result (λ text. text.items ≡ allowed_text words.now (option_map answer_shown answer.entry)) }
+    ensures { IfOk result (λ text. text.items ≡ allowed_text words.now (option_map found_answer found.entry)) }
 {
-    match answer {
-        Some(answer) if answer.allow => {
+    match found {
+        Some(found) if found.answer.allow => {
             let mut text = join_words(alloc, words)?;
             text.push(b'\n')?;
             Ok(text)

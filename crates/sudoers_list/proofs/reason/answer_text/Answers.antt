@@ -1,19 +1,23 @@
-use Rattle.std.proofs.Common.{◌≡◌, ℕ, List, ◌++◌, Option, Some, sym, ap, ◌∙◌, append-nil, Vec, Global}
+use Rattle.std.proofs.Common.{◌≡◌, ℕ, List, ◌++◌, Option, Some, sym, ap, subst, ◌∙◌, append-nil, Vec, Global}
 use Rattle.std.specs.Option.{option_map}
-use Rattle.sudoers_match.specs.Answer.{Answer, answer_shown}
+use Rattle.sudoers_match.specs.Answer.{Answer}
+use Rattle.sudoers_match.specs.Found.{found_answer}
 use Rattle.sudoers_list.specs.declared.inner.Inner.{Inner as InnerHeld}
 use Rattle.sudoers_list.specs.Inner.{Inner}
 use Rattle.sudoers_list.specs.Inside.{inner_shown, rule_held}
 use Rattle.sudoers_list.specs.Reason.{inner_text, rule_text}
-use Rattle.sudoers_list.specs.Rule.{Rule}
+use Rattle.sudoers_list.specs.Rule.{Rule, deciding_rule}
 use Rattle.sudoers_list.proofs.Ruled.{rule_named, rule_speaks}
 use Rattle.sudoers_list.proofs.reason.answer_text.Goals as goal
 use Rattle.sudoers_list.proofs.reason.answer_text.Goals.{in-Some-2+in_ok-append_inner, in_default-2}
 
 pub innermost-requires : goal.innermost-requires
 innermost-requires c =
-    let found = c.in-Some.ensures in
-    rule_speaks c.args.policy.now c.args.request.now (answer_shown c.args.answer.now) (rule_held c.in-Some.rule found.0) c.requires.answer found.2
+    let lines = c.args.policy.now in
+    let a : Answer = found_answer c.args.found.now in
+    let rule = c.find_rule-rule.ensures in
+    rule_speaks lines c.args.request.now a (rule_held c.find_rule-rule.result rule.0) c.requires.answer
+    (subst (λ ls. deciding_rule ls a ≡ Some (rule_held c.find_rule-rule.result rule.0)) c.policy.ensures rule.2)
 
 pub returns : goal.returns
 returns c =
@@ -21,13 +25,14 @@ returns c =
     let file = c.args.file.now in
     let user = c.args.names.now.user.now in
     let d = c.args.names.now.default.now in
-    let a : Answer = answer_shown c.args.answer.now in
-    let found = c.in-Some.ensures in
-    let rule : Rule = rule_held c.in-Some.rule found.0 in
-    let first : c.in_ok-text.text.items ≡ rule_text file user d a.allow rule = c.in_ok-text.ensures found.0 found.1 in
+    let a : Answer = found_answer c.args.found.now in
+    let held = c.find_rule-rule.ensures in
+    let rule : Rule = rule_held c.find_rule-rule.result held.0 in
+    let first : c.in_ok-text.text.items ≡ rule_text file user d a.allow rule = c.in_ok-text.ensures held.0 held.1 in
     let inner : Option Inner = option_map inner_shown c.in_ok-inner.field-0 in
-    rule_named lines c.args.request.now file user d c.match-branch-3.text.items a rule inner c.requires.user found.2 c.in_ok-inner.ensures
-    (elim c.match-branch-3.branch [
+    rule_named lines c.args.request.now file user d c.match-branch-2.text.items a rule inner c.requires.user
+    (subst (λ ls. deciding_rule ls a ≡ Some rule) c.policy.ensures held.2) c.in_ok-inner.ensures
+    (elim c.match-branch-2.branch [
       | in-Some-2+in_ok-append_inner w ↦ ap (λ (v : Vec ℕ Global). v.items) w.text-is
           ∙ w.in_ok-append_inner.ensures
           ∙ ap (λ (t : List ℕ). t ++ inner_text file lines (Some (inner_shown w.in-Some-2.inner))) first
