@@ -26,7 +26,7 @@ use crate::head::Head;
 use crate::moment::is_in_time;
 use crate::question::{Asked, Question};
 use crate::request::{join_command, join_words};
-use crate::rules::{Answer, Found, Place, answer_of, find_at, tell};
+use crate::rules::{Answer, Found, Place, take_answer, find_at, tell};
 use std::alloc::{AllocError, Global};
 use sudoers_hits::Request;
 use sudoers_rows::HostGroup;
@@ -57,7 +57,7 @@ pub fn answer<'a>(
     let policy = Acyclic::new(alloc, policy)?;
     let default = find_default(alloc, &policy, &request.who)?;
     let found = find_answer(alloc, &policy, request, default)?;
-    Ok(answer_of(found))
+    Ok(take_answer(found))
 }
 
 /// Returns the row whose answer [`answer`] returns, with its command, of a policy none of whose reachable aliases is cyclic. `default`
@@ -162,8 +162,8 @@ fn find_in_spec<'a>(
         let mut head = Head::none();
         let group = tables.group(row);
         let at = GroupPlace { spec, host_group };
-        let found = find_in_group(question, asked, line, at, &group, &mut head)?;
-        latest = found.or(latest);
+        let in_group = find_in_group(question, asked, line, at, &group, &mut head)?;
+        latest = in_group.or(latest);
     }
     Ok(latest)
 }

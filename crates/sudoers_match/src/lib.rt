@@ -24,7 +24,7 @@ pub use policies::{
     one_answer, one_head, one_list_of_host_groups, one_runas_default,
 };
 pub use request::{join_command, join_words};
-pub use rules::{Answer, Found, answer_of};
+pub use rules::{Answer, Found};
 pub use sudoers_hits::{Group, Interface, Person, Request, Who};
 pub use sudoers_verdict::AskFault;
 pub use tags::Tags;

@@ -77,7 +77,7 @@ pub fn find_at<'a>(
     head: &Head<'a>,
     member: Member<'a>,
 ) -> Option<Found<'a>>
-    ensures { result ≡ option_map (found_with line head.now member) answer.entry }
+    ensures { result ≡ option_map (found_with line head.now member.entry) answer.entry }
 {
     match answer {
         Some(answer) => Some(Found {
@@ -91,7 +91,7 @@ pub fn find_at<'a>(
 }
 
 /// Returns the answer of what is found.
-pub fn answer_of<'a>(found: Option<Found<'a>>) -> Option<Answer<'a>>
+pub fn take_answer<'a>(found: Option<Found<'a>>) -> Option<Answer<'a>>
     ensures { option_map answer_shown result ≡ option_map found_answer found.entry }
 {
     match found {

@@ -47,14 +47,14 @@ loop-host_group-preserved c =
     let user : Permits User lines (user_hits r.who.user) users true =
     subst (Permits User lines (user_hits r.who.user) users) c.if-not-branch.false c.in_ok-allows.ensures.allowed in
     record {
-      question = c.in_ok-found.ensures.kept;
+      question = c.in_ok-in_group.ensures.kept;
       so_far = subst (IsSoFar Part lines r gs (i + 1) (drop (i + 1) gs))
-          (sym (ap (option_map found_answer) c.or-latest.ensures ∙ map_or found_answer c.in_ok-found.found c.loop-host_group.latest))
-          (so_far_more lines r Part gs i g (drop i gs) (drop (i + 1) gs) (option_map found_answer c.loop-host_group.latest) (option_map found_answer c.in_ok-found.found)
-          (drop_at gs i g at) c.loop-host_group.invariant.so_far (λ rows p. c.in_ok-found.ensures.answer users user rows p));
+          (sym (ap (option_map found_answer) c.or-latest.ensures ∙ map_or found_answer c.in_ok-in_group.in_group c.loop-host_group.latest))
+          (so_far_more lines r Part gs i g (drop i gs) (drop (i + 1) gs) (option_map found_answer c.loop-host_group.latest) (option_map found_answer c.in_ok-in_group.in_group)
+          (drop_at gs i g at) c.loop-host_group.invariant.so_far (λ rows p. c.in_ok-in_group.ensures.answer users user rows p));
       found = subst (λ o. IfSome o (IsOfSpec c.args.line c.args.spec gs)) (sym c.or-latest.ensures)
-          (some_or (IsOfSpec c.args.line c.args.spec gs) c.in_ok-found.found c.loop-host_group.latest
-          (some_then _ (IsOfSpec c.args.line c.args.spec gs) (in_spec c.args.line c.args.spec i gs g at) c.in_ok-found.found c.in_ok-found.ensures.found)
+          (some_or (IsOfSpec c.args.line c.args.spec gs) c.in_ok-in_group.in_group c.loop-host_group.latest
+          (some_then _ (IsOfSpec c.args.line c.args.spec gs) (in_spec c.args.line c.args.spec i gs g at) c.in_ok-in_group.in_group c.in_ok-in_group.ensures.found)
           c.loop-host_group.invariant.found);
     }
 
