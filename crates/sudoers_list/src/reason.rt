@@ -81,16 +81,16 @@ fn rule_text(
 fn append_inner(
     alloc: Global,
     out: &mut Vec<u8>,
-    policy: &Acyclic<'_>,
+    policy: &Policy,
     inner: &Inner<'_>,
     file: &[u8],
 ) -> Result<(), AllocError>
     ensures { OnOk result (out.new.items ≡ out.old.items ++ inner_text file.now policy.now (Some (inner_shown inner.now))) }
 {
-    let Some(place) = policy.policy().definition(Kind::Cmnd, inner.name) else {
+    let Some(place) = policy.definition(Kind::Cmnd, inner.name) else {
         return Ok(());
     };
-    let Some(at) = find_line(policy.policy(), place.line) else {
+    let Some(at) = find_line(policy, place.line) else {
         return Ok(());
     };
     let spot = spot_in(at.row, at.line.text, inner.member.start);
@@ -116,10 +116,11 @@ fn answer_text<'a>(
     requires user { names.now.user.now ≡ request.now.who.user.name }
     ensures { IfOk result (λ text. NamesRule policy.now request.now file.now names.now.default.now (found_answer found.now) text.items) }
 {
-    let rule = find_rule(policy.policy(), found);
+    let lines = policy.policy();
+    let rule = find_rule(lines, found);
     let mut text = rule_text(alloc, names, &rule, found.answer.allow, file)?;
     if let Some(inner) = innermost(alloc, policy, request, &rule.command.member)? {
-        append_inner(alloc, &mut text, policy, &inner, file)?;
+        append_inner(alloc, &mut text, lines, &inner, file)?;
     }
     Ok(text)
 }
