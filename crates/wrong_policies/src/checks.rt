@@ -1,12 +1,14 @@
-//! What is noted of a policy, and whether a reachable alias is cyclic.
+//! What is noted of a policy, which aliases are unused, and whether a reachable alias is cyclic.
 
-ghost use Rattle.std.specs.Prelude.{◌≡◌, ◌↔◌, IsTrue, IfOk};
+ghost use Rattle.std.specs.Prelude.{◌≡◌, ◌↔◌, IsTrue, IfOk, map};
 ghost use Rattle.sudoers_check.specs.Chains.{HasReachableCycle};
+ghost use Rattle.sudoers_check.specs.Led.{unused_of};
 ghost use Rattle.sudoers_check.specs.Report.{is_fine, report_of, report_text as text_of_report};
+ghost use Rattle.sudoers_tree.specs.Definition.{Definition};
 
 use std::alloc::{AllocError, Global};
-use sudoers_check::{Report, check, reachable_cycle, report_text};
-use sudoers_tree::Policy;
+use sudoers_check::{Report, check, reachable_cycle, report_text, unused};
+use sudoers_tree::{Kind, Place, Policy};
 
 /// Returns what is noted of `policy`.
 ///
@@ -40,6 +42,17 @@ pub fn report_of_policy(
     ensures { IfOk result (λ text. text.items ≡ text_of_report file.now strict report.now) }
 {
     report_text(alloc, report, file, strict)
+}
+
+/// Returns the aliases to which no user specification and no Defaults line leads.
+///
+/// # Errors
+///
+/// Memory ran out.
+pub fn unused_aliases(alloc: Global, policy: &Policy) -> Result<Vec<(Kind, Place)>, AllocError>
+    ensures { IfOk result (λ places. places.items ≡ map (λ (d : Definition). (d.kind, d.place)) (unused_of policy.now)) }
+{
+    unused(alloc, policy)
 }
 
 /// Returns whether an alias that a specification or a Defaults line leads to is cyclic.
