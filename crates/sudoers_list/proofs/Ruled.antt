@@ -122,32 +122,33 @@ stands_on row n (l ∷ ls) s h = by (spec_in l.node) n h (λ m. stands_on (row +
     by (Some t) zero e more = let same : t ≡ s = cc in ((row, l), ap (λ (x : Spec). Some (spec_on (row, l) x)) same)
     by (Some t) (suc k) e more = more k e
 
--- It stands on the line with its number.
+-- Of numbered lines this is the one with the user specification, whose number is `line`, counted from `first` on.
+abbrev IsLineOf : ℕ → ℕ → Spec → List (ℕ × Line) → List SpecOn → ℕ → Type 0
+IsLineOf first line s ons specs n = (m : ℕ) × (on : ℕ × Line) × (line ≡ first + m) × (slice_get ons m ≡ Some on) × (slice_get specs n ≡ Some (spec_on on s))
+
+-- A user specification stands on the line with its number.
 stands_on_line : (row k n line : ℕ) (lines : List Line) (s : Spec) → slice_get (numbered_specs k lines) n ≡ Some (line, s)
-    → (m : ℕ) × (on : ℕ × Line) × (line ≡ k + m) × (slice_get (numbered row lines) m ≡ Some on) × (slice_get (specs_on row lines) n ≡ Some (spec_on on s))
+    → IsLineOf k line s (numbered row lines) (specs_on row lines) n
 stands_on_line row k n line [] s h = absurd cc
 stands_on_line row k n line (l ∷ ls) s h = by (spec_in l.node) n h (λ j. stands_on_line (row + lf_count l.text) (k + 1) j line ls s)
   where
-    abbrev Stands_on : List (ℕ × Line) → List SpecOn → ℕ → ℕ → Type 0
-    Stands_on ons specs first j = (m : ℕ) × (on : ℕ × Line) × (line ≡ first + m) × (slice_get ons m ≡ Some on) × (slice_get specs j ≡ Some (spec_on on s))
-
-    later : (specs : List SpecOn) (j : ℕ) → Stands_on (numbered (row + lf_count l.text) ls) specs (k + 1) j → (m : ℕ) × (on : ℕ × Line) × (line ≡ k + m) × (slice_get (numbered row (l ∷ ls)) m ≡ Some on) × (slice_get specs j ≡ Some (spec_on on s))
-    later specs j r =
+    later : (specs : List SpecOn) (i j : ℕ) → (slice_get specs j ≡ slice_get (specs_on (row + lf_count l.text) ls) i)
+        → IsLineOf (k + 1) line s (numbered (row + lf_count l.text) ls) (specs_on (row + lf_count l.text) ls) i → IsLineOf k line s (numbered row (l ∷ ls)) specs j
+    later specs i j same r =
         let first = r.2 in
-        let e : line ≡ k + suc r.0 = omega (arith, first) in
-        (suc r.0, r.1, e, r.3, r.4)
+        let at : line ≡ k + suc r.0 = omega (arith, first) in
+        (suc r.0, r.1, at, r.3, same ∙ r.4)
 
     by : (o : Option Spec) (j : ℕ) → slice_get (cons_option (option_map (λ (t : Spec). (k, t)) o) (numbered_specs (k + 1) ls)) j ≡ Some (line, s)
-        → ((i : ℕ) → slice_get (numbered_specs (k + 1) ls) i ≡ Some (line, s) → Stands_on (numbered (row + lf_count l.text) ls) (specs_on (row + lf_count l.text) ls) (k + 1) i)
-        → (m : ℕ) × (on : ℕ × Line) × (line ≡ k + m) × (slice_get (numbered row (l ∷ ls)) m ≡ Some on)
-        × (slice_get (cons_option (option_map (spec_on (row, l)) o) (specs_on (row + lf_count l.text) ls)) j ≡ Some (spec_on on s))
-    by None j e more = later (specs_on (row + lf_count l.text) ls) j (more j e)
+        → ((i : ℕ) → slice_get (numbered_specs (k + 1) ls) i ≡ Some (line, s) → IsLineOf (k + 1) line s (numbered (row + lf_count l.text) ls) (specs_on (row + lf_count l.text) ls) i)
+        → IsLineOf k line s (numbered row (l ∷ ls)) (cons_option (option_map (spec_on (row, l)) o) (specs_on (row + lf_count l.text) ls)) j
+    by None j e more = later (specs_on (row + lf_count l.text) ls) j j refl (more j e)
     by (Some t) zero e more =
         let both : (k, t) ≡ (line, s) = same_Some (k, t) (line, s) e in
         let first : k ≡ line = ap (λ (p : ℕ × Spec). p.0) both in
         let at : line ≡ k + 0 = omega (arith, first) in
         (0, (row, l), at, refl, ap (λ (p : ℕ × Spec). Some (spec_on (row, l) p.1)) both)
-    by (Some t) (suc j) e more = later (spec_on (row, l) t ∷ specs_on (row + lf_count l.text) ls) (suc j) (more j e)
+    by (Some t) (suc j) e more = later (spec_on (row, l) t ∷ specs_on (row + lf_count l.text) ls) j (suc j) refl (more j e)
 
 -- The rule of what was found: the line of its user specification, and its command.
 pub found_rule : (lines : List Line) (found : Found) → (is : IsFound lines found)

@@ -26,7 +26,7 @@ use crate::head::Head;
 use crate::moment::is_in_time;
 use crate::question::{Asked, Question};
 use crate::request::{join_command, join_words};
-use crate::rules::{Answer, Found, Place, take_answer, find_at, tell};
+use crate::rules::{Answer, Found, Place, find_at, take_answer, tell};
 use std::alloc::{AllocError, Global};
 use sudoers_hits::Request;
 use sudoers_rows::HostGroup;
