@@ -16,10 +16,5 @@ pub mod Linked
 pub mod Spots
 pub mod Keys
 pub mod Noted
-pub mod Read
-pub mod Numbered
-pub mod Ended
-pub mod Visits
-pub mod Turns
-pub mod Rounds
 pub mod Firsts
+pub mod Chains

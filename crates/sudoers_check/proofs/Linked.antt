@@ -28,7 +28,7 @@ out_of a (Some z) = z
 some_is : {Y : Type 0} (a b : Y) → Some a ≡ Some b → a ≡ b
 some_is a b e = ap (out_of a) e
 
-pub at_has : {X : Type 0} (xs : List X) (i : ℕ) (x : X) → slice_get xs i ≡ Some x → Has xs x
+at_has : {X : Type 0} (xs : List X) (i : ℕ) (x : X) → slice_get xs i ≡ Some x → Has xs x
 at_has [] i x e = absurd cc
 at_has (y ∷ ys) zero x e = inl (some_is y x e)
 at_has (y ∷ ys) (suc n) x e = inr (at_has ys n x e)
@@ -107,18 +107,18 @@ numbers_have k (n ∷ names) ds i h = elim (has_cons (number_of k n ds) (numbers
   | inr rest ↦ let r = numbers_have k names ds i rest in (r.0, inr r.1, r.2)
 ]
 
-pub have_numbers : (k : Kind) (names : List (List ℕ)) (ds : List Definition) (i : ℕ) (name : List ℕ) → Has names name → number_of k name ds ≡ Some i → Has (numbers_of k names ds) i
+have_numbers : (k : Kind) (names : List (List ℕ)) (ds : List Definition) (i : ℕ) (name : List ℕ) → Has names name → number_of k name ds ≡ Some i → Has (numbers_of k names ds) i
 have_numbers k [] ds i name h e = absurd h
 have_numbers k (n ∷ names) ds i name (inl same) e = cons_first (number_of k n ds) (numbers_of k names ds) i (ap (λ m. number_of k m ds) same ∙ e)
 have_numbers k (n ∷ names) ds i name (inr h) e = cons_has (number_of k n ds) (numbers_of k names ds) i (have_numbers k names ds i name h e)
 
-pub node_at : (ds others : List Definition) (i : ℕ) (d : Definition) → slice_get others i ≡ Some d → edges_of (nodes_of ds others) i ≡ numbers_of d.kind (names_in d.def.members) ds
+node_at : (ds others : List Definition) (i : ℕ) (d : Definition) → slice_get others i ≡ Some d → edges_of (nodes_of ds others) i ≡ numbers_of d.kind (names_in d.def.members) ds
 node_at ds [] i d e = absurd cc
 node_at ds (x ∷ others) zero d e = ap (λ (y : Definition). numbers_of y.kind (names_in y.def.members) ds) (some_is x d e)
 node_at ds (x ∷ others) (suc n) d e = node_at ds others n d e
 
 -- only nodes have edges
-pub leads_from : (ds others : List Definition) (i j : ℕ) → Has (edges_of (nodes_of ds others) i) j → (d : Definition) × (slice_get others i ≡ Some d)
+leads_from : (ds others : List Definition) (i j : ℕ) → Has (edges_of (nodes_of ds others) i) j → (d : Definition) × (slice_get others i ≡ Some d)
 leads_from ds [] i j h = absurd h
 leads_from ds (x ∷ others) zero j h = (x, refl)
 leads_from ds (x ∷ others) (suc n) j h = leads_from ds others n j h
@@ -138,7 +138,7 @@ own_number lines policy d h =
 -- ---- chains
 
 -- chains of the graph are those of mentions
-pub names_led : (ds : List Definition) (From : ℕ → Type 0) (Begun : Kind → List ℕ → Type 0)
+names_led : (ds : List Definition) (From : ℕ → Type 0) (Begun : Kind → List ℕ → Type 0)
     → ((i : ℕ) (d : Definition) → From i → slice_get ds i ≡ Some d → Begun d.kind d.def.name)
     → (i : ℕ) → Chain (Leads (graph_of ds)) From i → (d : Definition) → slice_get ds i ≡ Some d → Chain (Joins d.kind ds) (Begun d.kind) d.def.name
 names_led ds From Begun begun i (here x from) d at = here d.def.name (begun x d from at)
@@ -153,7 +153,7 @@ names_led ds From Begun begun i (onward x y chain leads) d at =
     subst (λ k. Chain (Joins k ds) (Begun k) d.def.name) (sym is.0) (subst (λ n. Chain (Joins source.kind ds) (Begun source.kind) n) (sym is.1) whole)
 
 -- chains of mentions are those of the graph
-pub numbers_led : (ds : List Definition) → AreOnce ds → (From : ℕ → Type 0) (k : Kind) (Begun : List ℕ → Type 0)
+numbers_led : (ds : List Definition) → AreOnce ds → (From : ℕ → Type 0) (k : Kind) (Begun : List ℕ → Type 0)
     → ((name : List ℕ) (i : ℕ) → Begun name → number_of k name ds ≡ Some i → From i)
     → (name : List ℕ) → Chain (Joins k ds) Begun name → (i : ℕ) (d : Definition) → slice_get ds i ≡ Some d → d.kind ≡ k → d.def.name ≡ name
     → Chain (Leads (graph_of ds)) From i
@@ -229,7 +229,7 @@ roots_said ds n (line ∷ lines) i h =
         (x.kind, x.name, has_front (roots_in x.kind line.node) (roots x.kind lines) x.name (subst (λ names. Has names x.name) (rooting_names x.kind n line.node t) among), m.2)
     by false t g = absurd g
 
-pub said_roots : (ds : List Definition) (n : ℕ) (lines : List Line) (k : Kind) (name : List ℕ) (i : ℕ) → Has (roots k lines) name → number_of k name ds ≡ Some i
+said_roots : (ds : List Definition) (n : ℕ) (lines : List Line) (k : Kind) (name : List ℕ) (i : ℕ) → Has (roots k lines) name → number_of k name ds ≡ Some i
     → Has (roots_since ds n lines) i
 said_roots ds n [] k name i h e = absurd h
 said_roots ds n (line ∷ lines) k name i h e =
@@ -247,14 +247,14 @@ said_roots ds n (line ∷ lines) k name i h e =
     by false t g = subst (λ names. Has names name) (no_names k line.node t) g
 
 -- what is mentioned there is a root of its kind
-pub roots_begun : (lines : List Line) (i : ℕ) (d : Definition) → Has (roots_since (definitions lines) 0 lines) i → slice_get (definitions lines) i ≡ Some d → Has (roots d.kind lines) d.def.name
+roots_begun : (lines : List Line) (i : ℕ) (d : Definition) → Has (roots_since (definitions lines) 0 lines) i → slice_get (definitions lines) i ≡ Some d → Has (roots d.kind lines) d.def.name
 roots_begun lines i d h at =
     let said = roots_said (definitions lines) 0 lines i h in
     let is = defines_is said.0 said.1 d (number_at said.0 said.1 (definitions lines) i d said.3 at) in
     subst (λ name. Has (roots d.kind lines) name) (sym is.1) (subst (λ k. Has (roots k lines) said.1) (sym is.0) said.2)
 
 -- an edge leads to a definition whose name is mentioned
-pub edges_begun : (ds : List Definition) (i : ℕ) (d : Definition) → slice_get ds i ≡ Some d → (j : ℕ) (e : Definition) → Leads (graph_of ds) i j → slice_get ds j ≡ Some e
+edges_begun : (ds : List Definition) (i : ℕ) (d : Definition) → slice_get ds i ≡ Some d → (j : ℕ) (e : Definition) → Leads (graph_of ds) i j → slice_get ds j ≡ Some e
     → Has (names_in d.def.members) e.def.name
 edges_begun ds i d at j e leads at_e =
     let said = numbers_have d.kind (names_in d.def.members) ds j (subst (λ edges. Has edges j) (node_at ds ds i d at) leads) in

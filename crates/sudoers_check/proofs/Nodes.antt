@@ -7,7 +7,7 @@ use Rattle.sudoers_line.specs.declared.node.Atom.{Atom}
 use Rattle.sudoers_line.specs.declared.node.Atom.TheVariants as atom
 use Rattle.sudoers_line.specs.declared.node.Def.{Def}
 use Rattle.sudoers_line.specs.declared.node.Member.{Member}
-use Rattle.sudoers_line.specs.Listed.{AliasMember, alias_of, aliases_among, listed_as}
+use Rattle.sudoers_line.specs.Listed.{alias_of, aliases_among, listed_as}
 use Rattle.sudoers_tree.specs.Line.{Line}
 use Rattle.sudoers_tree.specs.Definition.{Definition, definitions_from, defines}
 use Rattle.sudoers_check.specs.Mentioned.{Mention, mentioned_in}

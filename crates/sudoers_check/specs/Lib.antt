@@ -9,4 +9,3 @@ pub mod Found
 pub mod Search
 pub mod Seen
 pub mod Noting
-pub mod Walk

@@ -1,10 +1,9 @@
 //! The checks.
 
-ghost use Rattle.std.specs.Prelude.{◌≡◌, ◌++◌, ◌↔◌, IsTrue, true, false, length, map, IfOk, OnOk};
+ghost use Rattle.std.specs.Prelude.{◌≡◌, ◌++◌, true, false, length, map, IfOk, OnOk};
 ghost use Rattle.sudoers_rows.specs.View.{node_shown};
 ghost use Rattle.sudoers_tree.specs.Line.{lines_shown};
 ghost use Rattle.sudoers_tree.specs.Definition.{definitions, Definition};
-ghost use Rattle.sudoers_check.specs.Chains.{HasReachableCycle};
 ghost use Rattle.sudoers_check.specs.Led.{is_used, is_cyclic, unused_of, cyclic_of};
 ghost use Rattle.sudoers_check.specs.Numbers.{picked, graph_of};
 ghost use Rattle.sudoers_check.specs.Noting.{places_from, unmarked_places};
@@ -16,7 +15,6 @@ use crate::lines::{count_definitions, find_kind};
 use crate::notes::{marked_notes, undefined_notes};
 use crate::numbers::Numbers;
 use crate::report::Report;
-use crate::walk::Walk;
 use std::alloc::{AllocError, Global};
 use sudoers_tree::{Kind, LineRow, Node, Place, Policy, Rows};
 
@@ -51,27 +49,6 @@ pub fn unused(alloc: Global, policy: &Policy) -> Result<Vec<(Kind, Place)>, Allo
     let graph = numbers.graph(alloc)?;
     let reached = reached(alloc, &numbers, &graph, &policy.lines())?;
     unmarked(alloc, policy, reached.as_slice())
-}
-
-/// Returns whether some alias is cyclic to which a user specification or a Defaults line leads (sudoers(5), Aliases).
-///
-/// # Errors
-///
-/// Memory ran out.
-pub fn reachable_cycle(alloc: Global, policy: &Policy) -> Result<bool, AllocError>
-    ensures { IfOk result (λ cycle. IsTrue cycle ↔ HasReachableCycle policy.now) }
-{
-    policy.is_policy();
-    let numbers = Numbers::new(alloc, policy)?;
-    let mut walk = Walk::new(alloc, &numbers)?;
-    let lines = policy.lines();
-    for row in lines.rows {
-        let round = walk.line_leads_round(&numbers, &lines.tables.node(&row.node))?;
-        if round {
-            return Ok(true);
-        }
-    }
-    Ok(false)
 }
 
 /// Returns the places of the definitions that have no mark, with their kinds.

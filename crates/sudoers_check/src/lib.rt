@@ -11,11 +11,9 @@ mod mentioned;
 mod notes;
 mod numbers;
 mod report;
-mod roots;
 mod seen;
-mod walk;
 
-pub use checking::{check, mark_used, reachable_cycle, unused};
+pub use checking::{check, mark_used, unused};
 pub use laws::{chains_are, mentions_are, numbers_are};
 pub use numbers::Numbers;
 pub use report::{Note, Report, report_text};

@@ -8,8 +8,10 @@ use Rattle.sudoers_line.specs.declared.node.Kind.{Kind}
 use Rattle.sudoers_line.specs.declared.node.Atom.{Atom}
 use Rattle.sudoers_line.specs.declared.node.Member.{Member}
 use Rattle.sudoers_tree.specs.Line.{Line}
-use Rattle.sudoers_check.specs.Chain.{Has, Chain, here, onward}
+use Rattle.sudoers_check.specs.Chain.{Has}
 use Rattle.sudoers_check.specs.Chains.{name_in, names_in}
+use Rattle.sudoers_check.proofs.Chains.{from_more}
+use Rattle.sudoers_check.proofs.Named.{has_front, has_back}
 use Rattle.sudoers_verdict.specs.Cycle.{LeadsToCycle}
 use Rattle.sudoers_match.specs.Straight.{IsStraight}
 use Rattle.sudoers_rewrite.specs.declared.filter.Filter.{Filter}
@@ -65,25 +67,12 @@ fresh_remembered k lines test values verdicts size all = record {
 
 -- ---- a list that is one of the members of another
 
-pub from_more : {X : Type 0} {Step : X → X → Type 0} (P Q : X → Type 0) → ((x : X) → P x → Q x) → (x : X) → Chain Step P x → Chain Step Q x
-from_more P Q wider x (here y p) = here y (wider y p)
-from_more P Q wider x (onward y z c s) = onward y z (from_more P Q wider y c) s
-
-pub has_left : {X : Type 0} (xs ys : List X) (x : X) → Has xs x → Has (xs ++ ys) x
-has_left [] ys x h = absurd h
-has_left (y ∷ xs) ys x (inl e) = inl e
-has_left (y ∷ xs) ys x (inr h) = inr (has_left xs ys x h)
-
-pub has_right : {X : Type 0} (xs ys : List X) (x : X) → Has ys x → Has (xs ++ ys) x
-has_right [] ys x h = h
-has_right (y ∷ xs) ys x h = inr (has_right xs ys x h)
-
 -- the names of the member at a place
 names_at : {R : Type 0} (f : R → Member) (rows : List R) (n : ℕ) (d : R) → n < length rows → (name : List ℕ)
     → Has (names_in (f (get_or rows n d) ∷ [])) name → Has (names_in (map f rows)) name
 names_at f [] n d h name has = absurd (omega arith)
-names_at f (x ∷ rows) zero d h name has = has_left (name_in (f x).atom) (names_in (map f rows)) name (subst (λ ns. Has ns name) (append-nil (name_in (f x).atom)) has)
-names_at f (x ∷ rows) (suc n) d h name has = has_right (name_in (f x).atom) (names_in (map f rows)) name (names_at f rows n d (omega arith) name has)
+names_at f (x ∷ rows) zero d h name has = has_front (name_in (f x).atom) (names_in (map f rows)) name (subst (λ ns. Has ns name) (append-nil (name_in (f x).atom)) has)
+names_at f (x ∷ rows) (suc n) d h name has = has_back (name_in (f x).atom) (names_in (map f rows)) name (names_at f rows n d (omega arith) name has)
 
 pub row_straight : {R : Type 0} (k : Kind) (lines : List Line) (f : R → Member) (rows : List R) (n : ℕ) (d : R) (one : List R) → n < length rows → one ≡ get_or rows n d ∷ []
     → IsStraight k lines (map f rows) → IsStraight k lines (map f one)

@@ -12,10 +12,10 @@ use Rattle.sudoers_rows.specs.Tables.{member_in}
 use Rattle.sudoers_tree.specs.Line.{Line}
 use Rattle.sudoers_tree.specs.Definition.{Definition, definitions, definitions_from}
 use Rattle.sudoers_check.specs.Numbers.{number_of}
+use Rattle.sudoers_check.proofs.Lists.{get-set, get_push}
 use Rattle.sudoers_verdict.specs.Flat.{alias_of, flip}
 use Rattle.sudoers_verdict.specs.Flattened.{turned_member, replaced_by, replaced_once, replaced_times}
 use Rattle.sudoers_verdict.specs.Search.{members_at, members_in}
-use Rattle.sudoers_verdict.proofs.Places.{get-set, get_push}
 use Rattle.sudoers_verdict.proofs.Numbered.{alias_some, number_within, numbered, is_of_name}
 use Rattle.sudoers_rewrite.specs.declared.aliases.Chain.{Chain}
 use Rattle.sudoers_rewrite.specs.declared.flatten.Part.{Part}

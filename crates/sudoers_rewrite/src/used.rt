@@ -8,9 +8,10 @@ ghost use Rattle.sudoers_rewrite.specs.Rewrite.{has_round};
 
 use crate::flatten::MEMBER_LIMIT;
 use std::alloc::{AllocError, Global};
-use sudoers_check::{chains_are, reachable_cycle};
+use sudoers_check::chains_are;
 use sudoers_cvt::{CvtFault, Rule, Rules};
 use sudoers_tree::Policy;
+use sudoers_verdict::reachable_cycle;
 
 /// Returns whether an alias is cyclic to which a user specification or a Defaults line leads (sudoers(5), Aliases).
 ///

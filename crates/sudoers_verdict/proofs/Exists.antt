@@ -6,12 +6,13 @@ use Rattle.sudoers_line.specs.declared.node.Member.{Member}
 use Rattle.sudoers_tree.specs.Line.{Line}
 use Rattle.sudoers_tree.specs.Definition.{definitions}
 use Rattle.sudoers_check.specs.Chain.{Has, Chain, here, onward}
+use Rattle.sudoers_check.proofs.Chains.{from_more}
+use Rattle.sudoers_check.proofs.Lists.{get-set}
 use Rattle.sudoers_verdict.specs.Flat.{Signed, signed, turn, IsFlat}
 use Rattle.sudoers_verdict.proofs.Depth.{FlatIn, none, one, many, is_flat}
 use Rattle.sudoers_verdict.specs.Search.{number_in, members_at, aliases_in, Leads, LeadsRound}
 use Rattle.sudoers_verdict.specs.Cycle.{LeadsToCycle}
 use Rattle.sudoers_verdict.proofs.Named.{round_is}
-use Rattle.sudoers_verdict.proofs.Places.{get-set}
 use Rattle.sudoers_verdict.proofs.Cycles.{front_none, front_some}
 use Rattle.sudoers_verdict.proofs.Numbered.{alias_some, alias_none, number_within}
 
@@ -45,10 +46,6 @@ module _ (kd : Kind) (lines : List Line) where
   abbrev Deeper : ℕ → Type 0
   Deeper n = (marks : List Bool) → length marks ≡ length (definitions lines) → unmarked marks ≤ n → (ms : List Member) → Context marks ms → Found n ms
 
-  from_some : (P Q : ℕ → Type 0) → ((x : ℕ) → P x → Q x) → (x : ℕ) → Chain (Leads kd lines) P x → Chain (Leads kd lines) Q x
-  from_some P Q to x (here y p) = here y (to y p)
-  from_some P Q to x (onward y z c s) = onward y z (from_some P Q to y c) s
-
   behind_front : (m : Member) (ms : List Member) (j : ℕ) → Has (aliases_in kd lines ms) j → Has (aliases_in kd lines (m ∷ ms)) j
   behind_front m ms j h = elim (number_in kd lines m.atom) as (λ o. number_in kd lines m.atom ≡ o → Has (aliases_in kd lines (m ∷ ms)) j) [
     | None ↦ (λ e. subst (λ ks. Has ks j) (sym (front_none kd lines m ms e)) h)
@@ -59,7 +56,7 @@ module _ (kd : Kind) (lines : List Line) where
   at_front m ms k e = subst (λ ks. Has ks k) (sym (front_some kd lines m ms k e)) (inl refl)
 
   cycle_behind : (m : Member) (ms : List Member) → LeadsRound kd lines ms → LeadsRound kd lines (m ∷ ms)
-  cycle_behind m ms l = record { alias = l.alias; reached = from_some (Has (aliases_in kd lines ms)) (Has (aliases_in kd lines (m ∷ ms))) (behind_front m ms) l.alias l.reached; cyclic = l.cyclic }
+  cycle_behind m ms l = record { alias = l.alias; reached = from_more (Has (aliases_in kd lines ms)) (Has (aliases_in kd lines (m ∷ ms))) (behind_front m ms) l.alias l.reached; cyclic = l.cyclic }
 
   -- a chain that goes on from where another ends
   joined : (P : ℕ → Type 0) (k : ℕ) → Chain (Leads kd lines) P k → (x : ℕ) → Chain (Leads kd lines) (Leads kd lines k) x → Chain (Leads kd lines) P x

@@ -12,3 +12,5 @@ pub mod Depth
 pub mod Exists
 pub mod Said
 pub mod Alike
+pub mod Straight
+pub mod Roots

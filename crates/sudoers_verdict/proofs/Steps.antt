@@ -14,10 +14,10 @@ use Rattle.sudoers_verdict.specs.declared.walk.Standing.{Standing}
 use Rattle.sudoers_verdict.specs.declared.walk.Standing.TheVariants.{New, Open, Decided}
 use Rattle.sudoers_verdict.specs.declared.walk.Step.{Step}
 use Rattle.sudoers_check.specs.Chain.{Has, onward}
+use Rattle.sudoers_check.proofs.Lists.{get_front, get_pushed, get_push, get-set}
 use Rattle.sudoers_verdict.specs.Flat.{signed, hit_of, later, turned, IsLatest}
 use Rattle.sudoers_verdict.specs.declared.alias.Alias.{Alias}
 use Rattle.sudoers_verdict.specs.Search.{Path, IsOnWay, IsSearch, IsStep, number_in, members_at, aliases_in, Leads, FindsItself, first_step, next_step, IsAlias}
-use Rattle.sudoers_verdict.proofs.Places.{get_front, get_pushed, get_push, get-set}
 use Rattle.sudoers_verdict.proofs.Flats.{latest_one, latest_many}
 use Rattle.sudoers_verdict.proofs.Cycles.{closes, front_some, front_none}
 use Rattle.sudoers_verdict.proofs.Fuel.{fresh_entered, fresh_decided, left_push}

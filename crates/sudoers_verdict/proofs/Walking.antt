@@ -12,10 +12,10 @@ use Rattle.sudoers_verdict.specs.declared.walk.Standing.{Standing}
 use Rattle.sudoers_verdict.specs.declared.walk.Standing.TheVariants.{New, Open, Decided}
 use Rattle.sudoers_verdict.specs.declared.walk.Step.{Step}
 use Rattle.sudoers_check.specs.Chain.{here}
+use Rattle.sudoers_check.proofs.Lists.{get_front, get_pushed, get_push, get-set, get-set_same, get-set_other}
 use Rattle.sudoers_verdict.specs.Flat.{IsLatest}
 use Rattle.sudoers_verdict.specs.declared.alias.Alias.{Alias}
 use Rattle.sudoers_verdict.specs.Search.{Path, IsOnWay, IsSearch, IsRooted, members_at, first_step, IsAlias}
-use Rattle.sudoers_verdict.proofs.Places.{get_front, get_pushed, get_push, get-set, get-set_same, get-set_other}
 use Rattle.sudoers_verdict.proofs.Flats.{latest_none}
 
 module _ (kd : Kind) (lines : List Line) (test : Atom → Bool) where

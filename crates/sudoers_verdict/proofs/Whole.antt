@@ -13,11 +13,11 @@ use Rattle.sudoers_verdict.specs.declared.walk.Standing.TheVariants.{New, Open, 
 use Rattle.sudoers_verdict.specs.declared.walk.Step.{Step}
 use Rattle.sudoers_verdict.specs.declared.walk.Verdicts.{Verdicts}
 use Rattle.sudoers_check.specs.Chain.{Has, here}
+use Rattle.sudoers_check.proofs.Lists.{get_pushed, get_push, get-set}
 use Rattle.sudoers_verdict.specs.Flat.{signed, hit_of, later, turned, IsLatest}
 use Rattle.sudoers_verdict.specs.Cycle.{LeadsToCycle}
 use Rattle.sudoers_verdict.specs.declared.alias.Alias.{Alias}
 use Rattle.sudoers_verdict.specs.Search.{Path, IsSearch, IsMet, IsEntered, IsWay, FindsCycle, Remembers, number_in, members_at, aliases_in, FindsItself, first_step, IsAlias}
-use Rattle.sudoers_verdict.proofs.Places.{get_pushed, get_push, get-set}
 use Rattle.sudoers_verdict.proofs.Flats.{latest_one, latest_many}
 use Rattle.sudoers_verdict.proofs.Cycles.{from_path}
 use Rattle.sudoers_verdict.proofs.Named.{round_is}

@@ -3,3 +3,4 @@ pub mod Cycle
 pub mod Search
 pub mod Flattened
 pub mod Alike
+pub mod Roots

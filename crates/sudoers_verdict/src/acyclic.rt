@@ -9,11 +9,12 @@ ghost use Rattle.sudoers_check.specs.Chains.{HasReachableCycle};
 ghost use Rattle.sudoers_verdict.specs.declared.verdict.AskFault.TheVariants.{Cycle, NoMemory};
 ghost use Rattle.sudoers_verdict.specs.Search.{Remembers};
 
+use crate::cycle::has_reachable_cycle;
 use crate::verdict::AskFault;
 use crate::walk::Verdicts;
 use std::alloc::{AllocError, Global};
 use std::marker::Model;
-use sudoers_check::{Numbers, reachable_cycle};
+use sudoers_check::Numbers;
 use sudoers_tree::{LineRow, Policy, Rows};
 
 /// A policy none of whose reachable aliases is cyclic, with the numbers of its definitions. Contracts see the list of its lines with
@@ -46,10 +47,10 @@ impl<'a> Acyclic<'a> {
         ensures straight { IfOk result (λ _. HasReachableCycle policy.now → ⊥) }
         ensures fault { IfErr result (λ fault. (fault ≡ NoMemory) ⊎ ((fault ≡ Cycle) × HasReachableCycle policy.now)) }
     {
-        if reachable_cycle(alloc, policy)? {
+        let numbers = Numbers::new(alloc, policy)?;
+        if has_reachable_cycle(alloc, &numbers)? {
             return Err(AskFault::Cycle);
         }
-        let numbers = Numbers::new(alloc, policy)?;
         Ok(Acyclic { numbers })
     }
 

@@ -7,12 +7,13 @@ ghost use Rattle.sudoers_verdict.specs.declared.verdict.AskFault.TheVariants.{Cy
 ghost use Rattle.sudoers_verdict.specs.Flat.{IsVerdict};
 ghost use Rattle.sudoers_verdict.specs.Cycle.{LeadsToCycle};
 
+use crate::cycle::reachable_cycle;
 use crate::kind::MemberKind;
 use crate::laws::flat_then_no_cycle;
 use crate::verdict::{AskFault, Decision, Verdict};
 use crate::walk::Verdicts;
 use std::alloc::Global;
-use sudoers_check::{Numbers, reachable_cycle};
+use sudoers_check::Numbers;
 use sudoers_tree::{Kind, MemberRow, Policy, Rows};
 
 /// Returns what the list `members` of this kind says of `asked` (sudoers(5), Aliases).

@@ -3,6 +3,7 @@
 
 mod acyclic;
 mod alias;
+mod cycle;
 mod deciding;
 mod kind;
 mod kinds;
@@ -12,6 +13,7 @@ mod verdict;
 mod walk;
 
 pub use acyclic::Acyclic;
+pub use cycle::reachable_cycle;
 pub use deciding::decide;
 pub use kind::MemberKind;
 pub use kinds::{Commands, Groups, Hosts, Users};

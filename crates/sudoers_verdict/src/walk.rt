@@ -102,7 +102,7 @@ impl<'a> Verdicts<'a> {
     }
 
     /// Returns what an alias says.
-    fn settle<K: MemberKind>(
+    pub(crate) fn settle<K: MemberKind>(
         &mut self,
         numbers: &Numbers<'a>,
         kind: Kind,

@@ -1,6 +1,6 @@
-//! What a list says, and what a policy answers.
+//! What a list says, whether a reachable alias is cyclic, and what a policy answers.
 
-ghost use Rattle.std.specs.Prelude.{◌≡◌, ◌<◌, ◌≤◌, ◌⊎◌, length, IfOk, IfErr, IfSome};
+ghost use Rattle.std.specs.Prelude.{◌≡◌, ◌<◌, ◌≤◌, ◌⊎◌, ◌↔◌, IsTrue, length, IfOk, IfErr, IfSome};
 ghost use Rattle.std.specs.Option.{option_map};
 ghost use Rattle.sudoers_check.specs.Chains.{HasReachableCycle};
 ghost use Rattle.sudoers_match.specs.Answer.{IsAnswer, answer_shown, argument_limit, joined};
@@ -12,14 +12,14 @@ ghost use Rattle.sudoers_verdict.specs.declared.verdict.AskFault.TheVariants.{Cy
 ghost use Rattle.sudoers_verdict.specs.Cycle.{LeadsToCycle};
 ghost use Rattle.sudoers_verdict.specs.Flat.{IsVerdict};
 
-use std::alloc::Global;
+use std::alloc::{AllocError, Global};
 use sudoers_match::{
     Answer, AskFault, Found, GroupPlace, Request, Who, answer, find_answer, host_groups,
     runas_default,
 };
 use sudoers_rows::{MemberRow, Rows};
 use sudoers_tree::{Kind, Policy};
-use sudoers_verdict::{Acyclic, MemberKind, Verdict, decide};
+use sudoers_verdict::{Acyclic, MemberKind, Verdict, decide, reachable_cycle};
 
 /// Returns what a list of members says of what is asked.
 ///
@@ -39,6 +39,17 @@ pub fn decide_list<K: MemberKind>(
         ⊎ ((fault ≡ Cycle) × (HasReachableCycle policy.now ⊎ LeadsToCycle kind policy.now (members_shown members.now)))) }
 {
     decide::<K>(alloc, policy, kind, members, asked)
+}
+
+/// Returns whether an alias that a specification or a Defaults line leads to is cyclic.
+///
+/// # Errors
+///
+/// Memory ran out.
+pub fn find_cycle(alloc: Global, policy: &Policy) -> Result<bool, AllocError>
+    ensures { IfOk result (λ cycle. IsTrue cycle ↔ HasReachableCycle policy.now) }
+{
+    reachable_cycle(alloc, policy)
 }
 
 /// Returns the answer of `policy` to `request`: that of the last row that fits.

@@ -1,13 +1,12 @@
-//! What is noted of a policy, which aliases are unused, and whether a reachable alias is cyclic.
+//! What is noted of a policy, and which aliases are unused.
 
-ghost use Rattle.std.specs.Prelude.{◌≡◌, ◌↔◌, IsTrue, IfOk, map};
-ghost use Rattle.sudoers_check.specs.Chains.{HasReachableCycle};
+ghost use Rattle.std.specs.Prelude.{◌≡◌, IfOk, map};
 ghost use Rattle.sudoers_check.specs.Led.{unused_of};
 ghost use Rattle.sudoers_check.specs.Report.{is_fine, report_of, report_text as text_of_report};
 ghost use Rattle.sudoers_tree.specs.Definition.{Definition};
 
 use std::alloc::{AllocError, Global};
-use sudoers_check::{Report, check, reachable_cycle, report_text, unused};
+use sudoers_check::{Report, check, report_text, unused};
 use sudoers_tree::{Kind, Place, Policy};
 
 /// Returns what is noted of `policy`.
@@ -53,15 +52,4 @@ pub fn unused_aliases(alloc: Global, policy: &Policy) -> Result<Vec<(Kind, Place
     ensures { IfOk result (λ places. places.items ≡ map (λ (d : Definition). (d.kind, d.place)) (unused_of policy.now)) }
 {
     unused(alloc, policy)
-}
-
-/// Returns whether an alias that a specification or a Defaults line leads to is cyclic.
-///
-/// # Errors
-///
-/// Memory ran out.
-pub fn find_cycle(alloc: Global, policy: &Policy) -> Result<bool, AllocError>
-    ensures { IfOk result (λ cycle. IsTrue cycle ↔ HasReachableCycle policy.now) }
-{
-    reachable_cycle(alloc, policy)
 }

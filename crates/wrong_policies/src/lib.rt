@@ -6,7 +6,7 @@ mod lines;
 mod policies;
 mod texts;
 
-pub use checks::{check_policy, find_cycle, is_fine_report, report_of_policy, unused_aliases};
+pub use checks::{check_policy, is_fine_report, report_of_policy, unused_aliases};
 pub use lines::reading_of_line;
 pub use policies::{
     definition_of, insert_line, mentions_of, policy_text, read_policy, reread_policy,

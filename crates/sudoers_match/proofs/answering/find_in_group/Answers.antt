@@ -10,6 +10,7 @@ use Rattle.sudoers_match.specs.Allows.{Permits}
 use Rattle.sudoers_match.specs.Answer.{answer_shown}
 use Rattle.sudoers_match.specs.Found.{found_answer}
 use Rattle.sudoers_rows.specs.declared.view.RunasSpec.{RunasSpec as RunasView}
+use Rattle.sudoers_check.proofs.Lists.{Has_at}
 use Rattle.sudoers_match.specs.declared.head.Head.{Head as HeadHeld}
 use Rattle.sudoers_match.specs.Heads.{Head, filled, inherit, no_head}
 use Rattle.sudoers_match.specs.IsHead.{IsHead}
@@ -18,7 +19,6 @@ use Rattle.sudoers_match.specs.Straight.{RunasIsStraight, CommandIsStraight, IsS
 use Rattle.sudoers_match.proofs.Founds.{answer_found, group_found, some_or}
 use Rattle.sudoers_match.proofs.Gathered.{at_drop, at_map, drop_at}
 use Rattle.sudoers_match.proofs.Lasts.{map_or}
-use Rattle.sudoers_match.proofs.Reached.{has_at}
 use Rattle.sudoers_match.proofs.Rowed.{no_host, inherit_straight, list_none, list_more, list_all}
 use Rattle.sudoers_match.proofs.answering.find_in_group.Goals as goal
 use Rattle.sudoers_match.proofs.answering.find_in_group.Goals.{then-is_some, else-is_some}
@@ -68,7 +68,7 @@ answer_of_command-requires-clause-runas c =
     let cmd : CmdSpec = command_shown c.command-written.result in
     let s = c.loop-command.invariant.so_far in
     let at = at_map (command_in g.commands.tables.now) g.commands.rows.now k _ c.loop-command-test.true cmd c.command-written.ensures in
-    let straight : CommandIsStraight lines cmd = c.requires.straight.commands cmd (has_at (commands_shown g.commands) k cmd at) in
+    let straight : CommandIsStraight lines cmd = c.requires.straight.commands cmd (Has_at (commands_shown g.commands) k cmd at) in
     subst (RunasIsStraight lines) (sym (c.inherit.ensures s.head s.is_head).runas) (inherit_straight lines r s.head cmd s.straight straight.runas)
 
 pub answer_of_command-requires-clause-permitted : goal.answer_of_command-requires-clause-permitted
@@ -95,7 +95,7 @@ answer_of_command-requires-clause-member c =
     let k = c.loop-command.command in
     let cmd : CmdSpec = command_shown c.command-written.result in
     let at = at_map (command_in t) g.commands.rows.now k _ c.loop-command-test.true cmd c.command-written.ensures in
-    let straight : CommandIsStraight lines cmd = c.requires.straight.commands cmd (has_at (commands_shown g.commands) k cmd at) in
+    let straight : CommandIsStraight lines cmd = c.requires.straight.commands cmd (Has_at (commands_shown g.commands) k cmd at) in
     subst (IsStraight Cmnd lines) (sym (ap (map (member_in t)) c.from_ref.ensures.value ∙ ap (λ (x : CmdSpec). x.member ∷ []) (sym c.command-written.ensures))) straight.member
 
 pub loop-command-preserved : goal.loop-command-preserved
@@ -110,7 +110,7 @@ loop-command-preserved c =
     let cmd : CmdSpec = command_shown c.command-written.result in
     let s = c.loop-command.invariant.so_far in
     let at = at_map (command_in t) g.commands.rows.now k _ c.loop-command-test.true cmd c.command-written.ensures in
-    let straight : CommandIsStraight lines cmd = c.requires.straight.commands cmd (has_at (commands_shown g.commands) k cmd at) in
+    let straight : CommandIsStraight lines cmd = c.requires.straight.commands cmd (Has_at (commands_shown g.commands) k cmd at) in
     let shown = ap (map (member_in t)) c.from_ref.ensures.value ∙ ap (λ (x : CmdSpec). x.member ∷ []) (sym c.command-written.ensures) in
     let is = c.inherit.ensures s.head s.is_head in
     let host : Permits Host lines (host_hits r.who) hosts true =

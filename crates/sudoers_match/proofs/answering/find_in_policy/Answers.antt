@@ -3,6 +3,7 @@ use Rattle.std.specs.Option.{option_map}
 use Rattle.std.proofs.lemmas.List.{drop_all}
 use Rattle.sudoers_rows.specs.View.{groups_shown, members_shown}
 use Rattle.sudoers_tree.specs.Line.{line_in}
+use Rattle.sudoers_check.proofs.Lists.{Has_at}
 use Rattle.sudoers_match.specs.Found.{IsFound, found_answer, numbered_specs}
 use Rattle.sudoers_match.specs.Question.{IsQuestion, IsSoFar}
 use Rattle.sudoers_match.specs.Rows.{SpecRows}
@@ -12,7 +13,7 @@ use Rattle.sudoers_match.proofs.Founds.{in_policy, some_or, some_then}
 use Rattle.sudoers_match.proofs.Gathered.{at_drop, drop_next}
 use Rattle.sudoers_match.proofs.Lasts.{map_or}
 use Rattle.sudoers_match.proofs.Passed.{line, line_at, says, spec, left_spec, left_none, numbered_none, numbered_spec}
-use Rattle.sudoers_match.proofs.Reached.{has_at, users_straight, groups_straight}
+use Rattle.sudoers_match.proofs.Reached.{users_straight, groups_straight}
 use Rattle.sudoers_match.proofs.Rowed.{so_far_more, so_far_all}
 use Rattle.sudoers_match.proofs.answering.find_in_policy.Goals as goal
 use Rattle.sudoers_match.proofs.answering.find_in_policy.Goals.{in-Spec+in_ok-found, in_default}
@@ -24,7 +25,7 @@ find_in_spec-requires-clause-users c =
     let i = c.loop-line.line in
     let lines = c.args.asked.now.policy.now in
     users_straight lines c.is_acyclic.ensures.straight (line t rows i _ c.loop-line-test.true c.node.result c.node.ensures)
-    (has_at lines i _ (ap (λ ls. slice_get ls i) (sym c.lines-lines.ensures) ∙ line_at t rows i _ c.loop-line-test.true c.node.result c.node.ensures))
+    (Has_at lines i _ (ap (λ ls. slice_get ls i) (sym c.lines-lines.ensures) ∙ line_at t rows i _ c.loop-line-test.true c.node.result c.node.ensures))
     (members_shown c.in-Spec.users) (groups_shown c.in-Spec.groups)
     (says t rows i _ c.loop-line-test.true c.node.result c.node.ensures c.in-Spec.users c.in-Spec.groups c.in-Spec.is)
 
@@ -35,7 +36,7 @@ find_in_spec-requires-clause-groups c =
     let i = c.loop-line.line in
     let lines = c.args.asked.now.policy.now in
     groups_straight lines c.is_acyclic.ensures.straight (line t rows i _ c.loop-line-test.true c.node.result c.node.ensures)
-    (has_at lines i _ (ap (λ ls. slice_get ls i) (sym c.lines-lines.ensures) ∙ line_at t rows i _ c.loop-line-test.true c.node.result c.node.ensures))
+    (Has_at lines i _ (ap (λ ls. slice_get ls i) (sym c.lines-lines.ensures) ∙ line_at t rows i _ c.loop-line-test.true c.node.result c.node.ensures))
     (members_shown c.in-Spec.users) (groups_shown c.in-Spec.groups)
     (says t rows i _ c.loop-line-test.true c.node.result c.node.ensures c.in-Spec.users c.in-Spec.groups c.in-Spec.is)
 

@@ -6,6 +6,7 @@ use Rattle.sudoers_line.specs.declared.node.HostGroup.{HostGroup}
 use Rattle.sudoers_rows.specs.Tables.{group_in}
 use Rattle.sudoers_rows.specs.View.{group_shown, groups_shown, members_shown}
 use Rattle.sudoers_hits.specs.Hits.{user_hits}
+use Rattle.sudoers_check.proofs.Lists.{Has_at}
 use Rattle.sudoers_match.specs.Allows.{Permits}
 use Rattle.sudoers_match.specs.Found.{found_answer}
 use Rattle.sudoers_match.specs.Question.{IsOfSpec, IsSoFar}
@@ -14,7 +15,6 @@ use Rattle.sudoers_match.specs.Specs.{spec_of}
 use Rattle.sudoers_match.proofs.Founds.{in_spec, some_or, some_then}
 use Rattle.sudoers_match.proofs.Gathered.{at_map, drop_at}
 use Rattle.sudoers_match.proofs.Lasts.{map_or}
-use Rattle.sudoers_match.proofs.Reached.{has_at}
 use Rattle.sudoers_match.proofs.Rowed.{no_user, so_far_more, so_far_all}
 use Rattle.sudoers_match.proofs.answering.find_in_spec.Goals as goal
 
@@ -30,7 +30,7 @@ pub find_in_group-requires-clause-straight : goal.find_in_group-requires-clause-
 find_in_group-requires-clause-straight c =
     let groups = c.args.groups.now in
     let g : HostGroup = group_shown c.group-group.result in
-    c.requires.groups g (has_at (groups_shown groups) c.loop-host_group.host_group g
+    c.requires.groups g (Has_at (groups_shown groups) c.loop-host_group.host_group g
     (at_map (group_in groups.tables.now) groups.rows.now c.loop-host_group.host_group _ c.loop-host_group-test.true g c.group-group.ensures))
 
 pub loop-host_group-preserved : goal.loop-host_group-preserved

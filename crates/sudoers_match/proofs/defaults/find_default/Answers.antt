@@ -6,10 +6,11 @@ use Rattle.sudoers_line.specs.declared.node.Kind.TheVariants.{User, Host}
 use Rattle.sudoers_hits.specs.Hits.{user_hits, host_hits}
 use Rattle.sudoers_rows.specs.View.{params_shown, scope_shown}
 use Rattle.sudoers_tree.specs.Line.{line_in}
+use Rattle.sudoers_check.proofs.Lists.{Has_at}
 use Rattle.sudoers_verdict.specs.Search.{Remembers}
 use Rattle.sudoers_match.specs.Asked.{IsNameSoFar}
 use Rattle.sudoers_match.proofs.Passed.{line, line_at, says_defaults, no_default_in}
-use Rattle.sudoers_match.proofs.Reached.{has_at, scope_straight}
+use Rattle.sudoers_match.proofs.Reached.{scope_straight}
 use Rattle.sudoers_match.proofs.Settings.{none_so_far, defaults_more, other_more, whole}
 use Rattle.sudoers_match.proofs.defaults.find_default.Goals as goal
 use Rattle.sudoers_match.proofs.defaults.find_default.Goals.{in-Defaults+in_ok-latest, in_default}
@@ -21,7 +22,7 @@ find_setting_for-requires-clause-straight c =
     let rows = c.lines-lines.result.rows.now in
     let i = c.loop-row.row-index in
     scope_straight lines c.is_acyclic.ensures.straight (line t rows i _ c.loop-row-test.true c.node.result c.node.ensures)
-    (has_at lines i _ (ap (λ ls. slice_get ls i) (sym c.lines-lines.ensures) ∙ line_at t rows i _ c.loop-row-test.true c.node.result c.node.ensures))
+    (Has_at lines i _ (ap (λ ls. slice_get ls i) (sym c.lines-lines.ensures) ∙ line_at t rows i _ c.loop-row-test.true c.node.result c.node.ensures))
     (option_map scope_shown c.in-Defaults.scope) (params_shown c.in-Defaults.params)
     (says_defaults t rows i _ c.loop-row-test.true c.node.result c.node.ensures c.in-Defaults.scope c.in-Defaults.params c.in-Defaults.is)
 

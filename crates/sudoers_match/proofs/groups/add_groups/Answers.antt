@@ -4,11 +4,11 @@ use Rattle.sudoers_line.specs.declared.node.Kind.TheVariants.{Host}
 use Rattle.sudoers_hits.specs.Hits.{host_hits}
 use Rattle.sudoers_rows.specs.Tables.{group_in}
 use Rattle.sudoers_rows.specs.View.{groups_shown, group_shown}
+use Rattle.sudoers_check.proofs.Lists.{Has_at}
 use Rattle.sudoers_match.specs.Allows.{Permits}
 use Rattle.sudoers_match.specs.declared.groups.GroupPlace.{GroupPlace}
 use Rattle.sudoers_match.specs.Groups.{GroupPlaces, place_of}
 use Rattle.sudoers_match.proofs.Gathered.{one_added, all_added, at_map}
-use Rattle.sudoers_match.proofs.Reached.{has_at}
 use Rattle.sudoers_match.proofs.groups.add_groups.Goals as goal
 use Rattle.sudoers_match.proofs.groups.add_groups.Goals.{then-branch+in_ok-push_place, else-branch}
 
@@ -16,7 +16,7 @@ pub allows-requires-clause-straight : goal.allows-requires-clause-straight
 allows-requires-clause-straight c =
     let groups = c.args.groups.now in
     let g = group_shown c.group-group.result in
-    (c.requires.straight g (has_at (groups_shown groups) c.loop-host_group.host_group g
+    (c.requires.straight g (Has_at (groups_shown groups) c.loop-host_group.host_group g
     (at_map (group_in groups.tables.now) groups.rows.now c.loop-host_group.host_group _ c.loop-host_group-test.true g c.group-group.ensures))).hosts
 
 pub loop-host_group-preserved : goal.loop-host_group-preserved

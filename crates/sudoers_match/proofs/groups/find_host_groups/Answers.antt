@@ -5,12 +5,13 @@ use Rattle.sudoers_rows.specs.View.{members_shown, groups_shown}
 use Rattle.sudoers_tree.specs.Line.{line_in}
 use Rattle.sudoers_match.specs.Allows.{Permits}
 use Rattle.sudoers_check.specs.Chains.{HasReachableCycle}
+use Rattle.sudoers_check.proofs.Lists.{Has_at}
 use Rattle.sudoers_verdict.specs.Search.{Remembers}
 use Rattle.sudoers_match.specs.declared.groups.GroupPlace.{GroupPlace}
 use Rattle.sudoers_match.specs.Specs.{specs_of, AreJoined}
 use Rattle.sudoers_match.specs.Groups.{SpecPlaces}
 use Rattle.sudoers_match.proofs.Passed.{spec_more, none_more, all_lines, line, line_at, says}
-use Rattle.sudoers_match.proofs.Reached.{has_at, users_straight, groups_straight}
+use Rattle.sudoers_match.proofs.Reached.{users_straight, groups_straight}
 use Rattle.sudoers_match.proofs.groups.find_host_groups.Goals as goal
 use Rattle.sudoers_match.proofs.groups.find_host_groups.Goals.{in-Spec+in_ok-allows, then-branch+in_ok-add_groups, else-branch, in_default}
 
@@ -32,7 +33,7 @@ allows-requires-clause-straight c =
     let i = c.loop-row.row-index in
     let lines = c.args.policy.now in
     users_straight lines c.is_acyclic.ensures.straight (line t rows i _ c.loop-row-test.true c.node.result c.node.ensures)
-    (has_at lines i _ (ap (λ ls. slice_get ls i) (sym c.lines-lines.ensures) ∙ line_at t rows i _ c.loop-row-test.true c.node.result c.node.ensures))
+    (Has_at lines i _ (ap (λ ls. slice_get ls i) (sym c.lines-lines.ensures) ∙ line_at t rows i _ c.loop-row-test.true c.node.result c.node.ensures))
     (members_shown c.in-Spec.users) (groups_shown c.in-Spec.groups)
     (says t rows i _ c.loop-row-test.true c.node.result c.node.ensures c.in-Spec.users c.in-Spec.groups c.in-Spec.is)
 
@@ -43,7 +44,7 @@ add_groups-requires-clause-straight c =
     let i = c.loop-row.row-index in
     let lines = c.args.policy.now in
     groups_straight lines c.is_acyclic.ensures.straight (line t rows i _ c.loop-row-test.true c.node.result c.node.ensures)
-    (has_at lines i _ (ap (λ ls. slice_get ls i) (sym c.lines-lines.ensures) ∙ line_at t rows i _ c.loop-row-test.true c.node.result c.node.ensures))
+    (Has_at lines i _ (ap (λ ls. slice_get ls i) (sym c.lines-lines.ensures) ∙ line_at t rows i _ c.loop-row-test.true c.node.result c.node.ensures))
     (members_shown c.in-Spec.users) (groups_shown c.in-Spec.groups)
     (says t rows i _ c.loop-row-test.true c.node.result c.node.ensures c.in-Spec.users c.in-Spec.groups c.in-Spec.is)
 

@@ -4,10 +4,11 @@ use Rattle.std.proofs.lemmas.Option.{slice_get_read}
 use Rattle.sudoers_rows.specs.Tables.{member_in}
 use Rattle.sudoers_rows.specs.View.{member_shown}
 use Rattle.sudoers_tree.specs.Definition.{definitions}
+use Rattle.sudoers_check.proofs.Lists.{get_pushed}
 use Rattle.sudoers_verdict.specs.declared.alias.Alias.{Alias}
 use Rattle.sudoers_verdict.specs.declared.walk.Standing.{Standing}
 use Rattle.sudoers_verdict.specs.Search.{members_at, next_step}
-use Rattle.sudoers_verdict.proofs.Places.{ended, got, get_pushed, length_map}
+use Rattle.sudoers_verdict.proofs.Places.{ended, got, length_map}
 use Rattle.sudoers_verdict.proofs.Walking.{last_within}
 use Rattle.sudoers_verdict.proofs.Steps.{step_closed, step_said, step_decided, step_entered, step_cycle}
 use Rattle.sudoers_verdict.proofs.walk.Verdicts.look.Goals as goal
