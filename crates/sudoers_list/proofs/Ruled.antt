@@ -122,6 +122,9 @@ stands_on row n (l ∷ ls) s h = by (spec_in l.node) n h (λ m. stands_on (row +
     by (Some t) zero e more = let same : t ≡ s = cc in ((row, l), ap (λ (x : Spec). Some (spec_on (row, l) x)) same)
     by (Some t) (suc k) e more = more k e
 
+counted : (k line : ℕ) → k ≡ line → line ≡ k + 0
+counted k line same = omega (arith, same)
+
 -- Of numbered lines this is the one with the user specification, whose number is `line`, counted from `first` on.
 abbrev IsLineOf : ℕ → ℕ → Spec → List (ℕ × Line) → List SpecOn → ℕ → Type 0
 IsLineOf first line s ons specs n = (m : ℕ) × (on : ℕ × Line) × (line ≡ first + m) × (slice_get ons m ≡ Some on) × (slice_get specs n ≡ Some (spec_on on s))
@@ -145,10 +148,11 @@ stands_on_line row k n line (l ∷ ls) s h = by (spec_in l.node) n h (λ j. stan
     by None j e more = later (specs_on (row + lf_count l.text) ls) j j refl (more j e)
     by (Some t) zero e more =
         let both : (k, t) ≡ (line, s) = same_Some (k, t) (line, s) e in
-        let first : k ≡ line = ap (λ (p : ℕ × Spec). p.0) both in
-        let at : line ≡ k + 0 = omega (arith, first) in
-        (0, (row, l), at, refl, ap (λ (p : ℕ × Spec). Some (spec_on (row, l) p.1)) both)
+        (0, (row, l), counted k line (ap (λ (p : ℕ × Spec). p.0) both), refl, ap (λ (p : ℕ × Spec). Some (spec_on (row, l) p.1)) both)
     by (Some t) (suc j) e more = later (spec_on (row, l) t ∷ specs_on (row + lf_count l.text) ls) j (suc j) refl (more j e)
+
+pub none_is_not_some : {X : Type 0} (x : X) → None ≡ Some x → ⊥
+none_is_not_some x e = cc
 
 -- The rule of what was found: the line of its user specification, and its command.
 pub found_rule : (lines : List Line) (found : Found) → (is : IsFound lines found)

@@ -12,8 +12,8 @@ use Rattle.sudoers_list.proofs.Ruled.{rule_named, rule_speaks}
 use Rattle.sudoers_list.proofs.reason.answer_text.Goals as goal
 use Rattle.sudoers_list.proofs.reason.answer_text.Goals.{in-Some+in_ok-append_inner, in_default}
 
-pub find_rule-requires : goal.find_rule-requires
-find_rule-requires c = subst (λ (ls : List Line). IsFound ls c.args.found.now) (sym c.policy-lines.ensures) c.requires.found
+pub find_rule-rule-requires : goal.find_rule-rule-requires
+find_rule-rule-requires c = subst (λ (ls : List Line). IsFound ls c.args.found.now) (sym c.policy-lines.ensures) c.requires.found
 
 pub innermost-requires : goal.innermost-requires
 innermost-requires c =
@@ -33,9 +33,9 @@ returns c =
     let rule : Rule = rule_held c.find_rule-rule.result held.0 in
     let first : c.in_ok-text.text.items ≡ rule_text file user d a.allow rule = c.in_ok-text.ensures held.0 held.1 in
     let inner : Option Inner = option_map inner_shown c.in_ok-inner.field-0 in
-    rule_named c.args.policy.now c.args.request.now file user d c.match-branch-2.text.items a rule inner c.requires.user
+    rule_named c.args.policy.now c.args.request.now file user d c.match-branch-3.text.items a rule inner c.requires.user
     (subst (λ (ls : List Line). deciding_rule ls a ≡ Some rule) c.policy-lines.ensures held.2) c.in_ok-inner.ensures
-    (subst (λ (ls : List Line). c.match-branch-2.text.items ≡ rule_text file user d a.allow rule ++ inner_text file ls inner) c.policy-lines.ensures (elim c.match-branch-2.branch [
+    (subst (λ (ls : List Line). c.match-branch-3.text.items ≡ rule_text file user d a.allow rule ++ inner_text file ls inner) c.policy-lines.ensures (elim c.match-branch-3.branch [
       | in-Some+in_ok-append_inner w ↦ ap (λ (v : Vec ℕ Global). v.items) w.text-is
           ∙ w.in_ok-append_inner.ensures
           ∙ ap (λ (t : List ℕ). t ++ inner_text file lines (Some (inner_shown w.in-Some.inner))) first

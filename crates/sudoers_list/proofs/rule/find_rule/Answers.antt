@@ -12,17 +12,14 @@ use Rattle.sudoers_list.specs.declared.rule.LineAt.{LineAt}
 use Rattle.sudoers_list.specs.declared.spot.Spot.{Spot}
 use Rattle.sudoers_list.specs.Inside.{numbered_shown}
 use Rattle.sudoers_list.specs.Rule.{numbered, spot_in}
-use Rattle.sudoers_list.proofs.Ruled.{found_rule}
+use Rattle.sudoers_list.proofs.Ruled.{found_rule, none_is_not_some}
 use Rattle.sudoers_list.proofs.TagsSaid.{answered_is, is_tagged, tagged}
 use Rattle.sudoers_list.proofs.rule.find_rule.Goals as goal
 
 pub unreachable-requires : goal.unreachable-requires
 unreachable-requires c =
     let on = found_rule c.args.policy.now c.args.found.now c.requires in
-    let none = c.in_default.is in
-    let at = c.find_line.ensures.line in
-    let there = on.1 in
-    cc
+    none_is_not_some on.0 (ap (option_map numbered_shown) (sym c.in_default.is) ∙ c.find_line.ensures.line ∙ on.1)
 
 pub returns : goal.returns
 returns c =
