@@ -12,6 +12,7 @@ use Rattle.sudoers_hits.specs.declared.asked.Who.{Who}
 use Rattle.sudoers_hits.specs.declared.request.Request.{Request}
 use Rattle.sudoers_verdict.specs.declared.verdict.AskFault.{AskFault}
 use Rattle.sudoers_verdict.specs.declared.verdict.AskFault.TheVariants as ask
+use Rattle.sudoers_match.specs.Answer.{argument_limit, joined}
 use Rattle.sudoers_match.specs.Default.{IsRunasDefault}
 use Rattle.sudoers_people.specs.declared.fault.PeopleFile.{PeopleFile}
 use Rattle.sudoers_people.specs.declared.fault.PeopleFile.TheVariants.{Passwd, Group}
@@ -151,6 +152,16 @@ asked_as_default w lines people who first user none nobody told straight is o as
     (subst (λ r. OfFirst w lines people r o) (sym (ap (λ g. request_told people who w.user.now g w.words.now w.moment.now) (sym nobody) ∙ told))
     (inr (record { straight = straight; user = user; is_default = is; asked = asked }))))
 
+-- It is an answer to the request, or memory ran out.
+abbrev pub Answered : ListWords → List Line → Request → Result Listed LayerFault → Type 0
+Answered w lines r result =
+    MatchResult result (λ listed. IsAnswered w lines r (Ok (listed.text.items, listed.status))) (λ fault. (fault ≡ layer.NoMemory) ⊎ IsAnswered w lines r (Err fault))
+
+pub answer_refused : (w : ListWords) (lines : List Line) (r : Request) → (HasReachableCycle lines → ⊥) → (fault : AskFault)
+    → (fault ≡ ask.NoMemory) ⊎ ((fault ≡ ask.TooLong) × (argument_limit < length (joined r.args))) → Answered w lines r (Err (layer_of_ask fault))
+answer_refused w lines r straight fault (inl e) = inl (ap layer_of_ask e)
+answer_refused w lines r straight fault (inr is) = inr (inr (ap layer_of_ask is.0, straight, is.1))
+
 -- A request is that of the user who asks.
 abbrev KeepsWho : Who → Result Request WhoFault → Type 0
 KeepsWho who (Ok r) = r.who ≡ who
@@ -188,11 +199,11 @@ module _ (w : ListWords) (lines : List Line) (people : People) (who : Who) where
       subst (λ told. OfFirst w lines people told (Err fault)) (himself None same) (of_first w lines people (first_told w people who None) fault is)
 
   first_cyclic : (target : Option (Bor (List ℕ))) (group : Option (List ℕ)) → text_shown w.group ≡ group → (first : Request) → first_told w people who target ≡ Ok first → HasReachableCycle lines
-      → IsAsked w lines people who (text_shown target) group (Err (layer.Ask Cycle))
-  first_cyclic (Some t) group same first told cycle = subst (λ r. OfRequest w lines r (Err (layer.Ask Cycle))) (sym told) (inl (refl, cycle))
-  first_cyclic None (Some g) same first told cycle = subst (λ r. OfRequest w lines r (Err (layer.Ask Cycle))) (sym told) (inl (refl, cycle))
+      → IsAsked w lines people who (text_shown target) group (Err (layer.Ask ask.Cycle))
+  first_cyclic (Some t) group same first told cycle = subst (λ r. OfRequest w lines r (Err (layer.Ask ask.Cycle))) (sym told) (inl (refl, cycle))
+  first_cyclic None (Some g) same first told cycle = subst (λ r. OfRequest w lines r (Err (layer.Ask ask.Cycle))) (sym told) (inl (refl, cycle))
   first_cyclic None None same first told cycle =
-      subst (λ r. OfFirst w lines people r (Err (layer.Ask Cycle))) (sym told ∙ himself None same) (inl (cycle, refl))
+      subst (λ r. OfFirst w lines people r (Err (layer.Ask ask.Cycle))) (sym told ∙ himself None same) (inl (cycle, refl))
 
   first_asked : (target : Option (Bor (List ℕ))) (group : Option (List ℕ)) → text_shown w.group ≡ group → (is_some target ≡ true) ⊎ (is_some group ≡ true)
       → (first : Request) → first_told w people who target ≡ Ok first → (o : Outcome) → IsAnswered w lines first o
@@ -206,27 +217,28 @@ module _ (w : ListWords) (lines : List Line) (people : People) (who : Who) where
   abbrev pub Asked : Outcome → Type 0
   Asked = IsAsked w lines people who (text_shown w.target) (text_shown w.group)
 
-  pub refused : (fault : LayerFault) → (fault ≡ layer.NoMemory) ⊎ TellsWho (first_told w people who w.target) fault → (fault ≡ layer.NoMemory) ⊎ Asked (Err fault)
+  -- It is what is asked, or memory ran out.
+  abbrev pub Told : Result Listed LayerFault → Type 0
+  Told result = MatchResult result (λ listed. Asked (Ok (listed.text.items, listed.status))) (λ fault. (fault ≡ layer.NoMemory) ⊎ Asked (Err fault))
+
+  pub refused : (fault : LayerFault) → (fault ≡ layer.NoMemory) ⊎ TellsWho (first_told w people who w.target) fault → Told (Err fault)
   refused fault (inl e) = inl e
   refused fault (inr is) = inr (first_refused w.target (text_shown w.group) refl fault is)
 
   pub cyclic : (first : Request) → first_told w people who w.target ≡ Ok first → (fault : AskFault) → (fault ≡ ask.NoMemory) ⊎ ((fault ≡ ask.Cycle) × HasReachableCycle lines)
-      → (layer_of_ask fault ≡ layer.NoMemory) ⊎ Asked (Err (layer_of_ask fault))
+      → Told (Err (layer_of_ask fault))
   cyclic first told fault (inl e) = inl (ap layer_of_ask e)
   cyclic first told fault (inr is) =
       inr (subst (λ f. Asked (Err (layer_of_ask f))) (sym is.0) (first_cyclic w.target (text_shown w.group) refl first told is.1))
 
   -- The answer is asked for, whatever it comes to.
-  answer_asked : (r : Request) → ((o : Outcome) → IsAnswered w lines r o → Asked o) → (result : Result Listed LayerFault)
-      → MatchResult result (λ listed. IsAnswered w lines r (Ok (listed.text.items, listed.status))) (λ fault. (fault ≡ layer.NoMemory) ⊎ IsAnswered w lines r (Err fault))
-      → MatchResult result (λ listed. Asked (Ok (listed.text.items, listed.status))) (λ fault. (fault ≡ layer.NoMemory) ⊎ Asked (Err fault))
+  answer_asked : (r : Request) → ((o : Outcome) → IsAnswered w lines r o → Asked o) → (result : Result Listed LayerFault) → Answered w lines r result → Told result
   answer_asked r asked (Ok listed) is = asked (Ok (listed.text.items, listed.status)) is
   answer_asked r asked (Err fault) (inl e) = inl e
   answer_asked r asked (Err fault) (inr is) = inr (asked (Err fault) is)
 
   pub named_answered : (is_some w.target ≡ true) ⊎ (is_some (text_shown w.group) ≡ true) → (first : Request) → first_told w people who w.target ≡ Ok first → (result : Result Listed LayerFault)
-      → MatchResult result (λ listed. IsAnswered w lines first (Ok (listed.text.items, listed.status))) (λ fault. (fault ≡ layer.NoMemory) ⊎ IsAnswered w lines first (Err fault))
-      → MatchResult result (λ listed. Asked (Ok (listed.text.items, listed.status))) (λ fault. (fault ≡ layer.NoMemory) ⊎ Asked (Err fault))
+      → Answered w lines first result → Told result
   named_answered one first told result is = answer_asked first (first_asked w.target (text_shown w.group) refl one first told) result is
 
   -- Without a user and a group the command is to run as runas_default.
@@ -239,13 +251,11 @@ module _ (w : ListWords) (lines : List Line) (people : People) (who : Who) where
     as_default = asked_as_default w lines people who first user (ap text_shown none) (ap text_shown nobody)
         (ap (λ t. request_told people who (unwrap_or t w.user).now (text_shown w.group) w.words.now w.moment.now) (sym none) ∙ told) straight is
 
-    pub default_refused : (fault : LayerFault) → (fault ≡ layer.NoMemory) ⊎ TellsWho second_told fault → (fault ≡ layer.NoMemory) ⊎ Asked (Err fault)
+    pub default_refused : (fault : LayerFault) → (fault ≡ layer.NoMemory) ⊎ TellsWho second_told fault → Told (Err fault)
     default_refused fault (inl e) = inl e
     default_refused fault (inr t) = inr (as_default (Err fault) (of_request w lines second_told fault t))
 
-    pub default_answered : (r : Request) → second_told ≡ Ok r → (result : Result Listed LayerFault)
-        → MatchResult result (λ listed. IsAnswered w lines r (Ok (listed.text.items, listed.status))) (λ fault. (fault ≡ layer.NoMemory) ⊎ IsAnswered w lines r (Err fault))
-        → MatchResult result (λ listed. Asked (Ok (listed.text.items, listed.status))) (λ fault. (fault ≡ layer.NoMemory) ⊎ Asked (Err fault))
+    pub default_answered : (r : Request) → second_told ≡ Ok r → (result : Result Listed LayerFault) → Answered w lines r result → Told result
     default_answered r e result answered = answer_asked r (λ o a. as_default o (subst (λ x. OfRequest w lines x o) (sym e) a)) result answered
 
 -- What comes of words, where there are some.
@@ -264,7 +274,7 @@ outcome_of_words w policy passwd group lines people who read told is some o aske
 
 pub outcome_of : (w : ListWords) (policy passwd group : List ℕ) (lines : List Line) (people : People) (who : Who) (result : Result Listed LayerFault) → read_of policy ≡ Ok lines
     → people_told passwd group ≡ Ok people → who_told people w.user.now w.host.now w.interfaces.now ≡ Ok who → (w.words.now ≡ [] → ⊥)
-    → MatchResult result (λ listed. Asked w lines people who (Ok (listed.text.items, listed.status))) (λ fault. (fault ≡ layer.NoMemory) ⊎ Asked w lines people who (Err fault))
+    → Told w lines people who result
     → MatchResult result (λ listed. IsListOutcome w policy passwd group (Ok (listed.text.items, listed.status))) (λ fault. (fault ≡ layer.NoMemory) ⊎ IsListOutcome w policy passwd group (Err fault))
 outcome_of w policy passwd group lines people who (Ok listed) read told is some asked =
     outcome_of_words w policy passwd group lines people who read told is some (Ok (listed.text.items, listed.status)) asked
@@ -282,6 +292,10 @@ pub tells : (w : ListWords) (policy passwd group : List ℕ) (fault : LayerFault
     → (p' u' g' : List ℕ) → Stands policy p' → Stands passwd u' → Stands group g' → TellsList w (tool.Layer fault) p' u' g'
 tells w policy passwd group fault (inl e) p' u' g' sp su sg = inl e
 tells w policy passwd group fault (inr o) p' u' g' sp su sg = inr (moved w policy passwd group p' u' g' (Err fault) sp su sg o)
+
+pub shown_some : (o : Option (Bor (List ℕ))) → is_some o ≡ true → is_some (text_shown o) ≡ true
+shown_some None e = e
+shown_some (Some t) e = refl
 
 -- what stands behind an option that is not there
 pub none_of : {X : Type 0} (o : Option X) → ((x : X) → o ≡ Some x → ⊥) → o ≡ None

@@ -199,6 +199,7 @@ fn answer_text(
     ensures statuses { IfOk result (λ listed. listed.status ≤ 1) }
     ensures named { IfErr result IsAskFault }
 {
+    policy.is_acyclic();
     let found = find_answer(alloc, policy, request, default)?;
     let status = allowed_status(found);
     if words.why {
