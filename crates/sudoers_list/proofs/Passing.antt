@@ -1,5 +1,5 @@
 -- Commands of a list, one line after another, and lines by their numbers.
-use Rattle.std.proofs.Common.{◌≡◌, ℕ, suc, Option, Some, None, slice_get, ◌+◌, ◌<◌, ◌≤◌, arith, length, drop, get_or, OnOk, Result, Ok, Err, is_ok, if◌then◌else◌, false, List, [], ◌∷◌, ◌++◌, map, flat_map, codes, refl, sym, ap, ◌∙◌, append-nil, append_assoc}
+use Rattle.std.proofs.Common.{◌≡◌, ℕ, suc, Option, Some, slice_get, ◌+◌, ◌<◌, ◌≤◌, arith, length, drop, get_or, OnOk, Result, Ok, Err, is_ok, if◌then◌else◌, false, List, [], ◌∷◌, ◌++◌, map, flat_map, codes, refl, sym, ap, ◌∙◌, append-nil, append_assoc}
 use Rattle.std.proofs.lemmas.List.{drop_more, length-append}
 use Rattle.sudoers_text.specs.Fault.{lf_count}
 use Rattle.sudoers_text.specs.Line.{join}

@@ -1,4 +1,4 @@
-use Rattle.std.proofs.Common.{List, Option, subst, sym}
+use Rattle.std.proofs.Common.{List, Option, subst}
 use Rattle.std.specs.Option.{option_map}
 use Rattle.sudoers_tree.specs.Line.{Line}
 use Rattle.sudoers_match.specs.Answer.{Answer, IsAnswer, answer_shown}

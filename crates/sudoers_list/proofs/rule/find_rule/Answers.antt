@@ -1,4 +1,4 @@
-use Rattle.std.proofs.Common.{◌≡◌, ℕ, Option, Some, slice_get, sym, ap, ap₂, ◌∙◌}
+use Rattle.std.proofs.Common.{◌≡◌, ℕ, Some, sym, ap, ap₂, ◌∙◌}
 use Rattle.std.proofs.lemmas.Option.{same_Some}
 use Rattle.std.specs.Option.{option_map}
 use Rattle.sudoers_line.specs.declared.node.CmdSpec.{CmdSpec}
@@ -8,10 +8,9 @@ use Rattle.sudoers_tree.specs.Line.{Line}
 use Rattle.sudoers_match.specs.Answer.{Answer}
 use Rattle.sudoers_match.specs.Found.{found_answer}
 use Rattle.sudoers_match.specs.Heads.{Head}
-use Rattle.sudoers_list.specs.declared.rule.LineAt.{LineAt}
 use Rattle.sudoers_list.specs.declared.spot.Spot.{Spot}
 use Rattle.sudoers_list.specs.Inside.{numbered_shown}
-use Rattle.sudoers_list.specs.Rule.{numbered, spot_in}
+use Rattle.sudoers_list.specs.Rule.{spot_in}
 use Rattle.sudoers_list.proofs.Ruled.{found_rule, none_is_not_some}
 use Rattle.sudoers_list.proofs.TagsSaid.{answered_is, is_tagged, tagged}
 use Rattle.sudoers_list.proofs.rule.find_rule.Goals as goal
