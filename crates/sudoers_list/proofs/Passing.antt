@@ -1,29 +1,22 @@
--- Commands of a list, one line after another, and user specifications by their numbers.
-use Rattle.std.proofs.Common.{◌≡◌, ℕ, suc, Option, Some, None, slice_get, ◌+◌, ◌<◌, ◌≤◌, arith, length, drop, get_or, OnOk, Result, Ok, Err, is_ok, if◌then◌else◌, false, List, [], ◌∷◌, ◌++◌, map, flat_map, codes, refl, sym, ap, ◌∙◌, append-nil, append_assoc}
+-- Commands of a list, one line after another, and lines by their numbers.
+use Rattle.std.proofs.Common.{◌≡◌, ℕ, suc, Option, Some, slice_get, ◌+◌, ◌<◌, ◌≤◌, arith, length, drop, get_or, OnOk, Result, Ok, Err, is_ok, if◌then◌else◌, false, List, [], ◌∷◌, ◌++◌, map, flat_map, codes, refl, sym, ap, ◌∙◌, append-nil, append_assoc}
 use Rattle.std.proofs.lemmas.List.{drop_more, length-append}
 use Rattle.sudoers_text.specs.Fault.{lf_count}
 use Rattle.sudoers_text.specs.Line.{join}
 use Rattle.sudoers_line.specs.declared.node.Kind.TheVariants.{Runas}
 use Rattle.sudoers_line.specs.declared.node.CmdSpec.{CmdSpec}
 use Rattle.sudoers_line.specs.declared.node.Member.{Member}
-use Rattle.sudoers_rows.specs.declared.list.Rows.{Rows}
-use Rattle.sudoers_rows.specs.declared.rows.GroupRow.{GroupRow}
-use Rattle.sudoers_rows.specs.declared.rows.MemberRow.{MemberRow}
-use Rattle.sudoers_rows.specs.declared.view.Node.{Node as NodeView}
-use Rattle.sudoers_rows.specs.declared.view.Node.TheVariants as view
-use Rattle.sudoers_rows.specs.View.{node_shown}
 use Rattle.sudoers_tree.specs.Line.{Line}
 use Rattle.sudoers_tree.specs.Policy.{texts}
 use Rattle.sudoers_match.specs.declared.head.Head.{Head as HeadHeld}
 use Rattle.sudoers_match.specs.Heads.{Head, no_head, inherit, filled}
 use Rattle.sudoers_match.specs.IsHead.{IsHead}
-use Rattle.sudoers_match.specs.Specs.{Spec, spec_in}
 use Rattle.sudoers_print.specs.Members.{printed_list}
 use Rattle.sudoers_print.specs.Commands.{printed_inside}
 use Rattle.sudoers_cvt.specs.Effective.{effective_command, effective_commands}
 use Rattle.sudoers_list.specs.Listing.{users_or}
-use Rattle.sudoers_list.specs.Rule.{SpecOn, numbered, specs_on}
-use Rattle.sudoers_list.specs.Inside.{IsAt, printed_behind}
+use Rattle.sudoers_list.specs.Rule.{numbered}
+use Rattle.sudoers_list.specs.Inside.{printed_behind}
 
 -- what stands in the parentheses, where there are users
 pub inside : (user : List ℕ) (us gs : List Member) → printed_list false Runas (users_or user us) ++ printed_behind gs ≡ printed_inside (users_or user us) gs
@@ -79,56 +72,6 @@ pub when_ok : {T E X : Type 0} (r : Result T E) (new one other : X) → new ≡ 
 when_ok (Ok v) new one other e = e
 when_ok (Err f) new one other e = tt
 
--- ---- one command of a list
-
-pub at_first : (held : HeadHeld) (cs : List CmdSpec) (n : ℕ) → IsHead held no_head → IsAt held n cs (slice_get (filled no_head cs) n)
-at_first held cs n is = record { head = no_head; is_head = is; says = refl }
-
--- it is a later one
-pub at_next : (held held' : HeadHeld) (left n : ℕ) (c : CmdSpec) (cs all : List CmdSpec) (wanted : Option (Head × Member)) → all ≡ c ∷ cs → left ≡ suc n
-    → (s : IsAt held left all wanted) → IsHead held' (inherit s.head c) → IsAt held' n cs wanted
-at_next held held' left n c cs all wanted split one s is = record {
-  head = inherit s.head c;
-  is_head = is;
-  says =
-      ap (slice_get (filled s.head (c ∷ cs))) (sym one)
-      ∙ ap (λ xs. slice_get (filled s.head xs) left) (sym split)
-      ∙ s.says;
-}
-
--- it is this one
-pub at_this : (held : HeadHeld) (left : ℕ) (c : CmdSpec) (cs all : List CmdSpec) (wanted : Option (Head × Member)) → all ≡ c ∷ cs → left ≡ 0
-    → (s : IsAt held left all wanted) → wanted ≡ Some (inherit s.head c, c.member)
-at_this held left c cs all wanted split none s =
-    sym s.says
-    ∙ ap (λ xs. slice_get (filled s.head xs) left) split
-    ∙ ap (slice_get (filled s.head (c ∷ cs))) none
-
--- it is past the last
-pub at_none : (held : HeadHeld) (left : ℕ) (wanted : Option (Head × Member)) → IsAt held left [] wanted → wanted ≡ None
-at_none held left wanted s = sym s.says
-
--- ---- user specifications by their numbers
-
--- a line that is none
-pub other_passed : (row n : ℕ) (l : Line) (ls : List Line) → spec_in l.node ≡ None
-    → slice_get (specs_on row (l ∷ ls)) n ≡ slice_get (specs_on (row + lf_count l.text) ls) n
-other_passed row n l ls h = rw h refl
-
--- one before the one that is looked for
-pub spec_passed : (row left n : ℕ) (l : Line) (ls : List Line) (s : Spec) → spec_in l.node ≡ Some s → left ≡ suc n
-    → slice_get (specs_on row (l ∷ ls)) left ≡ slice_get (specs_on (row + lf_count l.text) ls) n
-spec_passed row left n l ls s h one = rw (h, one) refl
-
--- a line that is no user specification
-pub none_in : (n : NodeView) → ((users : Rows MemberRow) (groups : Rows GroupRow) → n ≡ view.Spec users groups → ⊥) → spec_in (node_shown n) ≡ None
-none_in (view.Spec users groups) other = absurd (other users groups refl)
-none_in view.Blank other = refl
-none_in view.Comment other = refl
-none_in (view.Include dir path) other = refl
-none_in (view.Defaults scope params) other = refl
-none_in (view.Alias k defs) other = refl
-
 -- ---- how far the rows go
 
 -- The physical lines of this line, and of those behind it, are within the limit.
@@ -142,16 +85,6 @@ pub rest_fits : (row count : ℕ) (l : Line) (ls all : List Line) → all ≡ l 
 rest_fits row count l ls all split within most =
     let size : length (join (texts all)) ≡ length l.text + length (join (texts ls)) = ap (λ xs. length (join (texts xs))) split ∙ length-append l.text (join (texts ls)) in
     omega (arith, most, size, within)
-
--- one line more, whatever it is
-pub line_passed : (row count left n : ℕ) (l : Line) (ls all : List Line) (wanted : Option SpecOn) → all ≡ l ∷ ls
-    → count ≡ lf_count l.text → count ≤ length l.text
-    → slice_get (specs_on row (l ∷ ls)) left ≡ slice_get (specs_on (row + lf_count l.text) ls) n
-    → (slice_get (specs_on row all) left ≡ wanted) × (row + length (join (texts all)) ≤ 1048577)
-    → (slice_get (specs_on (row + count) ls) n ≡ wanted) × (row + count + length (join (texts ls)) ≤ 1048577)
-line_passed row count left n l ls all wanted split counted within same inv =
-    let now : slice_get (specs_on row (l ∷ ls)) left ≡ wanted = ap (λ xs. slice_get (specs_on row xs) left) (sym split) ∙ inv.0 in
-    (ap (λ k. slice_get (specs_on (row + k) ls) n) counted ∙ sym same ∙ now, rest_fits row count l ls all split within inv.1)
 
 -- ---- lines by their numbers
 

@@ -6,6 +6,7 @@ use Rattle.std.specs.Option.{option_map}
 use Rattle.sudoers_text.specs.Fault.{lf_count}
 use Rattle.sudoers_line.specs.declared.node.HostGroup.{HostGroup}
 use Rattle.sudoers_line.specs.declared.node.Member.{Member}
+use Rattle.sudoers_rows.specs.View.{member_shown}
 use Rattle.sudoers_tree.specs.Line.{Line}
 use Rattle.sudoers_check.specs.Chain.{Has}
 use Rattle.sudoers_hits.specs.declared.asked.Who.{Who}
@@ -15,6 +16,8 @@ use Rattle.sudoers_line.specs.declared.node.Kind.TheVariants.{User, Host}
 use Rattle.sudoers_hits.specs.Hits.{user_hits, host_hits, command_hits}
 use Rattle.sudoers_match.specs.Allows.{Allows}
 use Rattle.sudoers_match.specs.Answer.{Answer, Fits, IsAnswer, command_line, is_hit, told}
+use Rattle.sudoers_match.specs.declared.rules.Found.{Found}
+use Rattle.sudoers_match.specs.Found.{IsFound, found_answer, numbered_specs}
 use Rattle.sudoers_match.specs.Groups.{AreHostGroups, GroupPlaces, SpecPlaces, place_of}
 use Rattle.sudoers_match.specs.Heads.{Head, filled, no_head}
 use Rattle.sudoers_match.specs.Last.{IsLast}
@@ -24,7 +27,7 @@ use Rattle.sudoers_list.specs.Listing.{group_at, groups_in}
 use Rattle.sudoers_list.specs.Inner.{Inner, IsInner, Speaks}
 use Rattle.sudoers_list.specs.Reason.{IsInnerOf, NamesRule, inner_text, rule_text, rule_with}
 use Rattle.sudoers_list.proofs.Speaking.{says_by}
-use Rattle.sudoers_list.specs.Rule.{Rule, SpecOn, command_at, deciding_rule, rule_in, rule_of, spec_on, specs_on}
+use Rattle.sudoers_list.specs.Rule.{Rule, SpecOn, command_at, deciding_rule, numbered, rule_in, rule_of, spec_on, specs_on}
 
 has_either : {Y : Type 0} (xs ys : List Y) (y : Y) → Has (xs ++ ys) y → Has xs y ⊎ Has ys y
 has_either [] ys y h = inr h
@@ -118,6 +121,55 @@ stands_on row n (l ∷ ls) s h = by (spec_in l.node) n h (λ m. stands_on (row +
     by None k e more = more k e
     by (Some t) zero e more = let same : t ≡ s = cc in ((row, l), ap (λ (x : Spec). Some (spec_on (row, l) x)) same)
     by (Some t) (suc k) e more = more k e
+
+counted : (k line : ℕ) → k ≡ line → line ≡ k + 0
+counted k line same = omega (arith, same)
+
+-- Of numbered lines this is the one with the user specification, whose number is `line`, counted from `first` on.
+abbrev IsLineOf : ℕ → ℕ → Spec → List (ℕ × Line) → List SpecOn → ℕ → Type 0
+IsLineOf first line s ons specs n = (m : ℕ) × (on : ℕ × Line) × (line ≡ first + m) × (slice_get ons m ≡ Some on) × (slice_get specs n ≡ Some (spec_on on s))
+
+-- A user specification stands on the line with its number.
+stands_on_line : (row k n line : ℕ) (lines : List Line) (s : Spec) → slice_get (numbered_specs k lines) n ≡ Some (line, s)
+    → IsLineOf k line s (numbered row lines) (specs_on row lines) n
+stands_on_line row k n line [] s h = absurd cc
+stands_on_line row k n line (l ∷ ls) s h = by (spec_in l.node) n h (λ j. stands_on_line (row + lf_count l.text) (k + 1) j line ls s)
+  where
+    later : (specs : List SpecOn) (i j : ℕ) → (slice_get specs j ≡ slice_get (specs_on (row + lf_count l.text) ls) i)
+        → IsLineOf (k + 1) line s (numbered (row + lf_count l.text) ls) (specs_on (row + lf_count l.text) ls) i → IsLineOf k line s (numbered row (l ∷ ls)) specs j
+    later specs i j same r =
+        let first = r.2 in
+        let at : line ≡ k + suc r.0 = omega (arith, first) in
+        (suc r.0, r.1, at, r.3, same ∙ r.4)
+
+    by : (o : Option Spec) (j : ℕ) → slice_get (cons_option (option_map (λ (t : Spec). (k, t)) o) (numbered_specs (k + 1) ls)) j ≡ Some (line, s)
+        → ((i : ℕ) → slice_get (numbered_specs (k + 1) ls) i ≡ Some (line, s) → IsLineOf (k + 1) line s (numbered (row + lf_count l.text) ls) (specs_on (row + lf_count l.text) ls) i)
+        → IsLineOf k line s (numbered row (l ∷ ls)) (cons_option (option_map (spec_on (row, l)) o) (specs_on (row + lf_count l.text) ls)) j
+    by None j e more = later (specs_on (row + lf_count l.text) ls) j j refl (more j e)
+    by (Some t) zero e more =
+        let both : (k, t) ≡ (line, s) = same_Some (k, t) (line, s) e in
+        (0, (row, l), counted k line (ap (λ (p : ℕ × Spec). p.0) both), refl, ap (λ (p : ℕ × Spec). Some (spec_on (row, l) p.1)) both)
+    by (Some t) (suc j) e more = later (spec_on (row, l) t ∷ specs_on (row + lf_count l.text) ls) j (suc j) refl (more j e)
+
+pub none_is_not_some : {X : Type 0} (x : X) → None ≡ Some x → ⊥
+none_is_not_some x e = cc
+
+-- The rule of what was found: the line of its user specification, and its command.
+pub found_rule : (lines : List Line) (found : Found) → (is : IsFound lines found)
+    → (on : ℕ × Line) × (slice_get (numbered 1 lines) found.line ≡ Some on)
+    × (deciding_rule lines (found_answer found) ≡ Some (rule_of (found_answer found) (spec_on on is.spec) (is.in_groups.in_group.head, member_shown found.member)))
+found_rule lines found is =
+    let a : Answer = found_answer found in
+    let w = stands_on_line 1 0 found.answer.spec found.line lines is.spec is.stands in
+    let at : SpecOn = spec_on w.1 is.spec in
+    let first = w.2 in
+    let number : found.line ≡ w.0 = omega (arith, first) in (
+      w.1,
+      ap (slice_get (numbered 1 lines)) number ∙ w.3,
+      ap (option_and_then (rule_in a)) w.4
+          ∙ ap (λ group. option_map (rule_of a at) (command_at a.command group)) is.in_groups.stands
+          ∙ ap (option_map (rule_of a at)) is.in_groups.in_group.stands,
+    )
 
 rule_at : (lines : List Line) (a : Answer) (s : Spec) (g : HostGroup) (c : Head × Member) → slice_get (specs_of lines) a.spec ≡ Some s
     → slice_get s.groups a.host_group ≡ Some g → slice_get (filled no_head g.commands) a.command ≡ Some c

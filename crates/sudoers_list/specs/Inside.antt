@@ -1,31 +1,23 @@
 -- Devices of the proof, which no public contract cites.
 use Rattle.std.specs.Prelude.{◌≡◌, ℕ, false, List, [], ◌∷◌, ◌++◌, codes, slice_get, Option, Some, None}
-use Rattle.sudoers_line.specs.declared.node.CmdSpec.{CmdSpec}
 use Rattle.sudoers_line.specs.declared.node.Kind.TheVariants.{Runas}
 use Rattle.sudoers_line.specs.declared.node.Member.{Member}
-use Rattle.sudoers_rows.specs.View.{groups_shown, member_shown}
+use Rattle.sudoers_rows.specs.View.{member_shown}
 use Rattle.sudoers_tree.specs.Line.{Line, line_shown}
-use Rattle.sudoers_match.specs.declared.head.Head.{Head as HeadHeld}
-use Rattle.sudoers_match.specs.Heads.{Head, filled}
+use Rattle.sudoers_match.specs.Heads.{Head}
 use Rattle.sudoers_match.specs.IsHead.{IsHead}
 use Rattle.sudoers_print.specs.Members.{printed_list}
 use Rattle.sudoers_cvt.specs.Effective.{effective_command}
 use Rattle.sudoers_list.specs.declared.inner.Inner.{Inner as InnerHeld}
-use Rattle.sudoers_list.specs.declared.rule.Command.{Command}
 use Rattle.sudoers_list.specs.declared.rule.LineAt.{LineAt}
 use Rattle.sudoers_list.specs.declared.rule.Rule.{Rule as RuleHeld}
-use Rattle.sudoers_list.specs.declared.rule.SpecAt.{SpecAt}
 use Rattle.sudoers_list.specs.Inner.{Inner}
-use Rattle.sudoers_list.specs.Rule.{Rule, SpecOn}
+use Rattle.sudoers_list.specs.Rule.{Rule}
 
 -- what stands in parentheses, in two parts
 abbrev pub printed_behind : List Member → List ℕ
 printed_behind [] = []
 printed_behind (g ∷ gs) = codes " : " ++ printed_list false Runas (g ∷ gs)
-
--- what is held of a user specification
-abbrev pub spec_shown : SpecAt → SpecOn
-spec_shown spec = record { row = spec.row; text = spec.text.now; groups = groups_shown spec.groups }
 
 -- what is held of a line
 abbrev pub numbered_shown : LineAt → ℕ × Line
@@ -35,21 +27,9 @@ numbered_shown l = (l.row, line_shown l.line)
 abbrev pub inner_shown : InnerHeld → Inner
 inner_shown inner = record { name = inner.name.now; member = member_shown inner.member }
 
--- the commands of a list, from some on, of which this is held
-pub record IsAt (held : HeadHeld) (number : ℕ) (rest : List CmdSpec) (wanted : Option (Head × Member)) : Type 0 where
-  pub head : Head
-  pub is_head : IsHead held head
-  pub says : slice_get (filled head rest) number ≡ wanted
-
--- It is held of the command, if there is one.
-abbrev pub IsCommand : Option Command → Option (Head × Member) → Type 0
-IsCommand None wanted = wanted ≡ None
-IsCommand (Some c) wanted = (h : Head) × IsHead c.head h × (wanted ≡ Some (h, member_shown c.member))
-
 abbrev pub rule_held : RuleHeld → Head → Rule
 rule_held r h = record { spot = r.spot; command = effective_command (h, member_shown r.command.member) }
 
--- It is held of the rule, if there is one.
-abbrev pub IsRule : Option RuleHeld → Option Rule → Type 0
-IsRule None wanted = wanted ≡ None
-IsRule (Some r) wanted = (h : Head) × IsHead r.command.head h × (wanted ≡ Some (rule_held r h))
+-- It is held of the rule that is wanted.
+abbrev pub IsRule : RuleHeld → Option Rule → Type 0
+IsRule r wanted = (h : Head) × IsHead r.command.head h × (wanted ≡ Some (rule_held r h))

@@ -18,8 +18,8 @@ ghost use Rattle.sudoers_list.specs.Inside.{inner_shown};
 
 use std::alloc::{AllocError, Global};
 use sudoers_hits::{CommandLine, Request};
-use sudoers_line::{Items, Kind};
-use sudoers_match::join_words;
+use sudoers_line::Kind;
+use sudoers_match::join_command;
 use sudoers_rows::{Atom, Member, MemberRow, Rows, Tables};
 use sudoers_verdict::{
     Acyclic, Commands, Decision, Verdicts, flat_then_no_cycle, flattened_is_flat, one_flat,
@@ -151,9 +151,6 @@ pub fn innermost<'a>(
         return Ok(None);
     };
     let mut verdicts = policy.verdicts(alloc)?;
-    let command = CommandLine {
-        path: Items::from_slice(alloc, request.command.as_slice())?,
-        args: Items::from_vec(join_words(alloc, request.args.as_slice())?),
-    };
+    let command = join_command(alloc, request)?;
     Ok(Some(go_in(&mut verdicts, policy, &outer, &command)?))
 }

@@ -1,11 +1,12 @@
 //! Why a request is answered as it is.
 
-ghost use Rattle.std.specs.Prelude.{◌≡◌, ◌⊎◌, ◌++◌, Some, IfOk, IfErr, OnOk};
+ghost use Rattle.std.specs.Prelude.{◌≡◌, ◌⊎◌, ◌++◌, Some, IfOk, IfErr, IfSome, OnOk};
 ghost use Rattle.std.specs.Option.{option_map};
 ghost use Rattle.sudoers_check.specs.Chains.{HasReachableCycle};
 ghost use Rattle.sudoers_verdict.specs.declared.verdict.AskFault.TheVariants.{Cycle, NoMemory};
 ghost use Rattle.sudoers_match.specs.Answer.{IsAnswer, answer_shown};
 ghost use Rattle.sudoers_match.specs.Default.{IsRunasDefault};
+ghost use Rattle.sudoers_match.specs.Found.{IsFound, found_answer};
 ghost use Rattle.sudoers_match.specs.Heads.{Head as HeadOf};
 ghost use Rattle.sudoers_match.specs.IsHead.{IsHead};
 ghost use Rattle.sudoers_list.specs.Inside.{inner_shown, rule_held};
@@ -18,7 +19,7 @@ use crate::spot::{Spot, spot_in};
 use std::alloc::{AllocError, Global};
 use sudoers_hits::Request;
 use sudoers_line::Kind;
-use sudoers_match::{Answer, find_default};
+use sudoers_match::{Answer, Found, find_default, find_row, one_answer};
 use sudoers_print::{append_member, append_number};
 use sudoers_tree::Policy;
 use sudoers_verdict::{Acyclic, AskFault};
@@ -102,23 +103,22 @@ fn append_inner(
 }
 
 /// Returns the rule that gives an answer as a text, and the member that decides if an alias hides it.
-fn answer_text(
+fn answer_text<'a>(
     alloc: Global,
-    policy: &Acyclic<'_>,
+    policy: &Acyclic<'a>,
     request: &Request,
     names: &Names<'_>,
-    answer: &Answer<'_>,
+    found: &Found<'a>,
     file: &[u8],
 ) -> Result<Vec<u8>, AllocError>
-    requires answer { IsAnswer policy.now request.now (Some (answer_shown answer.now)) }
+    requires answer { IsAnswer policy.now request.now (Some (found_answer found.now)) }
+    requires found { IsFound policy.now found.now }
     requires user { names.now.user.now ≡ request.now.who.user.name }
-    ensures { IfOk result (λ text. NamesRule policy.now request.now file.now names.now.default.now (answer_shown answer.now) text.items) }
+    ensures { IfOk result (λ text. NamesRule policy.now request.now file.now names.now.default.now (found_answer found.now) text.items) }
 {
     let lines = policy.policy();
-    let Some(rule) = find_rule(lines, answer) else {
-        return no_rule(alloc);
-    };
-    let mut text = rule_text(alloc, names, &rule, answer.allow, file)?;
+    let rule = find_rule(lines, found);
+    let mut text = rule_text(alloc, names, &rule, found.answer.allow, file)?;
     if let Some(inner) = innermost(alloc, policy, request, &rule.command.member)? {
         append_inner(alloc, &mut text, lines, &inner, file)?;
     }
@@ -144,9 +144,11 @@ pub fn explain(
     ensures straight { IfOk result (λ _. HasReachableCycle policy.now → ⊥) }
     ensures fault { IfErr result (λ fault. (fault ≡ NoMemory) ⊎ ((fault ≡ Cycle) × HasReachableCycle policy.now)) }
 {
+    one_answer();
     let policy = Acyclic::new(alloc, policy)?;
     let default = find_default(alloc, &policy, &request.who)?;
-    Ok(explain_answer(alloc, &policy, request, default, answer, file)?)
+    let found = find_row(alloc, &policy, request, default)?;
+    Ok(explain_answer(alloc, &policy, request, default, found, file)?)
 }
 
 /// Returns why `request` has this answer, as [`explain`] does, of a policy none of whose reachable aliases is cyclic. `default` is the
@@ -155,24 +157,25 @@ pub fn explain(
 /// # Errors
 ///
 /// Memory ran out.
-pub fn explain_answer(
+pub fn explain_answer<'a>(
     alloc: Global,
-    policy: &Acyclic<'_>,
+    policy: &Acyclic<'a>,
     request: &Request,
     default: &[u8],
-    answer: Option<Answer<'_>>,
+    found: Option<Found<'a>>,
     file: &[u8],
 ) -> Result<Vec<u8>, AllocError>
     requires default { IsRunasDefault policy.now request.now.who default.now }
-    requires answer { IsAnswer policy.now request.now (option_map answer_shown answer) }
-    ensures { IfOk result (λ text. IsReason policy.now request.now file.now (option_map answer_shown answer.entry) text.items) }
+    requires answer { IsAnswer policy.now request.now (option_map found_answer found) }
+    requires found { IfSome found (IsFound policy.now) }
+    ensures { IfOk result (λ text. IsReason policy.now request.now file.now (option_map found_answer found.entry) text.items) }
 {
     let names = Names {
         user: request.who.user.name.as_slice(),
         default,
     };
-    match answer {
-        Some(answer) => answer_text(alloc, policy, request, &names, &answer, file),
+    match found {
+        Some(found) => answer_text(alloc, policy, request, &names, &found, file),
         None => no_rule(alloc),
     }
 }

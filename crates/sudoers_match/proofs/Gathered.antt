@@ -12,6 +12,20 @@ drop_at xs i x at =
     let same : get_or xs i x ≡ x = let two : Some (get_or xs i x) ≡ Some x = sym (slice_get-get_or xs i x within) ∙ at in cc in
     drop_more xs i x within ∙ ap (λ y. y ∷ drop (i + 1) xs) same
 
+-- what is first of the rest, and what is left then
+pub at_drop : {X : Type 0} (xs : List X) (n : ℕ) (x : X) (ys : List X) → drop n xs ≡ x ∷ ys → slice_get xs n ≡ Some x
+at_drop xs zero x ys e = ap (λ zs. slice_get zs 0) e
+at_drop [] (suc n) x ys e = absurd cc
+at_drop (z ∷ xs) (suc n) x ys e = at_drop xs n x ys e
+
+drop_suc : {X : Type 0} (xs : List X) (n : ℕ) (x : X) (ys : List X) → drop n xs ≡ x ∷ ys → drop (suc n) xs ≡ ys
+drop_suc xs zero x ys e = ap (drop 1) e
+drop_suc [] (suc n) x ys e = absurd cc
+drop_suc (z ∷ xs) (suc n) x ys e = drop_suc xs n x ys e
+
+pub drop_next : {X : Type 0} (xs : List X) (n : ℕ) (x : X) (ys : List X) → drop n xs ≡ x ∷ ys → drop (n + 1) xs ≡ ys
+drop_next xs n x ys e = ap (λ m. drop m xs) (add-one n) ∙ drop_suc xs n x ys e
+
 get_map : {X Y : Type 0} (f : X → Y) (xs : List X) (i : ℕ) (x : X) → slice_get xs i ≡ Some x → slice_get (map f xs) i ≡ Some (f x)
 get_map f [] i x e = absurd cc
 get_map f (y ∷ xs) zero x e = let same : y ≡ x = cc in ap (λ z. Some (f z)) same

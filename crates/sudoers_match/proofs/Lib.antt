@@ -7,6 +7,7 @@ pub mod Settings
 pub mod Tagged
 pub mod Valued
 pub mod Rowed
+pub mod Founds
 pub mod Existing
 pub mod Runases
 pub mod Alike

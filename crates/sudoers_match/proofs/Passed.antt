@@ -20,6 +20,7 @@ use Rattle.sudoers_tree.specs.declared.line.LineRow.{LineRow}
 use Rattle.sudoers_hits.specs.declared.asked.Who.{Who}
 use Rattle.sudoers_match.specs.declared.groups.GroupPlace.{GroupPlace}
 use Rattle.sudoers_match.specs.Specs.{Spec, spec_in, specs_of, AreJoined}
+use Rattle.sudoers_match.specs.Found.{numbered_specs}
 use Rattle.sudoers_match.specs.Groups.{SpecPlaces}
 use Rattle.sudoers_match.proofs.Gathered.{at_map, joined_more}
 
@@ -81,6 +82,23 @@ module _ (t : Tables) (rows : List LineRow) (i : ℕ) (d : LineRow) (within : i 
 
   pub left_none : ((users : Rows MemberRow) (groups : Rows GroupRow) → n ≡ view.Spec users groups → ⊥) → Specs i ≡ Specs (i + 1)
   left_none other = left_specs ∙ ap (λ o. cons_option o (Specs (i + 1))) (no_spec n other)
+
+  -- ---- user specifications with the numbers of their lines
+
+  abbrev pub Numbered : ℕ → List (ℕ × Spec)
+  Numbered from = numbered_specs from (map (line_in t) (drop from rows))
+
+  left_numbered : Numbered i ≡ cons_option (option_map (λ (s : Spec). (i, s)) (spec_in (node_shown n))) (Numbered (i + 1))
+  left_numbered =
+      ap (λ rest. numbered_specs i (map (line_in t) rest)) (drop_more rows i d within)
+      ∙ ap (λ m. cons_option (option_map (λ (s : Spec). (i, s)) (spec_in m)) (Numbered (i + 1))) (sym is)
+
+  pub numbered_spec : (users : Rows MemberRow) (groups : Rows GroupRow) (it : n ≡ view.Spec users groups) → Numbered i ≡ (i, spec users groups it) ∷ Numbered (i + 1)
+  numbered_spec users groups it =
+      left_numbered ∙ ap (λ m. cons_option (option_map (λ (s : Spec). (i, s)) (spec_in (node_shown m))) (Numbered (i + 1))) it
+
+  pub numbered_none : ((users : Rows MemberRow) (groups : Rows GroupRow) → n ≡ view.Spec users groups → ⊥) → Numbered i ≡ Numbered (i + 1)
+  numbered_none other = left_numbered ∙ ap (λ o. cons_option (option_map (λ (s : Spec). (i, s)) o) (Numbered (i + 1))) (no_spec n other)
 
   -- another line more
   pub none_more : ((users : Rows MemberRow) (groups : Rows GroupRow) → n ≡ view.Spec users groups → ⊥)

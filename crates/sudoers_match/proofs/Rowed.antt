@@ -18,7 +18,7 @@ use Rattle.sudoers_match.specs.Answer.{Answer, Answers, Fits, command_line, free
 use Rattle.sudoers_line.specs.declared.node.CmdSpec.{CmdSpec}
 use Rattle.sudoers_line.specs.declared.node.RunasSpec.{RunasSpec}
 use Rattle.std.proofs.lemmas.List.{drop_all}
-use Rattle.sudoers_match.proofs.Gathered.{drop_at}
+use Rattle.sudoers_match.proofs.Gathered.{drop_at, drop_next}
 use Rattle.sudoers_match.specs.declared.head.Head.{Head as HeadHeld}
 use Rattle.sudoers_match.specs.IsHead.{IsHead}
 use Rattle.sudoers_match.specs.Straight.{RunasIsStraight}
@@ -189,6 +189,7 @@ module _ (lines : List Line) (r : Request) where
     list_none held is = record {
       head = no_head;
       is_head = is;
+      left = refl;
       straight = tt;
       so_far = λ users user. so_far_none (CommandRows lines i j users hosts) (filled no_head cs);
     }
@@ -200,6 +201,7 @@ module _ (lines : List Line) (r : Request) where
     list_more k c at held new latest a s is straight each = record {
       head = inherit s.head c;
       is_head = is;
+      left = drop_next (filled no_head cs) k (inherit s.head c, c.member) (filled (inherit s.head c) (drop (k + 1) cs)) (s.left ∙ ap (filled s.head) (drop_at cs k c at));
       straight = inherit_straight s.head c s.straight straight;
       so_far = λ users user. so_far_more (CommandRows lines i j users hosts) (filled no_head cs) k (inherit s.head c, c.member) (filled s.head (drop k cs)) (filled (inherit s.head c) (drop (k + 1) cs)) latest a
           (ap (filled s.head) (drop_at cs k c at)) (s.so_far users user) (each users user);

@@ -12,5 +12,6 @@ pub mod Moment
 pub mod Runas
 pub mod Rows
 pub mod Answer
+pub mod Found
 pub mod Question
 pub mod Alike

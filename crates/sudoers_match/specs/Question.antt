@@ -4,6 +4,8 @@ use Rattle.sudoers_line.specs.declared.node.Kind.TheVariants.{User, Runas, Host,
 use Rattle.sudoers_line.specs.declared.node.RunasSpec.{RunasSpec}
 use Rattle.sudoers_line.specs.declared.node.Member.{Member}
 use Rattle.sudoers_line.specs.declared.node.CmdSpec.{CmdSpec}
+use Rattle.sudoers_line.specs.declared.node.HostGroup.{HostGroup}
+use Rattle.sudoers_rows.specs.declared.view.Member.{Member as MemberHeld}
 use Rattle.sudoers_tree.specs.Line.{Line}
 use Rattle.sudoers_hits.specs.declared.asked.Group.{Group}
 use Rattle.sudoers_hits.specs.declared.asked.Person.{Person}
@@ -13,10 +15,14 @@ use Rattle.sudoers_verdict.specs.declared.verdict.Hit.{Hit}
 use Rattle.sudoers_verdict.specs.declared.walk.Verdicts.{Verdicts}
 use Rattle.sudoers_verdict.specs.Search.{Remembers}
 use Rattle.sudoers_match.specs.declared.question.Question.{Question}
+use Rattle.sudoers_match.specs.declared.groups.GroupPlace.{GroupPlace}
+use Rattle.sudoers_match.specs.declared.rules.Answer.{Answer as AnswerHeld}
+use Rattle.sudoers_match.specs.declared.rules.Found.{Found}
 use Rattle.sudoers_match.specs.declared.rules.Place.{Place}
 use Rattle.sudoers_hits.specs.declared.request.Request.{Request}
 use Rattle.sudoers_match.specs.Answer.{Answer, Answers, command_line, freed}
 use Rattle.sudoers_match.specs.Default.{IsRunasDefault}
+use Rattle.sudoers_match.specs.Found.{IsInGroup, IsInGroups}
 use Rattle.sudoers_match.specs.declared.head.Head.{Head as HeadHeld}
 use Rattle.sudoers_match.specs.Allows.{Allows}
 use Rattle.sudoers_match.specs.Heads.{Head, no_head, filled, tags_of}
@@ -66,6 +72,27 @@ told_by place head hit = record {
   options = values_of head.options;
 }
 
+-- the place that an answer has
+abbrev pub place_told : AnswerHeld → Place
+place_told a = record { spec = a.spec; host_group = a.host_group; command = a.command }
+
+-- what is found with an answer
+abbrev pub found_with : ℕ → HeadHeld → MemberHeld → AnswerHeld → Found
+found_with line head member answer = record { answer = answer; line = line; head = head; member = member }
+
+-- It stands in a host group with this place, on the line with this number.
+pub record IsOfGroup (number : ℕ) (at : GroupPlace) (group : HostGroup) (found : Found) : Type 0 where
+  pub line : found.line ≡ number
+  pub spec : found.answer.spec ≡ at.spec
+  pub host_group : found.answer.host_group ≡ at.host_group
+  pub in_group : IsInGroup group found
+
+-- It stands in a user specification with this number, on the line with this number.
+pub record IsOfSpec (number i : ℕ) (groups : List HostGroup) (found : Found) : Type 0 where
+  pub line : found.line ≡ number
+  pub spec : found.answer.spec ≡ i
+  pub in_groups : IsInGroups groups found
+
 -- The rows of all begin with those of the things before this one, of which the last that fits gives the answer; those of the things
 -- that are left follow.
 pub record IsSoFar {X : Type 0} (Part : ℕ → X → List Row → Type 0) (lines : List Line) (r : Request) (all : List X) (i : ℕ) (left : List X) (latest : Option Answer) : Type 0 where
@@ -76,6 +103,7 @@ pub record IsSoFar {X : Type 0} (Part : ℕ → X → List Row → Type 0) (line
 pub record IsListSoFar (lines : List Line) (r : Request) (spec host_group : ℕ) (hosts : List Member) (cs : List CmdSpec) (i : ℕ) (held : HeadHeld) (latest : Option Answer) : Type 0 where
   pub head : Head
   pub is_head : IsHead held head
+  pub left : drop i (filled no_head cs) ≡ filled head (drop i cs)
   pub straight : RunasIsStraight lines head.runas
   pub so_far : (users : List Member) → Allows User lines (user_hits r.who.user) users
       → IsSoFar (CommandRows lines spec host_group users hosts) lines r (filled no_head cs) i (filled head (drop i cs)) latest

@@ -1,6 +1,6 @@
 //! The answer to a request: forward through the rows, keeping the latest that fits.
 
-ghost use Rattle.std.specs.Prelude.{◌≡◌, ◌⊎◌, ◌<◌, ◌≤◌, ◌∷◌, [], List, length, Some, IfOk, IfErr};
+ghost use Rattle.std.specs.Prelude.{◌≡◌, ◌⊎◌, ◌<◌, ◌≤◌, ◌∷◌, [], List, length, Some, IfOk, IfErr, IfSome};
 ghost use Rattle.std.specs.Option.{option_map};
 ghost use Rattle.sudoers_line.specs.declared.node.Kind.TheVariants.{User as OfUsers, Host as OfHosts, Cmnd as OfCommands};
 ghost use Rattle.sudoers_line.specs.declared.node.Member.{Member as MemberOf};
@@ -11,23 +11,24 @@ ghost use Rattle.sudoers_verdict.specs.declared.verdict.AskFault.TheVariants.{Cy
 ghost use Rattle.sudoers_match.specs.Allows.{Allows};
 ghost use Rattle.sudoers_match.specs.Default.{IsRunasDefault};
 ghost use Rattle.sudoers_match.specs.Answer.{Answers, IsAnswer, answer_shown, argument_limit, joined};
+ghost use Rattle.sudoers_match.specs.Found.{IsFound, found_answer};
 ghost use Rattle.sudoers_match.specs.Heads.{Head as HeadOf, no_head};
 ghost use Rattle.sudoers_match.specs.IsHead.{IsHead};
-ghost use Rattle.sudoers_match.specs.Question.{IsQuestion, PermittedIs, RunasPermits};
+ghost use Rattle.sudoers_match.specs.Question.{IsOfGroup, IsOfSpec, IsQuestion, PermittedIs, RunasPermits, place_told};
 ghost use Rattle.sudoers_match.specs.Rows.{Row, CommandRows, GroupRows, SpecRows};
 ghost use Rattle.sudoers_match.specs.Specs.{spec_of};
 ghost use Rattle.sudoers_match.specs.Straight.{IsStraight, RunasIsStraight, GroupIsStraight, GroupsAreStraight};
 
 use crate::allowing::{allows, find_hit};
 use crate::defaults::find_default;
+use crate::groups::GroupPlace;
 use crate::head::Head;
 use crate::moment::is_in_time;
 use crate::question::{Asked, Question};
-use crate::request::join_words;
-use crate::rules::{Answer, Place, tell};
+use crate::request::{join_command, join_words};
+use crate::rules::{Answer, Found, Place, find_at, take_answer, tell};
 use std::alloc::{AllocError, Global};
-use sudoers_hits::{CommandLine, Request};
-use sudoers_line::Items;
+use sudoers_hits::Request;
 use sudoers_rows::HostGroup;
 use sudoers_tree::{GroupRow, Kind, MemberRow, Node, Policy, Rows};
 use sudoers_verdict::{Acyclic, AskFault, Commands, Hosts, Users, flat_or_cycle, one_flat};
@@ -55,11 +56,12 @@ pub fn answer<'a>(
 {
     let policy = Acyclic::new(alloc, policy)?;
     let default = find_default(alloc, &policy, &request.who)?;
-    find_answer(alloc, &policy, request, default)
+    let found = find_answer(alloc, &policy, request, default)?;
+    Ok(take_answer(found))
 }
 
-/// Returns what [`answer`] does, of a policy none of whose reachable aliases is cyclic. `default` is the user as whom a command runs
-/// where nothing else is said.
+/// Returns the row whose answer [`answer`] returns, with its command, of a policy none of whose reachable aliases is cyclic. `default`
+/// is the user as whom a command runs where nothing else is said.
 ///
 /// # Errors
 ///
@@ -69,9 +71,10 @@ pub fn find_answer<'a>(
     policy: &Acyclic<'a>,
     request: &Request,
     default: &'a [u8],
-) -> Result<Option<Answer<'a>>, AskFault>
+) -> Result<Option<Found<'a>>, AskFault>
     requires { IsRunasDefault policy.now request.now.who default.now }
-    ensures answer { IfOk result (λ answer. IsAnswer policy.now request.now (option_map answer_shown answer)) }
+    ensures answer { IfOk result (λ found. IsAnswer policy.now request.now (option_map found_answer found)) }
+    ensures found { IfOk result (λ found. IfSome found (IsFound policy.now)) }
     ensures short { IfOk result (λ _. length (joined request.now.args) ≤ argument_limit) }
     ensures fault { IfErr result (λ fault. (fault ≡ NoMemory) ⊎ ((fault ≡ TooLong) × (argument_limit < length (joined request.now.args)))) }
 {
@@ -79,35 +82,51 @@ pub fn find_answer<'a>(
     if args.len() > ARGUMENT_LIMIT {
         return Err(AskFault::TooLong);
     }
-    let command = CommandLine {
-        path: Items::from_slice(alloc, request.command.as_slice())?,
-        args: Items::from_vec(args),
-    };
+    Ok(find_row(alloc, policy, request, default)?)
+}
+
+/// Returns the row that [`find_answer`] returns, however long the arguments are.
+///
+/// # Errors
+///
+/// Memory ran out.
+pub fn find_row<'a>(
+    alloc: Global,
+    policy: &Acyclic<'a>,
+    request: &Request,
+    default: &'a [u8],
+) -> Result<Option<Found<'a>>, AllocError>
+    requires { IsRunasDefault policy.now request.now.who default.now }
+    ensures answer { IfOk result (λ found. IsAnswer policy.now request.now (option_map found_answer found)) }
+    ensures found { IfOk result (λ found. IfSome found (IsFound policy.now)) }
+{
+    let command = join_command(alloc, request)?;
     let mut question = Question::new(alloc, policy, request, default)?;
     let asked = Asked {
         policy,
         request,
         command: &command,
     };
-    Ok(answer_in_policy(&mut question, &asked)?)
+    find_in_policy(&mut question, &asked)
 }
 
-/// Returns the answer of the last row that fits.
-fn answer_in_policy<'a>(
+/// Returns the last row that fits.
+fn find_in_policy<'a>(
     question: &mut Question<'a>,
     asked: &Asked<'a, '_>,
-) -> Result<Option<Answer<'a>>, AllocError>
+) -> Result<Option<Found<'a>>, AllocError>
     requires { IsQuestion asked.now.policy.now asked.now.request.now question.old }
-    ensures { IfOk result (λ answer. IsAnswer asked.now.policy.now asked.now.request.now (option_map answer_shown answer)) }
+    ensures answer { IfOk result (λ found. IsAnswer asked.now.policy.now asked.now.request.now (option_map found_answer found)) }
+    ensures found { IfOk result (λ found. IfSome found (IsFound asked.now.policy.now)) }
 {
     asked.policy.is_acyclic();
     flat_or_cycle();
     let mut latest = None;
     let mut spec = 0;
     let lines = asked.policy.lines();
-    for row in lines.rows {
+    for (line, row) in lines.rows.iter().enumerate() {
         if let Node::Spec { users, groups } = lines.tables.node(&row.node) {
-            let found = answer_in_spec(question, asked, spec, &users, &groups)?;
+            let found = find_in_spec(question, asked, line, spec, &users, &groups)?;
             latest = found.or(latest);
             spec += 1;
         }
@@ -115,21 +134,23 @@ fn answer_in_policy<'a>(
     Ok(latest)
 }
 
-/// Returns the answer of the last row of a user specification that fits.
-fn answer_in_spec<'a>(
+/// Returns the last row of the user specification with the number `spec` that fits. It stands on the line with the number `line`.
+fn find_in_spec<'a>(
     question: &mut Question<'a>,
     asked: &Asked<'a, '_>,
+    line: usize,
     spec: usize,
     users: &Rows<'_, MemberRow>,
     groups: &Rows<'a, GroupRow>,
-) -> Result<Option<Answer<'a>>, AllocError>
+) -> Result<Option<Found<'a>>, AllocError>
     requires question { IsQuestion asked.now.policy.now asked.now.request.now question.old }
     requires users { IsStraight OfUsers asked.now.policy.now (members_shown users.now) }
     requires groups { GroupsAreStraight asked.now.policy.now (groups_shown groups.now) }
     ensures kept { IfOk result (λ _. IsQuestion asked.now.policy.now asked.now.request.now question.new) }
-    ensures answer { IfOk result (λ answer. (rows : List Row)
+    ensures answer { IfOk result (λ found. (rows : List Row)
         → SpecRows asked.now.policy.now spec (spec_of (members_shown users.now) (groups_shown groups.now)) rows
-        → Answers asked.now.policy.now asked.now.request.now rows (option_map answer_shown answer)) }
+        → Answers asked.now.policy.now asked.now.request.now rows (option_map found_answer found)) }
+    ensures found { IfOk result (λ found. IfSome found (IsOfSpec line spec (groups_shown groups.now))) }
 {
     let user = &asked.request.who.user;
     if !allows::<Users>(&mut question.users, asked.policy, Kind::User, users, user)? {
@@ -140,30 +161,32 @@ fn answer_in_spec<'a>(
     for (host_group, row) in groups.rows.iter().enumerate() {
         let mut head = Head::none();
         let group = tables.group(row);
-        let answer = answer_in_group(question, asked, spec, host_group, &group, &mut head)?;
-        latest = answer.or(latest);
+        let at = GroupPlace { spec, host_group };
+        let in_group = find_in_group(question, asked, line, at, &group, &mut head)?;
+        latest = in_group.or(latest);
     }
     Ok(latest)
 }
 
-/// Returns the answer of the last row of a host group that fits, where the users allow. `head` is that of a command before which nothing
-/// stands, and becomes that of the last command.
-fn answer_in_group<'a>(
+/// Returns the last row of the host group at `at` that fits, where the users allow. It stands on the line with the number `line`. `head`
+/// is that of a command before which nothing stands, and becomes that of the last command.
+fn find_in_group<'a>(
     question: &mut Question<'a>,
     asked: &Asked<'a, '_>,
-    spec: usize,
-    host_group: usize,
+    line: usize,
+    at: GroupPlace,
     group: &HostGroup<'a>,
     head: &mut Head<'a>,
-) -> Result<Option<Answer<'a>>, AllocError>
+) -> Result<Option<Found<'a>>, AllocError>
     requires question { IsQuestion asked.now.policy.now asked.now.request.now question.old }
     requires straight { GroupIsStraight asked.now.policy.now (group_shown group.now) }
     requires head { IsHead head.old no_head }
     ensures kept { IfOk result (λ _. IsQuestion asked.now.policy.now asked.now.request.now question.new) }
-    ensures answer { IfOk result (λ answer. (users : List MemberOf)
+    ensures answer { IfOk result (λ found. (users : List MemberOf)
         → Allows OfUsers asked.now.policy.now (user_hits asked.now.request.now.who.user) users
-        → (rows : List Row) → GroupRows asked.now.policy.now spec users host_group (group_shown group.now) rows
-        → Answers asked.now.policy.now asked.now.request.now rows (option_map answer_shown answer)) }
+        → (rows : List Row) → GroupRows asked.now.policy.now at.spec users at.host_group (group_shown group.now) rows
+        → Answers asked.now.policy.now asked.now.request.now rows (option_map found_answer found)) }
+    ensures found { IfOk result (λ found. IfSome found (IsOfGroup line at (group_shown group.now))) }
 {
     let who = &asked.request.who;
     if !allows::<Hosts>(
@@ -189,12 +212,12 @@ fn answer_in_group<'a>(
             rows: std::slice::from_ref(&row.member),
         };
         let place = Place {
-            spec,
-            host_group,
+            spec: at.spec,
+            host_group: at.host_group,
             command,
         };
         let answer = answer_of_command(question, asked, place, head, &mut permitted, &member)?;
-        latest = answer.or(latest);
+        latest = find_at(answer, line, head, written.member).or(latest);
     }
     Ok(latest)
 }
@@ -244,6 +267,7 @@ fn answer_of_command<'a>(
         → (h : HeadOf) → IsHead head.now h → (m : MemberOf) → members_shown member.now ≡ m ∷ []
         → (rows : List Row) → CommandRows asked.now.policy.now place.spec place.host_group users hosts place.command (h, m) rows
         → Answers asked.now.policy.now asked.now.request.now rows (option_map answer_shown answer)) }
+    ensures place { IfOk result (λ answer. IfSome answer (λ a. place_told a ≡ place)) }
 {
     one_flat();
     if !is_in_time(asked.request.moment, &head.options) {

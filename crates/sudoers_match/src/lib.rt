@@ -14,7 +14,7 @@ mod request;
 mod rules;
 mod tags;
 
-pub use answering::{answer, find_answer};
+pub use answering::{answer, find_answer, find_row};
 pub use defaults::{find_default, runas_default};
 pub use groups::{GroupPlace, find_host_groups, host_groups};
 pub use head::Head;
@@ -23,8 +23,8 @@ pub use policies::{
     alike_defaults_are_same, alike_rows_answer, alike_rows_fit, alike_specs_have_same_groups,
     one_answer, one_head, one_list_of_host_groups, one_runas_default,
 };
-pub use request::join_words;
-pub use rules::Answer;
+pub use request::{join_command, join_words};
+pub use rules::{Answer, Found};
 pub use sudoers_hits::{Group, Interface, Person, Request, Who};
 pub use sudoers_verdict::AskFault;
 pub use tags::Tags;

@@ -1,9 +1,10 @@
 //! The words of a request.
 
 ghost use Rattle.std.specs.Prelude.{◌≡◌, IfOk};
-ghost use Rattle.sudoers_match.specs.Answer.{joined};
+ghost use Rattle.sudoers_match.specs.Answer.{command_line, joined};
 
 use std::alloc::{AllocError, Global};
+use sudoers_hits::{CommandLine, Request};
 use sudoers_line::Items;
 
 /// Returns `words`, joined by single spaces.
@@ -23,4 +24,20 @@ pub fn join_words(alloc: Global, words: &[Items<u8>]) -> Result<Vec<u8>, AllocEr
         text.extend_from_slice(word.as_slice())?;
     }
     Ok(text)
+}
+
+/// Returns the command of `request` with its arguments, joined by single spaces.
+///
+/// # Errors
+///
+/// Memory ran out.
+pub fn join_command(alloc: Global, request: &Request) -> Result<CommandLine, AllocError>
+    ensures { IfOk result (λ command. command ≡ command_line request.now) }
+{
+    let path = Items::from_slice(alloc, request.command.as_slice())?;
+    let args = join_words(alloc, request.args.as_slice())?;
+    Ok(CommandLine {
+        path,
+        args: Items::from_vec(args),
+    })
 }

@@ -1,13 +1,17 @@
 -- What `list` says of a policy, of files of which a front was read, and of words.
-use Rattle.std.proofs.Common.{◌≡◌, ◌⊎◌, inl, inr, ◌∙◌, ◌<◌, false, ℕ, List, [], ◌∷◌, length, Option, Some, None, Result, Ok, Err, MatchResult, refl, sym, ap, subst}
-use Rattle.std.proofs.lemmas.Bool.{lt-ltb}
-use Rattle.std.specs.Option.{is_some, option_or}
+use Rattle.std.proofs.Common.{◌≡◌, ◌⊎◌, inl, inr, ◌∙◌, ◌<◌, true, false, ℕ, List, [], ◌∷◌, length, Option, Some, None, Result, Ok, Err, MatchResult, refl, sym, ap, subst}
+use Rattle.std.proofs.lemmas.Bool.{lt-ltb, false≢true}
+use Rattle.std.specs.Borrow.{Bor}
+use Rattle.std.specs.Option.{is_some, option_or, unwrap_or}
 use Rattle.sudoers_text.specs.Fault.{text_limit}
 use Rattle.sudoers_tree.specs.Line.{Line}
 use Rattle.sudoers_tree.specs.declared.fault.ReadFault.{ReadFault}
 use Rattle.sudoers_check.specs.Chains.{HasReachableCycle}
 use Rattle.sudoers_hits.specs.declared.asked.Who.{Who}
 use Rattle.sudoers_hits.specs.declared.request.Request.{Request}
+use Rattle.sudoers_verdict.specs.declared.verdict.AskFault.{AskFault}
+use Rattle.sudoers_verdict.specs.declared.verdict.AskFault.TheVariants as ask
+use Rattle.sudoers_match.specs.Answer.{argument_limit, joined}
 use Rattle.sudoers_match.specs.Default.{IsRunasDefault}
 use Rattle.sudoers_people.specs.declared.fault.PeopleFile.{PeopleFile}
 use Rattle.sudoers_people.specs.declared.fault.PeopleFile.TheVariants.{Passwd, Group}
@@ -15,8 +19,10 @@ use Rattle.sudoers_people.specs.declared.fault.PeopleFault.{PeopleFault}
 use Rattle.sudoers_people.specs.declared.fault.PeopleFault.TheVariants as people
 use Rattle.sudoers_people.specs.declared.fault.WhoFault.{WhoFault}
 use Rattle.sudoers_people.specs.Rows.{account_in, group_in}
-use Rattle.sudoers_people.specs.Person.{who_told}
-use Rattle.sudoers_people.specs.Asked.{request_told}
+use Rattle.sudoers_people.specs.Person.{account_named, who_told}
+use Rattle.sudoers_hits.specs.declared.asked.Group.{Group as GroupOf}
+use Rattle.sudoers_people.specs.declared.account.Account.{Account}
+use Rattle.sudoers_people.specs.Asked.{group_asked, moment_in, request_from, request_told}
 use Rattle.sudoers_people.specs.People.{People, file_fault, people_of, people_told, unless}
 use Rattle.sudoers_run.specs.declared.fault.LayerFault.{LayerFault}
 use Rattle.sudoers_run.specs.declared.fault.LayerFault.TheVariants as layer
@@ -24,6 +30,7 @@ use Rattle.sudoers_run.specs.declared.fault.ToolFault.{ToolFault}
 use Rattle.sudoers_run.specs.declared.fault.ToolFault.TheVariants as tool
 use Rattle.sudoers_run.specs.declared.output.Output.{Output}
 use Rattle.sudoers_run.specs.declared.words.ListWords.{ListWords}
+use Rattle.sudoers_run.specs.LayerOf.{layer_of_ask}
 use Rattle.sudoers_run.specs.Device.{Meter}
 use Rattle.sudoers_run.specs.Policy.{IsOfReader, policy_of}
 use Rattle.sudoers_run.specs.Reading.{IsFrontFault}
@@ -118,18 +125,111 @@ asked_as_default w file lines people who first user none nobody told straight is
     (subst (λ r. OfFirst w file lines people r o) (sym (ap (λ g. request_told people who w.user.now g w.words.now w.moment.now) (sym nobody) ∙ told))
     (inr (record { straight = straight; user = user; is_default = is; asked = asked }))))
 
-pub asked_of : (w : ListWords) (lines : List Line) (people : People) (who : Who) (first : Request) (user : List ℕ) (result : Result Request LayerFault) → text_shown w.target ≡ None → text_shown w.group ≡ None
-    → request_told people who w.user.now (text_shown w.group) w.words.now w.moment.now ≡ Ok first
-    → (HasReachableCycle lines → ⊥) → IsRunasDefault lines first.who user
-    → MatchResult result (λ r. request_told people first.who user (text_shown w.group) w.words.now w.moment.now ≡ Ok r)
-    (λ fault. (fault ≡ layer.NoMemory) ⊎ TellsWho (request_told people first.who user (text_shown w.group) w.words.now w.moment.now) fault)
-    → MatchResult result (λ r. (file : List ℕ) (o : Outcome) → IsAnswered w file lines r o → IsAsked w file lines people who (text_shown w.target) (text_shown w.group) o)
-    (λ fault. (fault ≡ layer.NoMemory) ⊎ ((file : List ℕ) → IsAsked w file lines people who (text_shown w.target) (text_shown w.group) (Err fault)))
-asked_of w lines people who first user (Ok r) none nobody told straight is e =
-    λ file o a. asked_as_default w file lines people who first user none nobody told straight is o (subst (λ x. OfRequest w file lines x o) (sym e) a)
-asked_of w lines people who first user (Err fault) none nobody told straight is (inl e) = inl e
-asked_of w lines people who first user (Err fault) none nobody told straight is (inr t) =
-    inr (λ file. asked_as_default w file lines people who first user none nobody told straight is (Err fault) (of_request w file lines _ fault t))
+-- It is an answer to the request, or memory ran out.
+abbrev pub Answered : ListWords → List ℕ → List Line → Request → Result Output LayerFault → Type 0
+Answered w file lines r result =
+    MatchResult result (λ output. IsAnswered w file lines r (Ok (output.text.items, output.status))) (λ fault. (fault ≡ layer.NoMemory) ⊎ IsAnswered w file lines r (Err fault))
+
+pub answer_refused : (w : ListWords) (file : List ℕ) (lines : List Line) (r : Request) → (HasReachableCycle lines → ⊥) → (fault : AskFault)
+    → (fault ≡ ask.NoMemory) ⊎ ((fault ≡ ask.TooLong) × (argument_limit < length (joined r.args))) → Answered w file lines r (Err (layer_of_ask fault))
+answer_refused w file lines r straight fault (inl e) = inl (ap layer_of_ask e)
+answer_refused w file lines r straight fault (inr is) = inr (inr (ap layer_of_ask is.0, straight, is.1))
+
+-- A request is that of the user who asks.
+abbrev KeepsWho : Who → Result Request WhoFault → Type 0
+KeepsWho who (Ok r) = r.who ≡ who
+KeepsWho who (Err fault) = Unit {0}
+
+keeps_who : (people : People) (who : Who) (words : List (List ℕ)) (a : Option Account) (g : Option (Option GroupOf)) (m : Option ℕ) → KeepsWho who (request_from people who words a g m)
+keeps_who people who words None g m = tt
+keeps_who people who words (Some a) None m = tt
+keeps_who people who words (Some a) (Some g) None = tt
+keeps_who people who words (Some a) (Some g) (Some m) = refl
+
+pub who_kept : (people : People) (who : Who) (target : List ℕ) (group : Option (List ℕ)) (words : List (List ℕ)) (stamp : List ℕ) (r : Request)
+    → request_told people who target group words stamp ≡ Ok r → r.who ≡ who
+who_kept people who target group words stamp r told =
+    subst (KeepsWho who) told (keeps_who people who words (account_named people target) (group_asked people group) (moment_in stamp))
+
+-- The first request is that of the user who is named, or of the user himself.
+abbrev pub first_told : ListWords → People → Who → Option (Bor (List ℕ)) → Result Request WhoFault
+first_told w people who target = request_told people who (unwrap_or target w.user).now (text_shown w.group) w.words.now w.moment.now
+
+of_first : (w : ListWords) (file : List ℕ) (lines : List Line) (people : People) (told : Result Request WhoFault) (fault : LayerFault) → TellsWho told fault → OfFirst w file lines people told (Err fault)
+of_first w file lines people (Ok r) fault is = absurd is
+of_first w file lines people (Err said) fault is = ap Err is
+
+module _ (w : ListWords) (file : List ℕ) (lines : List Line) (people : People) (who : Who) where
+  -- Without a user and a group the first request is made for the user himself.
+  himself : (group : Option (List ℕ)) → text_shown w.group ≡ group → first_told w people who None ≡ request_told people who w.user.now group w.words.now w.moment.now
+  himself group same = ap (λ g. request_told people who w.user.now g w.words.now w.moment.now) same
+
+  first_refused : (target : Option (Bor (List ℕ))) (group : Option (List ℕ)) → text_shown w.group ≡ group → (fault : LayerFault) → TellsWho (first_told w people who target) fault
+      → IsAsked w file lines people who (text_shown target) group (Err fault)
+  first_refused (Some t) group same fault is = of_request w file lines (first_told w people who (Some t)) fault is
+  first_refused None (Some g) same fault is = of_request w file lines (first_told w people who None) fault is
+  first_refused None None same fault is =
+      subst (λ told. OfFirst w file lines people told (Err fault)) (himself None same) (of_first w file lines people (first_told w people who None) fault is)
+
+  first_cyclic : (target : Option (Bor (List ℕ))) (group : Option (List ℕ)) → text_shown w.group ≡ group → (first : Request) → first_told w people who target ≡ Ok first → HasReachableCycle lines
+      → IsAsked w file lines people who (text_shown target) group (Err (layer.Ask ask.Cycle))
+  first_cyclic (Some t) group same first told cycle = subst (λ r. OfRequest w file lines r (Err (layer.Ask ask.Cycle))) (sym told) (inl (refl, cycle))
+  first_cyclic None (Some g) same first told cycle = subst (λ r. OfRequest w file lines r (Err (layer.Ask ask.Cycle))) (sym told) (inl (refl, cycle))
+  first_cyclic None None same first told cycle =
+      subst (λ r. OfFirst w file lines people r (Err (layer.Ask ask.Cycle))) (sym told ∙ himself None same) (inl (cycle, refl))
+
+  first_asked : (target : Option (Bor (List ℕ))) (group : Option (List ℕ)) → text_shown w.group ≡ group → (is_some target ≡ true) ⊎ (is_some group ≡ true)
+      → (first : Request) → first_told w people who target ≡ Ok first → (o : Outcome) → IsAnswered w file lines first o
+      → IsAsked w file lines people who (text_shown target) group o
+  first_asked (Some t) group same one first told o answered = subst (λ r. OfRequest w file lines r o) (sym told) answered
+  first_asked None (Some g) same one first told o answered = subst (λ r. OfRequest w file lines r o) (sym told) answered
+  first_asked None None same (inl e) first told o answered = absurd (false≢true e)
+  first_asked None None same (inr e) first told o answered = absurd (false≢true e)
+
+  -- What is asked, in the words of the call.
+  abbrev pub Asked : Outcome → Type 0
+  Asked = IsAsked w file lines people who (text_shown w.target) (text_shown w.group)
+
+  -- It is what is asked, or memory ran out.
+  abbrev pub Told : Result Output LayerFault → Type 0
+  Told result = MatchResult result (λ output. Asked (Ok (output.text.items, output.status))) (λ fault. (fault ≡ layer.NoMemory) ⊎ Asked (Err fault))
+
+  pub refused : (fault : LayerFault) → (fault ≡ layer.NoMemory) ⊎ TellsWho (first_told w people who w.target) fault → Told (Err fault)
+  refused fault (inl e) = inl e
+  refused fault (inr is) = inr (first_refused w.target (text_shown w.group) refl fault is)
+
+  pub cyclic : (first : Request) → first_told w people who w.target ≡ Ok first → (fault : AskFault) → (fault ≡ ask.NoMemory) ⊎ ((fault ≡ ask.Cycle) × HasReachableCycle lines)
+      → Told (Err (layer_of_ask fault))
+  cyclic first told fault (inl e) = inl (ap layer_of_ask e)
+  cyclic first told fault (inr is) =
+      inr (subst (λ f. Asked (Err (layer_of_ask f))) (sym is.0) (first_cyclic w.target (text_shown w.group) refl first told is.1))
+
+  -- The answer is asked for, whatever it comes to.
+  answer_asked : (r : Request) → ((o : Outcome) → IsAnswered w file lines r o → Asked o) → (result : Result Output LayerFault) → Answered w file lines r result → Told result
+  answer_asked r asked (Ok output) is = asked (Ok (output.text.items, output.status)) is
+  answer_asked r asked (Err fault) (inl e) = inl e
+  answer_asked r asked (Err fault) (inr is) = inr (asked (Err fault) is)
+
+  pub named_answered : (is_some w.target ≡ true) ⊎ (is_some (text_shown w.group) ≡ true) → (first : Request) → first_told w people who w.target ≡ Ok first → (result : Result Output LayerFault)
+      → Answered w file lines first result → Told result
+  named_answered one first told result is = answer_asked first (first_asked w.target (text_shown w.group) refl one first told) result is
+
+  -- Without a user and a group the command is to run as runas_default.
+  module _ (none : w.target ≡ None) (nobody : w.group ≡ None) (first : Request) (told : first_told w people who w.target ≡ Ok first)
+      (straight : HasReachableCycle lines → ⊥) (user : List ℕ) (is : IsRunasDefault lines first.who user) where
+    abbrev second_told : Result Request WhoFault
+    second_told = request_told people first.who user (text_shown w.group) w.words.now w.moment.now
+
+    as_default : (o : Outcome) → OfRequest w file lines second_told o → Asked o
+    as_default = asked_as_default w file lines people who first user (ap text_shown none) (ap text_shown nobody)
+        (ap (λ t. request_told people who (unwrap_or t w.user).now (text_shown w.group) w.words.now w.moment.now) (sym none) ∙ told) straight is
+
+    pub default_refused : (fault : LayerFault) → (fault ≡ layer.NoMemory) ⊎ TellsWho second_told fault → Told (Err fault)
+    default_refused fault (inl e) = inl e
+    default_refused fault (inr t) = inr (as_default (Err fault) (of_request w file lines second_told fault t))
+
+    pub default_answered : (r : Request) → second_told ≡ Ok r → (result : Result Output LayerFault) → Answered w file lines r result → Told result
+    default_answered r e result answered = answer_asked r (λ o a. as_default o (subst (λ x. OfRequest w file lines x o) (sym e) a)) result answered
 
 -- What comes of words, where there are some.
 of_words : (w : ListWords) (file : List ℕ) (lines : List Line) (people : People) (who : Who) (words : List (List ℕ)) (o : Outcome) → (words ≡ [] → ⊥)
@@ -145,17 +245,16 @@ outcome_of_words w file policy passwd group lines people who read told is some o
     (subst (λ r. OfPeople w file lines r o) (sym told)
     (subst (λ r. OfWho w file lines people r o) (sym is) (of_words w file lines people who w.words.now o some asked)))
 
-pub outcome_of : (w : ListWords) (file : List ℕ) (policy : Result (List Line) ReadFault) (passwd group : List ℕ) (lines : List Line) (people : People) (who : Who) (r : Request) (result : Result Output LayerFault)
+pub outcome_of : (w : ListWords) (file : List ℕ) (policy : Result (List Line) ReadFault) (passwd group : List ℕ) (lines : List Line) (people : People) (who : Who) (result : Result Output LayerFault)
     → policy ≡ Ok lines → people_told passwd group ≡ Ok people → who_told people w.user.now w.host.now w.interfaces.now ≡ Ok who → (w.words.now ≡ [] → ⊥)
-    → ((o : Outcome) → IsAnswered w file lines r o → IsAsked w file lines people who (text_shown w.target) (text_shown w.group) o)
-    → MatchResult result (λ output. IsAnswered w file lines r (Ok (output.text.items, output.status))) (λ fault. (fault ≡ layer.NoMemory) ⊎ IsAnswered w file lines r (Err fault))
+    → Told w file lines people who result
     → MatchResult result (λ output. OfPolicy w file (people_told passwd group) policy (Ok (output.text.items, output.status)))
     (λ fault. (fault ≡ layer.NoMemory) ⊎ OfPolicy w file (people_told passwd group) policy (Err fault))
-outcome_of w file policy passwd group lines people who r (Ok output) read told is some asked a =
-    outcome_of_words w file policy passwd group lines people who read told is some (Ok (output.text.items, output.status)) (asked _ a)
-outcome_of w file policy passwd group lines people who r (Err fault) read told is some asked (inl e) = inl e
-outcome_of w file policy passwd group lines people who r (Err fault) read told is some asked (inr a) =
-    inr (outcome_of_words w file policy passwd group lines people who read told is some (Err fault) (asked _ a))
+outcome_of w file policy passwd group lines people who (Ok output) read told is some asked =
+    outcome_of_words w file policy passwd group lines people who read told is some (Ok (output.text.items, output.status)) asked
+outcome_of w file policy passwd group lines people who (Err fault) read told is some (inl e) = inl e
+outcome_of w file policy passwd group lines people who (Err fault) read told is some (inr asked) =
+    inr (outcome_of_words w file policy passwd group lines people who read told is some (Err fault) asked)
 
 -- ---- faults
 
@@ -164,6 +263,10 @@ pub tells : (w : ListWords) (file : List ℕ) (policy : Result (List Line) ReadF
     → (input u' g' : List ℕ) → policy_of input ≡ policy → Stands passwd u' → Stands group g' → TellsList w file (tool.Layer fault) input u' g'
 tells w file policy passwd group fault (inl e) input u' g' outcome su sg = inl e
 tells w file policy passwd group fault (inr o) input u' g' outcome su sg = inr (moved w file input passwd group u' g' policy (Err fault) outcome su sg o)
+
+pub shown_some : (o : Option (Bor (List ℕ))) → is_some o ≡ true → is_some (text_shown o) ≡ true
+shown_some None e = e
+shown_some (Some t) e = refl
 
 -- what stands behind an option that is not there
 pub none_of : {X : Type 0} (o : Option X) → ((x : X) → o ≡ Some x → ⊥) → o ≡ None

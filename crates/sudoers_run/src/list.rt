@@ -4,7 +4,9 @@ ghost use Rattle.std.specs.Io.KnownBytes.{Keeps, Appends};
 ghost use Rattle.std.specs.Option.{option_map, is_some};
 ghost use Rattle.sudoers_edit.specs.Memory.{IsOfText};
 ghost use Rattle.sudoers_check.specs.Chains.{HasReachableCycle};
-ghost use Rattle.sudoers_match.specs.Answer.{IsAnswer, answer_shown};
+ghost use Rattle.sudoers_match.specs.Answer.{IsAnswer};
+ghost use Rattle.sudoers_match.specs.Default.{IsRunasDefault};
+ghost use Rattle.sudoers_match.specs.Found.{found_answer};
 ghost use Rattle.sudoers_people.specs.People.{people_told};
 ghost use Rattle.sudoers_people.specs.Person.{who_told};
 ghost use Rattle.sudoers_people.specs.Asked.{request_told};
@@ -19,11 +21,12 @@ use crate::words::ListWords;
 use std::alloc::{AllocError, Global};
 use sudoers_hits::Who;
 use sudoers_line::Items;
-use sudoers_list::{explain, list};
-use sudoers_match::{Answer, Request, answer, join_words, runas_default};
+use sudoers_list::{explain_answer, list};
+use sudoers_match::{Found, Request, find_answer, find_default, join_words};
 use sudoers_people::{People, request_for, who_for};
 use sudoers_text::TEXT_LIMIT;
 use sudoers_tree::{Policy, ReadFault};
+use sudoers_verdict::Acyclic;
 
 /// Reads a policy and the files passwd and group, and writes what the user of `words` may run on his host (sudo(8), the option `-l`).
 /// If `words` hold a command, it writes the command if he may run it, or the rule that decides, in which the policy has the name `file`.
@@ -96,32 +99,32 @@ fn list_files(
         let text = list(alloc, &policy, &who)?;
         return Ok(Output { text, status: 0 });
     }
-    let request = request_of(alloc, &policy, &people, who, words)?;
-    answer_text(alloc, &policy, file, &request, words)
+    command_text(alloc, &policy, file, &people, who, words)
 }
 
-/// Returns the request that `words` make of a user on a host.
-fn request_of(
+/// Returns what is written for the command of `words`, and the exit status. The policy has the name `file`.
+fn command_text(
     alloc: Global,
     policy: &Policy,
+    file: &[u8],
     people: &People,
     who: Who,
     words: &ListWords<'_>,
-) -> Result<Request, LayerFault>
-    ensures asked { MatchResult result (λ request. (file : List ℕ) (outcome : Outcome) → IsAnswered words.now file policy.now request outcome
-        → IsAsked words.now file policy.now people.now who (text_shown words.now.target) (text_shown words.now.group) outcome)
-        (λ fault. (fault ≡ LayerFault.NoMemory) ⊎ ((file : List ℕ) → IsAsked words.now file policy.now people.now who (text_shown words.now.target) (text_shown words.now.group) (Err fault))) }
+) -> Result<Output, LayerFault>
+    ensures asked { MatchResult result (λ output. IsAsked words.now file.now policy.now people.now who (text_shown words.now.target) (text_shown words.now.group) (Ok (output.text.items, output.status)))
+        (λ fault. (fault ≡ LayerFault.NoMemory) ⊎ IsAsked words.now file.now policy.now people.now who (text_shown words.now.target) (text_shown words.now.group) (Err fault)) }
+    ensures statuses { IfOk result (λ output. output.status ≤ 1) }
     ensures named { IfErr result IsAskFault }
 {
-    if let Some(target) = words.target {
-        return request_as(alloc, people, who, target, words);
+    let named = words.target.unwrap_or(words.user);
+    let first = request_as(alloc, people, who, named, words)?;
+    let policy = Acyclic::new(alloc, policy)?;
+    let default = find_default(alloc, &policy, &first.who)?;
+    if words.target.is_some() || words.group.is_some() {
+        return answer_text(alloc, &policy, file, &first, default, words);
     }
-    if words.group.is_some() {
-        return request_as(alloc, people, who, words.user, words);
-    }
-    let first = request_as(alloc, people, who, words.user, words)?;
-    let target = runas_default(alloc, policy, &first.who)?;
-    request_as(alloc, people, first.who, target, words)
+    let request = request_as(alloc, people, first.who, default, words)?;
+    answer_text(alloc, &policy, file, &request, default, words)
 }
 
 /// Returns the request to run the command of `words` as the user `target`.
@@ -147,35 +150,39 @@ fn request_as(
     )?)
 }
 
-/// Returns what is written for a request, and the exit status. The policy has the name `file`.
+/// Returns what is written for a request, and the exit status. The policy has the name `file`. `default` is the user as whom a command
+/// runs where nothing else is said.
 fn answer_text(
     alloc: Global,
-    policy: &Policy,
+    policy: &Acyclic<'_>,
     file: &[u8],
     request: &Request,
+    default: &[u8],
     words: &ListWords<'_>,
 ) -> Result<Output, LayerFault>
+    requires { IsRunasDefault policy.now request.now.who default.now }
     ensures answered { MatchResult result (λ output. IsAnswered words.now file.now policy.now request.now (Ok (output.text.items, output.status)))
         (λ fault. (fault ≡ LayerFault.NoMemory) ⊎ IsAnswered words.now file.now policy.now request.now (Err fault)) }
     ensures statuses { IfOk result (λ output. output.status ≤ 1) }
     ensures named { IfErr result IsAskFault }
 {
-    let answer = answer(alloc, policy, request)?;
-    let status = allowed_status(answer);
+    policy.is_acyclic();
+    let found = find_answer(alloc, policy, request, default)?;
+    let status = allowed_status(found);
     if words.why {
-        let text = explain(alloc, policy, request, answer, file)?;
+        let text = explain_answer(alloc, policy, request, default, found, file)?;
         return Ok(Output { text, status });
     }
-    let text = allowed_text(alloc, words.words, answer)?;
+    let text = allowed_text(alloc, words.words, found)?;
     Ok(Output { text, status })
 }
 
 /// Returns the exit status of an answer.
-fn allowed_status(answer: Option<Answer<'_>>) -> u8
-    ensures { result ≡ allowed_status (option_map answer_shown answer.entry) }
+fn allowed_status(found: Option<Found<'_>>) -> u8
+    ensures { result ≡ allowed_status (option_map found_answer found.entry) }
 {
-    match answer {
-        Some(answer) if answer.allow => 0,
+    match found {
+        Some(found) if found.answer.allow => 0,
         _ => 1,
     }
 }
@@ -184,12 +191,12 @@ fn allowed_status(answer: Option<Answer<'_>>) -> u8
 fn allowed_text(
     alloc: Global,
     words: &[Items<u8>],
-    answer: Option<Answer<'_>>,
+    found: Option<Found<'_>>,
 ) -> Result<Vec<u8>, AllocError>
-    ensures { IfOk result (λ text. text.items ≡ allowed_text words.now (option_map answer_shown answer.entry)) }
+    ensures { IfOk result (λ text. text.items ≡ allowed_text words.now (option_map found_answer found.entry)) }
 {
-    match answer {
-        Some(answer) if answer.allow => {
+    match found {
+        Some(found) if found.answer.allow => {
             let mut text = join_words(alloc, words)?;
             text.push(b'\n')?;
             Ok(text)

@@ -1,10 +1,11 @@
 //! What a list says, whether a reachable alias is cyclic, and what a policy answers.
 
-ghost use Rattle.std.specs.Prelude.{◌≡◌, ◌<◌, ◌≤◌, ◌⊎◌, ◌↔◌, IsTrue, length, IfOk, IfErr};
+ghost use Rattle.std.specs.Prelude.{◌≡◌, ◌<◌, ◌≤◌, ◌⊎◌, ◌↔◌, IsTrue, length, IfOk, IfErr, IfSome};
 ghost use Rattle.std.specs.Option.{option_map};
 ghost use Rattle.sudoers_check.specs.Chains.{HasReachableCycle};
 ghost use Rattle.sudoers_match.specs.Answer.{IsAnswer, answer_shown, argument_limit, joined};
 ghost use Rattle.sudoers_match.specs.Default.{IsRunasDefault};
+ghost use Rattle.sudoers_match.specs.Found.{IsFound, found_answer};
 ghost use Rattle.sudoers_match.specs.Groups.{AreHostGroups};
 ghost use Rattle.sudoers_rows.specs.View.{members_shown};
 ghost use Rattle.sudoers_verdict.specs.declared.verdict.AskFault.TheVariants.{Cycle, TooLong, NoMemory};
@@ -13,11 +14,12 @@ ghost use Rattle.sudoers_verdict.specs.Flat.{IsVerdict};
 
 use std::alloc::{AllocError, Global};
 use sudoers_match::{
-    Answer, AskFault, GroupPlace, Request, Who, answer, host_groups, runas_default,
+    Answer, AskFault, Found, GroupPlace, Request, Who, answer, find_answer, host_groups,
+    runas_default,
 };
 use sudoers_rows::{MemberRow, Rows};
 use sudoers_tree::{Kind, Policy};
-use sudoers_verdict::{MemberKind, Verdict, decide, reachable_cycle};
+use sudoers_verdict::{Acyclic, MemberKind, Verdict, decide, reachable_cycle};
 
 /// Returns what a list of members says of what is asked.
 ///
@@ -67,6 +69,26 @@ pub fn answer_request<'a>(
         ⊎ ((fault ≡ TooLong) × (HasReachableCycle policy.now → ⊥) × (argument_limit < length (joined request.now.args))))) }
 {
     answer(alloc, policy, request)
+}
+
+/// Returns the last row of `policy` that fits `request`, with its command.
+///
+/// # Errors
+///
+/// `TooLong`: the arguments are. Or memory ran out.
+pub fn find_rule<'a>(
+    alloc: Global,
+    policy: &Acyclic<'a>,
+    request: &Request,
+    default: &'a [u8],
+) -> Result<Option<Found<'a>>, AskFault>
+    requires { IsRunasDefault policy.now request.now.who default.now }
+    ensures answer { IfOk result (λ found. IsAnswer policy.now request.now (option_map found_answer found)) }
+    ensures found { IfOk result (λ found. IfSome found (IsFound policy.now)) }
+    ensures short { IfOk result (λ _. length (joined request.now.args) ≤ argument_limit) }
+    ensures fault { IfErr result (λ fault. (fault ≡ NoMemory) ⊎ ((fault ≡ TooLong) × (argument_limit < length (joined request.now.args)))) }
+{
+    find_answer(alloc, policy, request, default)
 }
 
 /// Returns the name of the user as whom commands run by default.

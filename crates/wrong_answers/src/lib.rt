@@ -6,7 +6,9 @@ mod listings;
 mod matches;
 mod people;
 
-pub use answers::{answer_request, decide_list, default_user, find_cycle, groups_of_hosts};
+pub use answers::{
+    answer_request, decide_list, default_user, find_cycle, find_rule, groups_of_hosts,
+};
 pub use listings::{explain_answer, list_rules};
 pub use matches::{
     hits_network, matches_command, matches_group, matches_host, matches_pattern, matches_user,

@@ -1,11 +1,11 @@
-use Rattle.std.proofs.Common.{◌≡◌, ℕ, List, ◌∷◌, [], length, sym, ap, ap₂, subst, ◌∙◌}
+use Rattle.std.proofs.Common.{List, ◌∷◌, [], length, sym, subst}
 use Rattle.sudoers_line.specs.declared.node.Kind.TheVariants.{Cmnd}
 use Rattle.sudoers_line.specs.declared.node.Member.{Member}
 use Rattle.sudoers_rows.specs.View.{member_shown, members_shown}
 use Rattle.sudoers_tree.specs.Definition.{definitions}
 use Rattle.sudoers_hits.specs.declared.asked.CommandLine.{CommandLine}
 use Rattle.sudoers_hits.specs.Hits.{command_hits}
-use Rattle.sudoers_match.specs.Answer.{command_line, joined}
+use Rattle.sudoers_match.specs.Answer.{command_line}
 use Rattle.sudoers_list.specs.Inner.{IsInnermost, Says}
 use Rattle.sudoers_list.specs.Inside.{inner_shown}
 use Rattle.sudoers_list.proofs.Going.{begins}
@@ -13,40 +13,28 @@ use Rattle.sudoers_list.proofs.Speaking.{members_say}
 use Rattle.sudoers_list.proofs.inner.innermost.Goals as goal
 
 pub go_in-requires-clause-verdicts : goal.go_in-requires-clause-verdicts
-go_in-requires-clause-verdicts c = c.in_ok-verdicts.ensures Cmnd (command_hits (record { path = c.in_ok-from_slice.field-0; args = c.from_vec.result }))
+go_in-requires-clause-verdicts c = c.in_ok-verdicts.ensures Cmnd (command_hits c.in_ok-command.command)
 
 pub go_in-requires-clause-says : goal.go_in-requires-clause-says
 go_in-requires-clause-says c =
     let lines = c.args.policy.now in
     let asked = command_line c.args.request.now in
-    let held : CommandLine = record { path = c.in_ok-from_slice.field-0; args = c.from_vec.result } in
     let m : Member = member_shown c.args.member.now in
     let ms : List Member = members_shown c.in-Some.outer.members in
-    let same : held ≡ asked =
-    ap₂ (λ (path args : List ℕ). record { path = path; args = args }) (c.in_ok-from_slice.ensures ∙ c.as_slice.ensures)
-    (c.from_vec.ensures ∙ c.in_ok-join_words.ensures ∙ ap joined c.as_slice-2.ensures) in
-    subst (λ (k : CommandLine). Says lines (command_hits k) ms) (sym same) (members_say lines (command_hits asked) m ms (sym c.in-Some.ensures.members) c.requires)
+    subst (λ (k : CommandLine). Says lines (command_hits k) ms) (sym c.in_ok-command.ensures)
+    (members_say lines (command_hits asked) m ms (sym c.in-Some.ensures.members) c.requires)
 
 pub go_in-requires-clause-within : goal.go_in-requires-clause-within
 go_in-requires-clause-within c =
     let lines = c.args.policy.now in
     let m : Member = member_shown c.args.member.now in
-    let name = c.in-Some.outer.name.now in
     let latest = c.requires.1 in
-    begins lines (length (definitions lines)) m name latest.flat c.in-Some.ensures.name latest.is_flat
+    begins lines (length (definitions lines)) m c.in-Some.outer.name.now latest.flat c.in-Some.ensures.name latest.is_flat
     (c.flattened_is_flat.ensures Cmnd lines c.is_acyclic.ensures.policy (m ∷ []) latest.flat latest.is_flat)
 
 pub returns : goal.returns
 returns c =
     let lines = c.args.policy.now in
-    let asked = command_line c.args.request.now in
-    let held : CommandLine = record { path = c.in_ok-from_slice.field-0; args = c.from_vec.result } in
     let name = c.in-Some.outer.name.now in
     let inner = inner_shown c.in_ok-go_in.field-0 in
-    let same : held ≡ asked =
-    ap₂ (λ (path args : List ℕ). record { path = path; args = args }) (c.in_ok-from_slice.ensures ∙ c.as_slice.ensures)
-    (c.from_vec.ensures ∙ c.in_ok-join_words.ensures ∙ ap joined c.as_slice-2.ensures) in (
-      name,
-      c.in-Some.ensures.name,
-      subst (λ (k : CommandLine). IsInnermost lines (command_hits k) name inner) same c.in_ok-go_in.ensures,
-    )
+    (name, c.in-Some.ensures.name, subst (λ (k : CommandLine). IsInnermost lines (command_hits k) name inner) c.in_ok-command.ensures c.in_ok-go_in.ensures)

@@ -70,7 +70,7 @@ returns-in-Some-clause-answer c users hosts user host h is m shown rows p =
     let place = c.args.place in
     let hit : IsLatest Cmnd lines (command_hits c.args.asked.now.command.now) (members_shown c.args.member.now) (Some c.in-Some.hit) =
     subst (IsLatest Cmnd lines (command_hits c.args.asked.now.command.now) (members_shown c.args.member.now)) c.in-Some.is c.in_ok-hit.ensures.hit in
-    subst (λ a. Answers lines r rows (Some a)) (sym (c.tell.ensures h is))
+    subst (λ a. Answers lines r rows (Some a)) (sym (c.tell.ensures.told h is))
     (by_latest lines r place.spec place.host_group users hosts place.command h user host
     (subst (λ o. RunasPermits lines r.who r.target r.target_group o true) is.runas
     (subst (RunasPermits lines r.who r.target r.target_group (option_map runas_shown c.args.head.now.runas)) c.if-not-branch.false c.in_ok-permits_runas.ensures.permits))

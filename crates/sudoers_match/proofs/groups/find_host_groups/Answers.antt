@@ -4,7 +4,6 @@ use Rattle.sudoers_hits.specs.Hits.{user_hits, host_hits}
 use Rattle.sudoers_rows.specs.View.{members_shown, groups_shown}
 use Rattle.sudoers_tree.specs.Line.{line_in}
 use Rattle.sudoers_match.specs.Allows.{Permits}
-use Rattle.sudoers_check.specs.Chains.{HasReachableCycle}
 use Rattle.sudoers_check.proofs.Lists.{Has_at}
 use Rattle.sudoers_verdict.specs.Search.{Remembers}
 use Rattle.sudoers_match.specs.declared.groups.GroupPlace.{GroupPlace}

@@ -1,4 +1,4 @@
-use Rattle.std.proofs.Common.{◌≡◌, ◌+◌, ◌∷◌, [], true, false, true≢false, Option, Some, None, map, refl, sym, subst, ap, ◌∙◌, arith}
+use Rattle.std.proofs.Common.{◌≡◌, ◌+◌, ◌∷◌, [], IfSome, true, false, true≢false, Option, Some, None, map, refl, sym, subst, ap, ◌∙◌, arith}
 use Rattle.std.specs.Option.{option_map, option_or, is_some}
 use Rattle.std.proofs.lemmas.List.{length-map}
 use Rattle.sudoers_line.specs.declared.node.Kind.TheVariants.{Host, Cmnd}
@@ -8,18 +8,20 @@ use Rattle.sudoers_rows.specs.View.{command_shown, commands_shown, group_shown, 
 use Rattle.sudoers_hits.specs.Hits.{host_hits}
 use Rattle.sudoers_match.specs.Allows.{Permits}
 use Rattle.sudoers_match.specs.Answer.{answer_shown}
+use Rattle.sudoers_match.specs.Found.{found_answer}
 use Rattle.sudoers_rows.specs.declared.view.RunasSpec.{RunasSpec as RunasView}
 use Rattle.sudoers_check.proofs.Lists.{Has_at}
 use Rattle.sudoers_match.specs.declared.head.Head.{Head as HeadHeld}
-use Rattle.sudoers_match.specs.Heads.{Head, inherit}
+use Rattle.sudoers_match.specs.Heads.{Head, filled, inherit, no_head}
 use Rattle.sudoers_match.specs.IsHead.{IsHead}
-use Rattle.sudoers_match.specs.Question.{IsListSoFar, PermittedIs}
+use Rattle.sudoers_match.specs.Question.{IsListSoFar, IsOfGroup, PermittedIs, found_with}
 use Rattle.sudoers_match.specs.Straight.{RunasIsStraight, CommandIsStraight, IsStraight}
-use Rattle.sudoers_match.proofs.Gathered.{at_map}
+use Rattle.sudoers_match.proofs.Founds.{answer_found, group_found, some_or}
+use Rattle.sudoers_match.proofs.Gathered.{at_drop, at_map, drop_at}
 use Rattle.sudoers_match.proofs.Lasts.{map_or}
 use Rattle.sudoers_match.proofs.Rowed.{no_host, inherit_straight, list_none, list_more, list_all}
-use Rattle.sudoers_match.proofs.answering.answer_in_group.Goals as goal
-use Rattle.sudoers_match.proofs.answering.answer_in_group.Goals.{then-is_some, else-is_some}
+use Rattle.sudoers_match.proofs.answering.find_in_group.Goals as goal
+use Rattle.sudoers_match.proofs.answering.find_in_group.Goals.{then-is_some, else-is_some}
 
 -- A command without a Runas_Spec of its own keeps that of the commands before it.
 kept_runas : (x : Option RunasView) (old new : HeadHeld) (before : Head) (cmd : CmdSpec) → is_some x ≡ false → cmd.runas ≡ option_map runas_shown x
@@ -34,7 +36,7 @@ returns-then-not-branch-clause-answer c users user rows p =
     let g = group_shown c.args.group.now in
     let says = c.in_ok-allows.ensures.allowed in
     let one = c.if-not-branch.true in
-    no_host lines r c.args.spec c.args.host_group users g rows
+    no_host lines r c.args.at.spec c.args.at.host_group users g rows
     (subst (Permits Host lines (host_hits r.who) g.hosts) one says) p
 
 pub loop-command-init : goal.loop-command-init
@@ -52,8 +54,9 @@ loop-command-init c =
         own = was.own;
       };
       permitted = tt;
-      so_far = list_none c.args.asked.now.policy.now c.args.asked.now.request.now c.args.spec c.args.host_group (members_shown g.hosts)
+      so_far = list_none c.args.asked.now.policy.now c.args.asked.now.request.now c.args.at.spec c.args.at.host_group (members_shown g.hosts)
           (map (command_in g.commands.tables.now) g.commands.rows.now) c.args.head.now c.requires.head;
+      found = tt;
     }
 
 pub answer_of_command-requires-clause-runas : goal.answer_of_command-requires-clause-runas
@@ -112,21 +115,30 @@ loop-command-preserved c =
     let is = c.inherit.ensures s.head s.is_head in
     let host : Permits Host lines (host_hits r.who) hosts true =
     subst (Permits Host lines (host_hits r.who) hosts) c.if-not-branch.false c.in_ok-allows.ensures.allowed in
-    let old = option_map answer_shown c.loop-command.latest in
+    let written = c.command-written.result in
+    let with_command = found_with c.args.line c.inherit.new.self written.member in
+    let old = option_map found_answer c.loop-command.latest in
     let new = option_map answer_shown c.in_ok-answer.answer in
     record {
       question = c.in_ok-answer.ensures.kept;
       permitted = c.in_ok-answer.ensures.permitted;
-      so_far = subst (IsListSoFar lines r c.args.spec c.args.host_group hosts cs (k + 1) c.inherit.new.self)
-          (sym (ap (option_map answer_shown) c.or-latest.ensures ∙ map_or answer_shown c.in_ok-answer.answer c.loop-command.latest))
-          (list_more lines r c.args.spec c.args.host_group hosts cs k cmd at c.loop-command.head c.inherit.new.self old new s is straight.runas
+      so_far = subst (IsListSoFar lines r c.args.at.spec c.args.at.host_group hosts cs (k + 1) c.inherit.new.self)
+          (sym (ap (option_map found_answer) (c.or-latest.ensures ∙ ap (λ o. option_or o c.loop-command.latest) c.find_at.ensures)
+          ∙ map_or found_answer (option_map with_command c.in_ok-answer.answer) c.loop-command.latest
+          ∙ ap (λ o. option_or o old) (answer_found c.args.line c.inherit.new.self written.member c.in_ok-answer.answer)))
+          (list_more lines r c.args.at.spec c.args.at.host_group hosts cs k cmd at c.loop-command.head c.inherit.new.self old new s is straight.runas
           (λ users user rows p. c.in_ok-answer.ensures.answer users hosts user host (inherit s.head cmd) is cmd.member shown rows p));
+      found = subst (λ o. IfSome o (IsOfGroup c.args.line c.args.at (group_shown g))) (sym (c.or-latest.ensures ∙ ap (λ o. option_or o c.loop-command.latest) c.find_at.ensures))
+          (some_or (IsOfGroup c.args.line c.args.at (group_shown g)) (option_map with_command c.in_ok-answer.answer) c.loop-command.latest
+          (group_found c.args.line c.args.at (group_shown g) k c.inherit.new.self written.member (inherit s.head cmd) is
+          (at_drop (filled no_head cs) k _ _ (s.left ∙ ap (filled s.head) (drop_at cs k cmd at))) c.in_ok-answer.answer c.in_ok-answer.ensures.place)
+          c.loop-command.invariant.found);
     }
 
 pub returns-clause-answer : goal.returns-clause-answer
 returns-clause-answer c users user rows p =
     let g = c.args.group.now in
     let t = g.commands.tables.now in
-    list_all c.args.asked.now.policy.now c.args.asked.now.request.now c.args.spec c.args.host_group (members_shown g.hosts) (map (command_in t) g.commands.rows.now)
-    c.loop-command.command c.loop-command.head (option_map answer_shown c.loop-command.latest)
+    list_all c.args.asked.now.policy.now c.args.asked.now.request.now c.args.at.spec c.args.at.host_group (members_shown g.hosts) (map (command_in t) g.commands.rows.now)
+    c.loop-command.command c.loop-command.head (option_map found_answer c.loop-command.latest)
     (omega (arith, c.loop-command-test.false, length-map g.commands.rows.now (command_in t))) c.loop-command.invariant.so_far users user rows p

@@ -1,0 +1,46 @@
+use Rattle.std.proofs.Common.{◌≡◌, Err, MatchBool, rules, subst, sym}
+use Rattle.std.specs.Option.{option_map}
+use Rattle.sudoers_verdict.specs.declared.verdict.AskFault.{AskFault}
+use Rattle.sudoers_match.specs.Found.{found_answer}
+use Rattle.sudoers_list.specs.Reason.{IsReason}
+use Rattle.sudoers_run.specs.LayerOf.{layer_of_ask}
+use Rattle.sudoers_run.specs.List.{allowed_text}
+use Rattle.sudoers_run.proofs.ListLemmas.{Answered, answer_refused}
+use Rattle.sudoers_run.proofs.list.answer_text.Goals as goal
+
+pub returns-in_err-found-clause-answered : goal.returns-in_err-found-clause-answered
+returns-in_err-found-clause-answered c =
+    let w = c.args.words.now in
+    let lines = c.args.policy.now in
+    let r = c.args.request.now in
+    let fault : AskFault = c.in_err-found.field-0.0 in
+    let same : c.from_residual.result ≡ Err (layer_of_ask fault) = search rules in
+    subst (Answered w c.args.file.now lines r) (sym same) (answer_refused w c.args.file.now lines r c.is_acyclic.ensures.straight fault c.in_err-found.ensures.fault)
+
+pub returns-then-words-clause-answered : goal.returns-then-words-clause-answered
+returns-then-words-clause-answered c =
+    let w = c.args.words.now in
+    let answer = option_map found_answer c.in_ok-found.found in
+    let text = c.in_ok-text.text.items in
+    record {
+      straight = c.is_acyclic.ensures.straight;
+      short = c.in_ok-found.ensures.short;
+      answer = answer;
+      is_answer = c.in_ok-found.ensures.answer;
+      text = subst (λ b. MatchBool b (IsReason c.args.policy.now c.args.request.now c.args.file.now answer text) (text ≡ allowed_text w.words.now answer)) (sym c.if-words.true) c.in_ok-text.ensures;
+      status = c.allowed_status-status.ensures;
+    }
+
+pub returns-clause-answered : goal.returns-clause-answered
+returns-clause-answered c =
+    let w = c.args.words.now in
+    let answer = option_map found_answer c.in_ok-found.found in
+    let text = c.in_ok-text-2.text.items in
+    record {
+      straight = c.is_acyclic.ensures.straight;
+      short = c.in_ok-found.ensures.short;
+      answer = answer;
+      is_answer = c.in_ok-found.ensures.answer;
+      text = subst (λ b. MatchBool b (IsReason c.args.policy.now c.args.request.now c.args.file.now answer text) (text ≡ allowed_text w.words.now answer)) (sym c.if-words.false) c.in_ok-text-2.ensures;
+      status = c.allowed_status-status.ensures;
+    }
