@@ -1,5 +1,5 @@
 -- Devices of the proof, which no public contract cites.
-use Rattle.std.specs.Prelude.{◌≡◌, ℕ, false, List, [], ◌∷◌, ◌++◌, codes, slice_get, Option, Some, None}
+use Rattle.std.specs.Prelude.{◌≡◌, ℕ, false, List, [], ◌∷◌, ◌++◌, codes, Option, Some}
 use Rattle.sudoers_line.specs.declared.node.Kind.TheVariants.{Runas}
 use Rattle.sudoers_line.specs.declared.node.Member.{Member}
 use Rattle.sudoers_rows.specs.View.{member_shown}

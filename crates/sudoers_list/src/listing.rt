@@ -68,8 +68,7 @@ pub fn list(alloc: Global, policy: &Policy, who: &Who) -> Result<Vec<u8>, AskFau
     Ok(list_rules(alloc, &policy, who, default)?)
 }
 
-/// Returns what `who` may run, as [`list`] does, of a policy none of whose reachable aliases is cyclic. `default` is the user as whom
-/// a command runs where nothing else is said.
+/// Returns what `who` may run, as [`list`] does. `default` is the user as whom a command runs where nothing else is said.
 ///
 /// # Errors
 ///

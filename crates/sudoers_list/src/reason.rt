@@ -144,6 +144,7 @@ pub fn explain(
     ensures straight { IfOk result (λ _. HasReachableCycle policy.now → ⊥) }
     ensures fault { IfErr result (λ fault. (fault ≡ NoMemory) ⊎ ((fault ≡ Cycle) × HasReachableCycle policy.now)) }
 {
+    // A request has one answer, so the row that is found has the one that is given.
     one_answer();
     let policy = Acyclic::new(alloc, policy)?;
     let default = find_default(alloc, &policy, &request.who)?;
@@ -151,8 +152,8 @@ pub fn explain(
     Ok(explain_answer(alloc, &policy, request, default, found, file)?)
 }
 
-/// Returns why `request` has this answer, as [`explain`] does, of a policy none of whose reachable aliases is cyclic. `default` is the
-/// user as whom a command runs where nothing else is said.
+/// Returns why `request` has its answer, as [`explain`] does, from the row `found` that gives it. `default` is the user as whom a
+/// command runs where nothing else is said.
 ///
 /// # Errors
 ///

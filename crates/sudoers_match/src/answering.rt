@@ -60,8 +60,8 @@ pub fn answer<'a>(
     Ok(take_answer(found))
 }
 
-/// Returns the row whose answer [`answer`] returns, with its command, of a policy none of whose reachable aliases is cyclic. `default`
-/// is the user as whom a command runs where nothing else is said.
+/// Returns the last row of `policy` that fits `request`, with its answer and its command, if a row fits. `default` is the user as whom a
+/// command runs where nothing else is said.
 ///
 /// # Errors
 ///
@@ -85,7 +85,7 @@ pub fn find_answer<'a>(
     Ok(find_row(alloc, policy, request, default)?)
 }
 
-/// Returns the row that [`find_answer`] returns, however long the arguments are.
+/// Returns the row that [`find_answer`] returns for `request`, however long its arguments are.
 ///
 /// # Errors
 ///

@@ -68,7 +68,7 @@ pub fn runas_default<'a>(alloc: Global, policy: &'a Policy, who: &Who) -> Result
     Ok(find_default(alloc, &policy, who)?)
 }
 
-/// Returns what [`runas_default`] does, of a policy none of whose reachable aliases is cyclic.
+/// Returns the name of the user as whom a command runs for `who` where nothing else is said, as [`runas_default`] does.
 ///
 /// # Errors
 ///

@@ -40,7 +40,7 @@ pub fn host_groups(alloc: Global, policy: &Policy, who: &Who) -> Result<Vec<Grou
     Ok(find_host_groups(alloc, &policy, who)?)
 }
 
-/// Returns what [`host_groups`] does, of a policy none of whose reachable aliases is cyclic.
+/// Returns the places of the host groups whose users and whose hosts match `who`, as [`host_groups`] does.
 ///
 /// # Errors
 ///

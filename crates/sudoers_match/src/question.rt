@@ -1,11 +1,10 @@
 //! What is known of the aliases for one request.
 
 ghost use Rattle.std.specs.Prelude.{◌≡◌, IfOk};
-ghost use Rattle.sudoers_line.specs.declared.node.Kind.TheVariants.{User as OfUsers, Runas as OfRunas, Host as OfHosts};
+ghost use Rattle.sudoers_line.specs.declared.node.Kind.TheVariants.{Runas as OfRunas};
 ghost use Rattle.sudoers_rows.specs.View.{members_shown, runas_shown};
 ghost use Rattle.std.specs.Option.{option_map};
-ghost use Rattle.sudoers_hits.specs.Hits.{user_hits, host_hits};
-ghost use Rattle.sudoers_verdict.specs.Search.{Remembers};
+ghost use Rattle.sudoers_hits.specs.Hits.{user_hits};
 ghost use Rattle.sudoers_match.specs.Allows.{Permits};
 ghost use Rattle.sudoers_match.specs.Answer.{command_line};
 ghost use Rattle.sudoers_match.specs.Default.{IsRunasDefault};
