@@ -1,4 +1,4 @@
-//! What the results of `list` say of its readers.
+//! What the results of `list` say of its readers, and in which order it reads its files.
 
 ghost use Rattle.sudoers_run.specs.List.{ReadsFiles};
 
