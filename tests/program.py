@@ -8,7 +8,8 @@ from dataclasses import dataclass
 from tally import difference, shown
 
 NAME = b"sudoers_tool: "
-SECONDS = 30
+# the longest takes some 15 s on a quiet machine; a busy one may need several times as long
+SECONDS = 120
 
 
 @dataclass(frozen=True)
