@@ -20,7 +20,7 @@ or an error in that column. Its column `Request` has what bob asks on the host h
 options of `list` and a command. PEOPLE are the users and groups.
 
 The pages of PAGES_OF_CRATES have a link to the README of each crate that they are about.
-The tables of docs/AUDIT.md are what scripts/audit prints.
+The tables of docs/AUDIT.md are what scripts/audit prints. exported.py looks for devices of proofs in what is exported.
 """
 
 import functools
@@ -35,6 +35,7 @@ import tempfile
 from dataclasses import dataclass, field
 
 import converting
+import exported
 import named_cases
 from program import Wanted, run
 from tally import difference
@@ -79,7 +80,7 @@ LIST_WORDS = ("list", "--passwd", "passwd", "--group-file", "group", "--moment",
 BOB_ON_H1 = ("-U", "bob", "--host", "h1", "--interfaces", "10.0.0.1/8")
 
 # The pages that have a link to crates, and the beginnings of the names of these crates.
-PAGES_OF_CRATES = {"docs/ARCHITECTURE.md": "", "docs/TRUST.md": "sudoers_"}
+PAGES_OF_CRATES = {"docs/ARCHITECTURE.md": ("",), "docs/TRUST.md": ("sudoers_", "laws_")}
 PROGRAM = "sudoers_tool"
 
 # The page that holds what a script prints, and the lines around that.
@@ -320,7 +321,7 @@ def run_crates(tally):
         crates = [line.split(":")[0] for line in file.read().split("\n") if line]
     for page, begun in PAGES_OF_CRATES.items():
         linked = {os.path.basename(os.path.dirname(link)) for _, link in read_document(page).links}
-        wanted = [crate for crate in crates if crate.startswith(begun) and (begun == "" or crate != PROGRAM)]
+        wanted = [crate for crate in crates if crate.startswith(begun) and (begun == ("",) or crate != PROGRAM)]
         tally.note(f"{page}, crates", [f"there is no link to {crate}" for crate in wanted if crate not in linked])
 
 
@@ -345,9 +346,10 @@ def run_audit(tally):
         lines = re.findall(r"^ *(\d+)  crates/", audited(*command.split()), re.MULTILINE)
         tally.note(f"{AUDIT}, files of {command}", difference("lines", int(total), sum(map(int, lines))))
     code = ""
-    for path in glob.glob(os.path.join(TOP, "crates", "sudoers_*", "src", "*.rt")):
-        with open(path, encoding="utf-8") as file:
-            code += file.read()
+    for crates in ("sudoers_*", "laws_*"):
+        for path in glob.glob(os.path.join(TOP, "crates", crates, "src", "*.rt")):
+            with open(path, encoding="utf-8") as file:
+                code += file.read()
     cells = [cell for line in page.split("\n") if line.startswith("| ") for cell in cells_of(line)[1:]]
     cited = sorted(set(re.findall(r"`(\w+)`", " ".join(cells))))
     form = r"^(?:pub fn|pub trait|    ensures) {}\b"
@@ -366,6 +368,7 @@ def run_all(program, tally):
     named_cases.run_all(tally)
     run_crates(tally)
     run_audit(tally)
+    exported.run_all(tally)
     if not visudo():
         tally.skip("documents, what sudo answers", f"visudo of sudo {SUDO.decode()} is not installed")
     for name in names():

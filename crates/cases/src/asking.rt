@@ -6,11 +6,11 @@ use crate::drawn::{
 use crate::edited::push_edited;
 use std::alloc::{AllocError, Global};
 use sudoers_edit::Editor;
-use sudoers_hits::{CommandLine, Group, Person, Who};
 use sudoers_list::list;
 use sudoers_match::{Request, answer, host_groups, runas_default};
+use sudoers_match_list::{Commands, Groups, Hosts, MemberKind, Users, decide};
+use sudoers_match_member::{CommandLine, Group, Person, Who};
 use sudoers_tree::{Kind, Policy, ReadFault};
-use sudoers_verdict::{Commands, Groups, Hosts, MemberKind, Users, decide};
 
 /// What is asked of a policy.
 #[derive(Clone, Copy)]

@@ -3,8 +3,10 @@ ghost use Rattle.std.specs.Prelude.{◌≡◌, false};
 ghost use Rattle.sudoers_text.specs.Ended.{has_unended_inside};
 ghost use Rattle.sudoers_tree.specs.Policy.{texts};
 
-use sudoers_text::{ends_in_lf, is_logical_line, lines_stand_alone, whole_line_is};
-use sudoers_tree::{Policy, ReadFault, policy_is_cut};
+use sudoers_text::laws::{lines_stand_alone, whole_line_is};
+use sudoers_text::{ends_in_lf, is_logical_line};
+use sudoers_tree::laws::policy_is_cut;
+use sudoers_tree::{Policy, ReadFault};
 
 /// Puts a line into a policy. `None` if it is no line, or a line without LF would stand before another.
 pub fn with_line(policy: &mut Policy, at: usize, line: &[u8]) -> Option<Result<(), ReadFault>> {

@@ -2,10 +2,10 @@
 
 use std::alloc::AllocError;
 use std::fmt::{Debug, Display};
-use sudoers_hits::{Group, Interface, Person, Who};
 use sudoers_line::{Address, Mask};
+use sudoers_list_people::{Account, GroupRow, People, PeopleFault, PeopleFile, WhoFault};
 use sudoers_match::{Answer, AskFault, GroupPlace, Options, Request, Tags};
-use sudoers_people::{Account, GroupRow, People, PeopleFault, PeopleFile, WhoFault};
+use sudoers_match_member::{Group, Interface, Person, Who};
 
 /// Adds `value` as `{:?}` writes it.
 pub fn push_debug(value: &impl Debug, answers: &mut String) -> Result<(), AllocError> {

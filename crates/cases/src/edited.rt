@@ -1,9 +1,9 @@
 //! What a policy answers to a request after edits.
 
 use crate::drawn::push_answered;
+use laws_edit::answer_of;
 use std::alloc::{AllocError, Global};
 use sudoers_edit::{Edit, Editor, read_script};
-use sudoers_edit_laws::answer_of;
 use sudoers_match::Request;
 
 /// Adds what the editor's policy answers to `request` after the edits of `script`; `no script` if it is none, `refused` if an edit is.

@@ -2,9 +2,9 @@
 
 use crate::frames::{number_of, part_of, words_of};
 use std::alloc::{AllocError, Global};
-use sudoers_hits::{CommandLine, Group, Interface, Person, Who};
 use sudoers_line::{Address, Items, Mask};
 use sudoers_match::Request;
+use sudoers_match_member::{CommandLine, Group, Interface, Person, Who};
 
 /// Returns the number that four bytes are, the first highest: 0 if there are fewer.
 fn id_of(bytes: &[u8]) -> u32 {

@@ -1,12 +1,12 @@
-//! What `sudoers_text`, `sudoers_line` and `sudoers_reader` say of a text.
+//! What `sudoers_text`, `sudoers_line` and `sudoers_line_reader` say of a text.
 //!
 //! The body of a call is the text. Its answer is what `{:?}` writes.
 
 use crate::drawn::push_debug;
 use crate::frames::Call;
 use std::alloc::{AllocError, Global};
-use sudoers_reader::{Reading, parse};
-use sudoers_rows::alias_members;
+use sudoers_line_reader::{Reading, parse};
+use sudoers_line_rows::alias_members;
 use sudoers_text::{
     LINE_LIMIT, Lines, Mode, TEXT_LIMIT, begins_line_end, blanks_len, cut, ends_in_lf,
     is_logical_line, is_name, is_reserved, is_whole_argument, line_end_len, line_mode, tokens,

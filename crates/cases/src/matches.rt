@@ -1,4 +1,4 @@
-//! What `sudoers_hits` says of patterns and networks, `sudoers_verdict` of lists, `sudoers_match` of policies, and of policies that
+//! What `sudoers_match_member` says of patterns and networks, `sudoers_match_list` of lists, `sudoers_match` of policies, and of policies that
 //! `sudoers_edit` edited.
 //!
 //! The body of a call holds two parts, a pattern and a text or a network and interfaces; or a policy, and the parts of a question.
@@ -10,7 +10,7 @@ use crate::given::{
     command_of, group_of, interfaces_of, network_of, person_of, request_of, user_of, who_of,
 };
 use std::alloc::{AllocError, Global};
-use sudoers_hits::{GlobMode, glob, glob_as_read, network_hits};
+use sudoers_match_member::{GlobMode, glob, glob_as_read, network_hits};
 use sudoers_tree::Kind;
 
 /// Adds the answer to `call`; `unknown` if this is not known.

@@ -1,13 +1,13 @@
-//! What `sudoers_people` says of the texts of passwd and group and of who asks what, and what `sudoers_list` and `sudoers_match` say
+//! What `sudoers_list_people` says of the texts of passwd and group and of who asks what, and what `sudoers_list` and `sudoers_match` say
 //! of him.
 
 use crate::asking::{self, Question};
 use crate::drawn::{push_people, push_people_fault, push_request, push_who, push_who_fault};
 use crate::frames::{Call, next_part, part_of, words_of};
 use std::alloc::{AllocError, Global};
-use sudoers_hits::Who;
+use sudoers_list_people::{People, WhoFault, request_for, who_for};
 use sudoers_match::Request;
-use sudoers_people::{People, WhoFault, request_for, who_for};
+use sudoers_match_member::Who;
 
 /// What is asked.
 #[derive(Clone, Copy)]

@@ -8,8 +8,8 @@ ghost use Rattle.sudoers_text.specs.Fault.{IsCut};
 use crate::drawn::push_shown;
 use crate::frames::{Call, number_of};
 use std::alloc::{AllocError, Global};
-use sudoers_reader::read_line;
-use sudoers_rows::Tables;
+use sudoers_line_reader::read_line;
+use sudoers_line_rows::Tables;
 use sudoers_text::{Lines, TextFault, cut, line_mode, tokens};
 
 /// Adds the last count; `unknown` if the work is not known.

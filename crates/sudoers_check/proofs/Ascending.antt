@@ -3,7 +3,7 @@ use Rattle.std.proofs.Common.{◌≡◌, ◌<◌, ◌≤◌, ◌-◌, ◌∙◌,
 use Rattle.std.proofs.lemmas.Bool.{cases_lt}
 use Rattle.std.proofs.lemmas.Option.{slice_get_within}
 use Rattle.sudoers_check.specs.Chain.{Has}
-use Rattle.sudoers_check.specs.Search.{Ascends}
+use Rattle.sudoers_check.specs.internal.Search.{Ascends}
 use Rattle.sudoers_check.proofs.Lists.{Has_at, place_of, get_front, get_pushed, get_push}
 
 module _ {X : Type 0} (key : X → ℕ) where

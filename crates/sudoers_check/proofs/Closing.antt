@@ -7,11 +7,11 @@ use Rattle.std.proofs.lemmas.List.{length-set, length-append, take-take}
 use Rattle.std.proofs.Math.Seq.{take-append_seam}
 use Rattle.std.proofs.lemmas.Option.{slice_get_within, slice_get-get_or}
 use Rattle.sudoers_check.specs.Chain.{Has, Chain, here, onward}
-use Rattle.sudoers_check.specs.Graph.{edges_of, Leads, IsOnCycle}
+use Rattle.sudoers_check.specs.internal.Graph.{edges_of, Leads, IsOnCycle}
 use Rattle.sudoers_check.specs.declared.cycles.Standing.{Standing}
 use Rattle.sudoers_check.specs.declared.cycles.Standing.TheVariants.{New, Open, Closed}
 use Rattle.sudoers_check.specs.declared.cycles.Step.{Step}
-use Rattle.sudoers_check.specs.Search.{Path, place_of_step, IsNotBefore, IsLookedAt, IsOnward, IsMet, IsSearch, IsClosed, IsMark}
+use Rattle.sudoers_check.specs.internal.Search.{Path, place_of_step, IsNotBefore, IsLookedAt, IsOnward, IsMet, IsSearch, IsClosed, IsMark}
 use Rattle.sudoers_check.proofs.Lists.{place_of, get_pushed, Has_front, Has_pushed, Has_push, get-set_same, get-set_other, get_cut, get_kept}
 use Rattle.sudoers_check.proofs.Ascending.{ascends_front, ascends_last}
 use Rattle.sudoers_check.proofs.Fuel.{fresh_closed}

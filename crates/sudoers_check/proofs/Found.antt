@@ -8,8 +8,8 @@ use Rattle.std.proofs.lemmas.Option.{slice_get_within, slice_get-get_or, get_or_
 use Rattle.std.proofs.lemmas.Bool.{cases_lt}
 use Rattle.sudoers_check.specs.Chain.{Has, here, onward}
 use Rattle.std.specs.List.{AllByRecursion}
-use Rattle.sudoers_check.specs.Graph.{AreNodes, edges_of, Leads, IsReached, Marks}
-use Rattle.sudoers_check.specs.Found.{IsMarked, IsFound, IsGrown, IsFoundFrom}
+use Rattle.sudoers_check.specs.internal.Graph.{AreNodes, edges_of, Leads, IsReached, Marks}
+use Rattle.sudoers_check.specs.internal.Found.{IsMarked, IsFound, IsGrown, IsFoundFrom}
 use Rattle.sudoers_check.proofs.Lists.{Has_at, place_of, get_front, get_pushed, get_push, get-set_same, get-set_other, get-set}
 
 none_marked : (n v : ℕ) → IsMarked (replicate n false) v → ⊥

@@ -1,11 +1,11 @@
 -- How many steps of the search are left.
 use Rattle.std.proofs.Common.{◌≡◌, ◌+◌, ◌-◌, ℕ, zero, suc, List, [], ◌∷◌, ◌++◌, length, slice_get, Some, refl, arith}
 use Rattle.std.proofs.Math.ListN.{set}
-use Rattle.sudoers_check.specs.Graph.{edges_of}
+use Rattle.sudoers_check.specs.internal.Graph.{edges_of}
 use Rattle.sudoers_check.specs.declared.cycles.Standing.{Standing}
 use Rattle.sudoers_check.specs.declared.cycles.Standing.TheVariants.{New, Open, Closed}
 use Rattle.sudoers_check.specs.declared.cycles.Step.{Step}
-use Rattle.sudoers_check.specs.Search.{fresh, left}
+use Rattle.sudoers_check.specs.internal.Search.{fresh, left}
 
 pub fresh_entered : (standings : List Standing) (graph : List (List ℕ)) (v p : ℕ) → slice_get standings v ≡ Some New → length standings ≡ length graph
     → fresh (set standings v (Open p)) graph + (1 + length (edges_of graph v)) ≡ fresh standings graph

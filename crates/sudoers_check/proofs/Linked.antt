@@ -2,17 +2,16 @@
 use Rattle.std.proofs.Common.{◌≡◌, ◌⊎◌, inl, inr, ℕ, zero, suc, ◌+◌, ◌<◌, ◌≤◌, Bool, true, false, not, List, [], ◌∷◌, ◌++◌, length, map, refl, sym, ap, subst, ◌∙◌, arith, if◌then◌else◌, Option, Some, None, option_map, slice_get, slice_index_or, flat_map, filter_map}
 use Rattle.std.specs.List.{cons_option, filter}
 use Rattle.sudoers_line.specs.declared.node.Kind.{Kind}
-use Rattle.sudoers_line.specs.declared.node.Member.{Member}
-use Rattle.sudoers_line.specs.declared.node.Node.{Node}
-use Rattle.sudoers_line.specs.declared.node.Node.TheVariants as node
+use Rattle.sudoers_line.specs.Node.{Member, Node}
+use Rattle.sudoers_line.specs.Node as node
 use Rattle.sudoers_tree.specs.Line.{Line}
 use Rattle.sudoers_tree.specs.Definition.{Definition, is_kind, definitions, defines, defined}
-use Rattle.sudoers_tree.specs.Policy.{AreOnce, IsPolicy}
+use Rattle.sudoers_tree.specs.Policy.{AreOnce, IsWalk}
 use Rattle.sudoers_check.specs.Chain.{Has, Chain, here, onward}
 use Rattle.sudoers_check.specs.Chains.{Joins, name_in, names_in, roots_in, roots}
 use Rattle.sudoers_check.specs.Mentioned.{Mention, mentioned_in}
 use Rattle.sudoers_check.specs.Led.{is_unused, is_used, is_cyclic}
-use Rattle.sudoers_check.specs.Graph.{edges_of, Leads, IsReached, IsOnCycle, Marks}
+use Rattle.sudoers_check.specs.internal.Graph.{edges_of, Leads, IsReached, IsOnCycle, Marks}
 use Rattle.sudoers_check.specs.Numbers.{number_of, numbers_of, numbers_among, nodes_of, graph_of, roots_since, is_rooting, picked}
 use Rattle.sudoers_check.proofs.Named.{has_append, has_front, has_back, has_flat, flat_has, same_kind, kind_itself, defines_is, defines_itself}
 use Rattle.sudoers_check.proofs.Mentions.{of_node, name_if, one_name}
@@ -129,11 +128,11 @@ has_at (y ∷ ys) x (inl e) = (0, ap (λ z. Some z) e)
 has_at (y ∷ ys) x (inr h) = let r = has_at ys x h in (suc r.0, r.1)
 
 -- each definition has its own number
-pub own_number : (lines : List Line) → IsPolicy lines → (d : Definition) → Has (definitions lines) d
+pub own_number : (lines : List Line) → IsWalk lines → (d : Definition) → Has (definitions lines) d
     → (n : ℕ) × (number_of d.kind d.def.name (definitions lines) ≡ Some n) × (slice_get (definitions lines) n ≡ Some d)
-own_number lines policy d h =
+own_number lines walk d h =
     let at = has_at (definitions lines) d h in
-    (at.0, its_own (definitions lines) policy.once at.0 d at.1, at.1)
+    (at.0, its_own (definitions lines) walk.once at.0 d at.1, at.1)
 
 -- ---- chains
 
@@ -314,9 +313,9 @@ used_marks lines marks once are =
         (λ name j h number. said_roots (definitions lines) 0 lines d.kind name j h number) d.def.name
         (used_is lines d (at_has (definitions lines) i d at) e) i d at refl refl)))
 
-pub cyclic_marks : (lines : List Line) (marks : List Bool) → IsPolicy lines → Marks (IsOnCycle (graph_of (definitions lines))) (length (graph_of (definitions lines))) marks
+pub cyclic_marks : (lines : List Line) (marks : List Bool) → IsWalk lines → Marks (IsOnCycle (graph_of (definitions lines))) (length (graph_of (definitions lines))) marks
     → marks ≡ map (is_cyclic lines) (definitions lines)
-cyclic_marks lines marks policy are =
+cyclic_marks lines marks walk are =
     marks_are (is_cyclic lines) marks (definitions lines) (are.size ∙ graph_length (definitions lines)) each
   where
     edges_at : (i : ℕ) (d : Definition) → slice_get (definitions lines) i ≡ Some d → edges_of (graph_of (definitions lines)) i ≡ numbers_of d.kind (names_in d.def.members) (definitions lines)
@@ -328,6 +327,6 @@ cyclic_marks lines marks policy are =
         (names_led (definitions lines) (Leads (graph_of (definitions lines)) i) (λ k. Has (names_in d.def.members)) (edges_begun (definitions lines) i d at) i (are.holds i mark) d at))
     each i d false at mark =
         refuted (is_cyclic lines d) (λ e. are.fails i mark
-        (numbers_led (definitions lines) policy.once (Leads (graph_of (definitions lines)) i) d.kind (Has (names_in d.def.members))
+        (numbers_led (definitions lines) walk.once (Leads (graph_of (definitions lines)) i) d.kind (Has (names_in d.def.members))
         (λ name j h number. subst (λ edges. Has edges j) (sym (edges_at i d at)) (have_numbers d.kind (names_in d.def.members) (definitions lines) j name h number)) d.def.name
         (cyclic_is lines d (at_has (definitions lines) i d at) e) i d at refl refl))

@@ -5,13 +5,12 @@ use Rattle.std.proofs.lemmas.List.{length-append}
 use Rattle.std.proofs.lemmas.Option.{slice_get_within, slice_get-get_or, get_or_from_slice_get}
 use Rattle.sudoers_line.specs.declared.node.Kind.{Kind}
 use Rattle.sudoers_line.specs.declared.node.Kind.TheVariants.{User, Runas, Host, Cmnd}
-use Rattle.sudoers_line.specs.declared.node.Def.{Def}
-use Rattle.sudoers_line.specs.declared.node.Node.{Node}
-use Rattle.sudoers_line.specs.declared.node.Node.TheVariants as node
+use Rattle.sudoers_line.specs.Node.{Def, Node}
+use Rattle.sudoers_line.specs.Node as node
 use Rattle.sudoers_tree.specs.Line.{Line}
 use Rattle.sudoers_tree.specs.declared.place.Place.{Place}
 use Rattle.sudoers_tree.specs.Definition.{Definition, is_kind, definitions_from, definitions_in, definitions_since, definitions, defines, defined, place_of}
-use Rattle.sudoers_tree.specs.Policy.{count_of, IsPolicy}
+use Rattle.sudoers_tree.specs.Policy.{count_of, IsWalk}
 use Rattle.sudoers_check.specs.Chain.{Has}
 use Rattle.sudoers_check.specs.Numbers.{count_in, first_of, firsts_since, number_of}
 use Rattle.sudoers_check.specs.declared.numbers.First.{First}
@@ -55,12 +54,12 @@ by_kinds : (ds : List Definition) → length ds ≡ count_of User ds + count_of 
 by_kinds [] = refl
 by_kinds (d ∷ ds) = one_more d.kind (length ds) (count_of User ds) (count_of Runas ds) (count_of Host ds) (count_of Cmnd ds) (by_kinds ds)
 
-pub few_in_all : (lines : List Line) → IsPolicy lines → length (definitions lines) ≤ 16384
-few_in_all lines policy =
-    omega (arith, by_kinds (definitions lines), policy.few User, policy.few Runas, policy.few Host, policy.few Cmnd)
+pub few_in_all : (lines : List Line) → IsWalk lines → length (definitions lines) ≤ 16384
+few_in_all lines walk =
+    omega (arith, by_kinds (definitions lines), walk.few User, walk.few Runas, walk.few Host, walk.few Cmnd)
 
-pub few_total : (lines : List Line) → IsPolicy lines → total lines ≤ 16384
-few_total lines policy = omega (arith, few_in_all lines policy, since_length 0 lines)
+pub few_total : (lines : List Line) → IsWalk lines → total lines ≤ 16384
+few_total lines walk = omega (arith, few_in_all lines walk, since_length 0 lines)
 
 -- WHICH
 

@@ -5,14 +5,13 @@ use Rattle.std.specs.List.{AllByRecursion, cons_option}
 use Rattle.sudoers_line.specs.declared.node.Kind.{Kind}
 use Rattle.sudoers_line.specs.declared.node.Atom.{Atom}
 use Rattle.sudoers_line.specs.declared.node.Atom.TheVariants as atom
-use Rattle.sudoers_line.specs.declared.node.Def.{Def}
-use Rattle.sudoers_line.specs.declared.node.Member.{Member}
+use Rattle.sudoers_line.specs.Node.{Def, Member}
 use Rattle.sudoers_line.specs.Listed.{alias_of, aliases_among, listed_as}
 use Rattle.sudoers_tree.specs.Line.{Line}
 use Rattle.sudoers_tree.specs.Definition.{Definition, definitions_from, defines}
 use Rattle.sudoers_check.specs.Mentioned.{Mention, mentioned_in}
 use Rattle.sudoers_check.specs.Chains.{name_in, names_in}
-use Rattle.sudoers_check.specs.Graph.{AreNodes, IsGraph}
+use Rattle.sudoers_check.specs.internal.Graph.{AreNodes, IsGraph}
 use Rattle.sudoers_check.specs.Numbers.{number_of, numbers_of, numbers_named, numbers_among, nodes_of, graph_of, roots_since, is_rooting}
 
 -- ---- those of a line

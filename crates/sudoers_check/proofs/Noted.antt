@@ -8,10 +8,8 @@ use Rattle.sudoers_text.specs.Fault.{lf_count}
 use Rattle.sudoers_line.specs.declared.node.Kind.{Kind}
 use Rattle.sudoers_line.specs.declared.node.Atom.{Atom}
 use Rattle.sudoers_line.specs.declared.node.Atom.TheVariants as atom
-use Rattle.sudoers_line.specs.declared.node.Member.{Member}
-use Rattle.sudoers_line.specs.declared.node.Def.{Def}
-use Rattle.sudoers_line.specs.declared.node.Node.{Node}
-use Rattle.sudoers_line.specs.declared.node.Node.TheVariants as node
+use Rattle.sudoers_line.specs.Node.{Member, Def, Node}
+use Rattle.sudoers_line.specs.Node as node
 use Rattle.sudoers_tree.specs.Line.{Line}
 use Rattle.sudoers_tree.specs.declared.place.Place.{Place}
 use Rattle.sudoers_tree.specs.Physical.{row_behind, column_behind}
@@ -24,7 +22,7 @@ use Rattle.sudoers_line.specs.Listed.{Listed, listed}
 use Rattle.sudoers_check.specs.Mentioned.{Mention, mention_of, mentioned_in, mentioned_since, is_of}
 use Rattle.sudoers_check.specs.Numbers.{count_in, picked}
 use Rattle.sudoers_check.specs.Report.{note_at, note_of_mention, note_of_definition, is_first_undefined, undefined_behind, undefined_of, text_at}
-use Rattle.sudoers_check.specs.Noting.{note_in, noted_defs, noted_node, noted_from, noted_mentions, undefined_from, places_from, unmarked_places, places_since, Agrees}
+use Rattle.sudoers_check.specs.internal.Noting.{note_in, noted_defs, noted_node, noted_from, noted_mentions, undefined_from, places_from, unmarked_places, places_since, Agrees}
 use Rattle.sudoers_check.proofs.Named.{both, not_both, same_kind, has_append, flat_has}
 use Rattle.std.proofs.lemmas.Slice.Eq.{bytes_eq-Decides}
 use Rattle.sudoers_check.proofs.Located.{total, in_length}

@@ -1,8 +1,8 @@
 -- Ways along edges, joined and taken apart.
 use Rattle.std.proofs.Common.{◌≡◌, ◌⊎◌, inl, inr, ℕ, List, sym, subst}
 use Rattle.sudoers_check.specs.Chain.{Chain, here, onward}
-use Rattle.sudoers_check.specs.Graph.{Leads, IsOnCycle}
-use Rattle.sudoers_check.specs.Search.{Path}
+use Rattle.sudoers_check.specs.internal.Graph.{Leads, IsOnCycle}
+use Rattle.sudoers_check.specs.internal.Search.{Path}
 
 module _ (graph : List (List ℕ)) where
   pub path_on : (P : ℕ → Type 0) (v w : ℕ) → Chain (Leads graph) P v → Path graph v w → Chain (Leads graph) P w

@@ -5,11 +5,11 @@ use Rattle.std.proofs.lemmas.Bool.{cases_lt, cases_eq}
 use Rattle.std.proofs.lemmas.List.{length-set}
 use Rattle.std.proofs.lemmas.Option.{slice_get_within, slice_get-get_or}
 use Rattle.sudoers_check.specs.Chain.{Has, here, onward}
-use Rattle.sudoers_check.specs.Graph.{edges_of, Leads}
+use Rattle.sudoers_check.specs.internal.Graph.{edges_of, Leads}
 use Rattle.sudoers_check.specs.declared.cycles.Standing.{Standing}
 use Rattle.sudoers_check.specs.declared.cycles.Standing.TheVariants.{New, Open, Closed}
 use Rattle.sudoers_check.specs.declared.cycles.Step.{Step}
-use Rattle.sudoers_check.specs.Search.{Path, place_of_step, IsNotBefore, IsLookedAt, IsOnward, IsSearch, IsJoined}
+use Rattle.sudoers_check.specs.internal.Search.{Path, place_of_step, IsNotBefore, IsLookedAt, IsOnward, IsSearch, IsJoined}
 use Rattle.sudoers_check.proofs.Lists.{Has_at, place_of, get_front, get_pushed, get_push, Has_front, Has_pushed, Has_push, get-set_same, get-set_other, get-set}
 use Rattle.sudoers_check.proofs.Ascending.{ascends_front, ascends_last, ascends_push}
 use Rattle.sudoers_check.proofs.Paths.{path_on}

@@ -2,12 +2,12 @@
 use Rattle.std.proofs.Common.{◌≡◌, ◌<◌, inl, inr, ℕ, Bool, List, [], ◌∷◌, ◌++◌, length, slice_get, Option, Some, None, refl, sym, ap, subst, arith}
 use Rattle.std.proofs.Math.ListN.{set}
 use Rattle.std.proofs.lemmas.Option.{slice_get_within}
-use Rattle.sudoers_check.specs.Graph.{edges_of}
+use Rattle.sudoers_check.specs.internal.Graph.{edges_of}
 use Rattle.sudoers_check.specs.declared.cycles.Search.{Search}
 use Rattle.sudoers_check.specs.declared.cycles.Standing.{Standing}
 use Rattle.sudoers_check.specs.declared.cycles.Standing.TheVariants.{New, Open, Closed}
 use Rattle.sudoers_check.specs.declared.cycles.Step.{Step}
-use Rattle.sudoers_check.specs.Search.{Path, IsMet, IsSearch, IsJoined, IsEntered, IsStep, Searches, fresh, left, fuel}
+use Rattle.sudoers_check.specs.internal.Search.{Path, IsMet, IsSearch, IsJoined, IsEntered, IsStep, Searches, fresh, left, fuel}
 use Rattle.sudoers_check.proofs.Fuel.{fresh_entered, left_push}
 use Rattle.sudoers_check.proofs.Lists.{Has_at, get-set}
 use Rattle.sudoers_check.proofs.Searching.{one_more, all_reach, advanced, led_to_closed, led_to_open, led_to_new}

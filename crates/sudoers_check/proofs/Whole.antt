@@ -1,10 +1,10 @@
 -- Where the search ends.
 use Rattle.std.proofs.Common.{◌≡◌, ◌<◌, ℕ, Bool, true, false, List, [], length, get_or, slice_get, Some, None, arith}
 use Rattle.std.proofs.lemmas.Option.{slice_get_within, slice_get-get_or}
-use Rattle.sudoers_check.specs.Graph.{IsOnCycle, Marks}
+use Rattle.sudoers_check.specs.internal.Graph.{IsOnCycle, Marks}
 use Rattle.sudoers_check.specs.declared.cycles.Standing.{Standing}
 use Rattle.sudoers_check.specs.declared.cycles.Standing.TheVariants.{New, Open, Closed}
-use Rattle.sudoers_check.specs.Search.{IsMet, IsSearch}
+use Rattle.sudoers_check.specs.internal.Search.{IsMet, IsSearch}
 
 module _ (graph : List (List ℕ)) (standings : List Standing) (marks : List Bool) (nodes groups : List ℕ) (f : IsSearch graph None standings marks nodes groups []) where
   -- at the end of the way no node is open

@@ -3,9 +3,5 @@ pub mod Mentioned
 pub mod Chains
 pub mod Led
 pub mod Report
-pub mod Graph
 pub mod Numbers
-pub mod Found
-pub mod Search
-pub mod Seen
-pub mod Noting
+pub mod internal

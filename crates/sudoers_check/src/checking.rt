@@ -1,22 +1,22 @@
 //! The checks.
 
 ghost use Rattle.std.specs.Prelude.{◌≡◌, ◌++◌, true, false, length, map, IfOk, OnOk};
-ghost use Rattle.sudoers_rows.specs.View.{node_shown};
+ghost use Rattle.sudoers_line_rows.specs.View.{node_shown};
 ghost use Rattle.sudoers_tree.specs.Line.{lines_shown};
 ghost use Rattle.sudoers_tree.specs.Definition.{definitions, Definition};
 ghost use Rattle.sudoers_check.specs.Led.{is_used, is_cyclic, unused_of, cyclic_of};
-ghost use Rattle.sudoers_check.specs.Numbers.{picked, graph_of};
-ghost use Rattle.sudoers_check.specs.Noting.{places_from, unmarked_places};
+ghost use Rattle.sudoers_check.specs.Numbers.{picked, graph_of, roots_since};
+ghost use Rattle.sudoers_check.specs.internal.Noting.{places_from, unmarked_places};
 ghost use Rattle.sudoers_check.specs.Report.{report_of};
 
 use crate::cycles::on_cycles;
 use crate::graph::Graph;
 use crate::lines::{count_definitions, find_kind};
 use crate::notes::{marked_notes, undefined_notes};
-use crate::numbers::Numbers;
+use crate::numbers::{Links, Numbers};
 use crate::report::Report;
 use std::alloc::{AllocError, Global};
-use sudoers_tree::{Kind, LineRow, Node, Place, Policy, Rows};
+use sudoers_tree::{Kind, LineRow, Node, Place, Policy, Rows, Walk};
 
 /// Returns what is to be noted of the aliases of a policy (visudo(8)).
 ///
@@ -26,10 +26,11 @@ use sudoers_tree::{Kind, LineRow, Node, Place, Policy, Rows};
 pub fn check(alloc: Global, policy: &Policy) -> Result<Report, AllocError>
     ensures { IfOk result (λ report. report ≡ report_of policy.now) }
 {
-    let numbers = Numbers::new(alloc, policy)?;
-    let graph = numbers.graph(alloc)?;
-    let reached = reached(alloc, &numbers, &graph, &policy.lines())?;
-    let cyclic = cyclic(alloc, &numbers, &graph)?;
+    let numbers = Numbers::new(alloc, policy.walk())?;
+    let lines = policy.lines();
+    let links = numbers.links(alloc, &lines)?;
+    let reached = reached(alloc, &numbers, &links, &lines)?;
+    let cyclic = cyclic(alloc, &numbers, &links.graph)?;
     Ok(Report {
         undefined: undefined_notes(alloc, policy)?,
         cyclic: marked_notes(alloc, policy, cyclic.as_slice(), true)?,
@@ -45,25 +46,21 @@ pub fn check(alloc: Global, policy: &Policy) -> Result<Report, AllocError>
 pub fn unused(alloc: Global, policy: &Policy) -> Result<Vec<(Kind, Place)>, AllocError>
     ensures { IfOk result (λ places. places.items ≡ map (λ (d : Definition). (d.kind, d.place)) (unused_of policy.now)) }
 {
-    let numbers = Numbers::new(alloc, policy)?;
-    let graph = numbers.graph(alloc)?;
-    let reached = reached(alloc, &numbers, &graph, &policy.lines())?;
-    unmarked(alloc, policy, reached.as_slice())
+    let walk = policy.walk();
+    let numbers = Numbers::new(alloc, walk)?;
+    let reached = mark_used(alloc, &numbers, &walk.lines())?;
+    unmarked(alloc, walk, reached.as_slice())
 }
 
 /// Returns the places of the definitions that have no mark, with their kinds.
-fn unmarked(
-    alloc: Global,
-    policy: &Policy,
-    marks: &[bool],
-) -> Result<Vec<(Kind, Place)>, AllocError>
-    requires { length marks.now ≡ length (definitions policy.now) }
+fn unmarked(alloc: Global, walk: &Walk, marks: &[bool]) -> Result<Vec<(Kind, Place)>, AllocError>
+    requires { length marks.now ≡ length (definitions walk.now) }
     ensures { IfOk result (λ places. places.items
-        ≡ map (λ (d : Definition). (d.kind, d.place)) (picked false marks.now (definitions policy.now))) }
+        ≡ map (λ (d : Definition). (d.kind, d.place)) (picked false marks.now (definitions walk.now))) }
 {
     let mut places = Vec::new(alloc);
     let mut rest = marks;
-    let lines = policy.lines();
+    let lines = walk.lines();
     for (number, row) in lines.rows.iter().enumerate() {
         let node = lines.tables.node(&row.node);
         let (here, behind) = rest.split_at(count_definitions(&node));
@@ -73,23 +70,22 @@ fn unmarked(
     Ok(places)
 }
 
-/// Returns a mark for each definition of `policy`: whether a user specification or a Defaults line among `lines` leads to it. The lines
-/// define what the policy defines.
+/// Returns a mark for each numbered definition: whether a user specification or a Defaults line among `lines` leads to it. The lines
+/// define what the walk of `numbers` defines.
 ///
 /// # Errors
 ///
 /// Memory ran out.
 pub fn mark_used(
     alloc: Global,
-    policy: &Policy,
+    numbers: &Numbers<'_>,
     lines: &Rows<'_, LineRow>,
 ) -> Result<Vec<bool>, AllocError>
-    requires { definitions (lines_shown lines.now) ≡ definitions policy.now }
+    requires { definitions (lines_shown lines.now) ≡ definitions numbers.now.walk.now }
     ensures { IfOk result (λ marks. marks.items ≡ map (is_used (lines_shown lines.now)) (definitions (lines_shown lines.now))) }
 {
-    let numbers = Numbers::new(alloc, policy)?;
-    let graph = numbers.graph(alloc)?;
-    reached(alloc, &numbers, &graph, lines)
+    let links = numbers.links(alloc, lines)?;
+    reached(alloc, numbers, &links, lines)
 }
 
 /// Returns a mark for each definition: whether a user specification or a Defaults line among `lines` leads to it. The lines define what
@@ -97,25 +93,25 @@ pub fn mark_used(
 fn reached(
     alloc: Global,
     numbers: &Numbers<'_>,
-    graph: &Graph,
+    links: &Links,
     lines: &Rows<'_, LineRow>,
 ) -> Result<Vec<bool>, AllocError>
-    requires graph { graph.now ≡ graph_of (definitions numbers.now.policy.now) }
-    requires same { definitions (lines_shown lines.now) ≡ definitions numbers.now.policy.now }
+    requires graph { links.now.graph ≡ graph_of (definitions numbers.now.walk.now) }
+    requires roots { links.now.roots.items ≡ roots_since (definitions numbers.now.walk.now) 0 (lines_shown lines.now) }
+    requires same { definitions (lines_shown lines.now) ≡ definitions numbers.now.walk.now }
     ensures { IfOk result (λ marks. marks.items ≡ map (is_used (lines_shown lines.now)) (definitions (lines_shown lines.now))) }
 {
-    numbers.policy.is_policy();
-    let roots = numbers.roots(alloc, lines)?;
-    let marks = graph.reached(alloc, roots.as_slice())?;
+    numbers.walk.is_walk();
+    let marks = links.graph.reached(alloc, links.roots.as_slice())?;
     Ok(marks)
 }
 
 /// Returns a mark for each definition: whether it is joined to itself.
 fn cyclic(alloc: Global, numbers: &Numbers<'_>, graph: &Graph) -> Result<Vec<bool>, AllocError>
-    requires { graph.now ≡ graph_of (definitions numbers.now.policy.now) }
-    ensures { IfOk result (λ marks. marks.items ≡ map (is_cyclic numbers.now.policy.now) (definitions numbers.now.policy.now)) }
+    requires { graph.now ≡ graph_of (definitions numbers.now.walk.now) }
+    ensures { IfOk result (λ marks. marks.items ≡ map (is_cyclic numbers.now.walk.now) (definitions numbers.now.walk.now)) }
 {
-    numbers.policy.is_policy();
+    numbers.walk.is_walk();
     let marks = on_cycles(alloc, graph)?;
     Ok(marks)
 }

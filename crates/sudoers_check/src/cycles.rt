@@ -1,9 +1,9 @@
 //! Nodes on cycles.
 
 ghost use Rattle.std.specs.Prelude.{◌≡◌, ◌<◌, ◌≤◌, [], ◌↔◌, ℕ, Some, slice_get, length, IfOk, OnOk, IsTrue};
-ghost use Rattle.sudoers_check.specs.Graph.{edges_of, Leads, IsOnCycle, Marks};
+ghost use Rattle.sudoers_check.specs.internal.Graph.{edges_of, Leads, IsOnCycle, Marks};
 ghost use Rattle.sudoers_check.specs.declared.cycles.Standing.TheVariants.{Open};
-ghost use Rattle.sudoers_check.specs.Search.{Ascends, Closes, HasMet, IsEntered, IsJoined, Searches, SearchesTo, Steps};
+ghost use Rattle.sudoers_check.specs.internal.Search.{Ascends, Closes, HasMet, IsEntered, IsJoined, Searches, SearchesTo, Steps};
 
 use crate::graph::Graph;
 use std::alloc::{AllocError, Global};

@@ -2,8 +2,8 @@
 
 ghost use Rattle.std.specs.Prelude.{◌≡◌, ◌<◌, length, map, [], List, ℕ, IfOk, OnOk};
 ghost use Rattle.std.specs.List.{AllByRecursion};
-ghost use Rattle.sudoers_check.specs.Found.{IsFound, IsGrown};
-ghost use Rattle.sudoers_check.specs.Graph.{edges_of, AreNodes, IsGraph, IsReached, Marks};
+ghost use Rattle.sudoers_check.specs.internal.Found.{IsFound, IsGrown};
+ghost use Rattle.sudoers_check.specs.internal.Graph.{edges_of, AreNodes, IsGraph, IsReached, Marks};
 
 use std::alloc::{AllocError, Global};
 use std::marker::Model;
@@ -17,7 +17,7 @@ pub struct Graph {
 impl Model for Graph {
     ghost use Rattle.std.specs.Prelude.{ℕ, List, map};
     ghost use Rattle.std.specs.declared.vec.Vec.{Vec};
-    ghost use Rattle.sudoers_check.specs.Graph.{IsGraph};
+    ghost use Rattle.sudoers_check.specs.internal.Graph.{IsGraph};
 
     ghost Value = { List (List ℕ) };
 

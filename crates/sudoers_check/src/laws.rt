@@ -5,7 +5,7 @@ ghost use Rattle.std.specs.List.{filter};
 ghost use Rattle.sudoers_line.specs.declared.node.Kind.{Kind as KindOf};
 ghost use Rattle.sudoers_tree.specs.Line.{Line as LineOf};
 ghost use Rattle.sudoers_tree.specs.Definition.{Definition, definitions};
-ghost use Rattle.sudoers_tree.specs.Policy.{IsPolicy};
+ghost use Rattle.sudoers_tree.specs.Policy.{IsWalk};
 ghost use Rattle.sudoers_tree.specs.Mention.{mentions};
 ghost use Rattle.sudoers_check.specs.Chain.{Has};
 ghost use Rattle.sudoers_check.specs.Chains.{IsReachable, IsCyclic};
@@ -32,8 +32,8 @@ pub fn mentions_are()
         ≡ map (λ (m : Mention). m.span) (filter (is_of k name) (mentioned lines)) }
 {}
 
-/// In a policy each definition has the number of its name.
+/// In a walk each definition has the number of its name.
 pub fn numbers_are()
-    ensures { (lines : List LineOf) → IsPolicy lines → (d : Definition) → Has (definitions lines) d
+    ensures { (lines : List LineOf) → IsWalk lines → (d : Definition) → Has (definitions lines) d
         → (n : ℕ) × (number_of d.kind d.def.name (definitions lines) ≡ Some n) × (slice_get (definitions lines) n ≡ Some d) }
 {}

@@ -5,7 +5,7 @@ mod checking;
 mod cursor;
 mod cycles;
 mod graph;
-mod laws;
+pub mod laws;
 mod lines;
 mod mentioned;
 mod notes;
@@ -14,6 +14,5 @@ mod report;
 mod seen;
 
 pub use checking::{check, mark_used, unused};
-pub use laws::{chains_are, mentions_are, numbers_are};
-pub use numbers::Numbers;
+pub use numbers::{First, Numbers};
 pub use report::{Note, Report, report_text};

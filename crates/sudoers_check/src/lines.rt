@@ -1,9 +1,9 @@
 //! What the checks ask of a line, of what it says.
 
 ghost use Rattle.std.specs.Prelude.{◌≡◌};
-ghost use Rattle.sudoers_rows.specs.View.{node_shown};
+ghost use Rattle.sudoers_line_rows.specs.View.{node_shown};
 ghost use Rattle.sudoers_check.specs.Numbers.{count_in, is_rooting as may_root};
-ghost use Rattle.sudoers_check.specs.Noting.{kind_in};
+ghost use Rattle.sudoers_check.specs.internal.Noting.{kind_in};
 
 use sudoers_tree::{Kind, Node};
 

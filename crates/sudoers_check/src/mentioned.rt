@@ -1,7 +1,7 @@
 //! What a line mentions, in the order in which it stands there.
 
 ghost use Rattle.std.specs.Prelude.{◌≡◌, map, IfOk};
-ghost use Rattle.sudoers_rows.specs.View.{node_shown};
+ghost use Rattle.sudoers_line_rows.specs.View.{node_shown};
 ghost use Rattle.sudoers_check.specs.Mentioned.{mention_at, mentioned_in};
 
 use std::alloc::{AllocError, Global};

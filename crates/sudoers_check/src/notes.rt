@@ -2,12 +2,12 @@
 
 ghost use Rattle.std.specs.Prelude.{◌≡◌, ◌++◌, ◌∷◌, [], ◌+◌, ◌<◌, ◌^◌, List, ℕ, length, map, IfOk, OnOk};
 ghost use Rattle.sudoers_line.specs.declared.node.Kind.{Kind as KindOf};
-ghost use Rattle.sudoers_rows.specs.View.{defs_shown, node_shown};
+ghost use Rattle.sudoers_line_rows.specs.View.{defs_shown, node_shown};
 ghost use Rattle.sudoers_tree.specs.Definition.{definitions};
 ghost use Rattle.sudoers_check.specs.Report.{note_of_mention, note_of_definition, undefined_of, undefined_behind, is_first_undefined};
 ghost use Rattle.sudoers_check.specs.Mentioned.{Mention as MentionOf};
 ghost use Rattle.sudoers_check.specs.Numbers.{picked, count_in as count_of};
-ghost use Rattle.sudoers_check.specs.Noting.{note_in, noted_defs, noted_node, noted_from, noted_mentions, undefined_from, Agrees};
+ghost use Rattle.sudoers_check.specs.internal.Noting.{note_in, noted_defs, noted_node, noted_from, noted_mentions, undefined_from, Agrees};
 
 use crate::cursor::Cursor;
 use crate::lines::count_definitions;

@@ -1,8 +1,8 @@
 //! The definitions of a policy as the nodes of a graph, numbered in file order from 0.
 
 ghost use Rattle.std.specs.Prelude.{◌≡◌, ◌≢◌, ◌<◌, ◌≤◌, ◌++◌, ℕ, List, length, map, slice_index_or, None, IfOk, IfSome, OnOk};
-ghost use Rattle.sudoers_line.specs.declared.node.Def.{Def as DefOf};
-ghost use Rattle.sudoers_rows.specs.View.{defs_shown, members_shown, node_shown};
+ghost use Rattle.sudoers_line.specs.Node.{Def as DefOf};
+ghost use Rattle.sudoers_line_rows.specs.View.{defs_shown, members_shown, node_shown};
 ghost use Rattle.sudoers_tree.specs.Definition.{definitions, definitions_in};
 ghost use Rattle.sudoers_tree.specs.Line.{lines_shown};
 ghost use Rattle.sudoers_check.specs.Chains.{names_in};
@@ -14,26 +14,31 @@ use crate::graph::Graph;
 use crate::lines::{count_definitions, is_rooting};
 use crate::mentioned::mentioned_in;
 use std::alloc::{AllocError, Global};
-use sudoers_tree::{
-    AliasMember, DefRow, Kind, LineRow, MemberRow, Node, Policy, Rows, list_aliases,
-};
+use sudoers_tree::{AliasMember, DefRow, Kind, LineRow, MemberRow, Node, Rows, Walk, list_aliases};
 
 /// A line that defines aliases, and how many definitions stand before it.
 #[derive(Clone, Copy)]
-struct First {
-    line: usize,
-    number: usize,
+pub struct First {
+    pub line: usize,
+    pub number: usize,
+}
+
+/// The definitions, each with those that it mentions, and those that user specifications and Defaults lines mention.
+#[derive(Drop)]
+pub struct Links {
+    pub graph: Graph,
+    pub roots: Vec<usize>,
 }
 
 /// The numbers of the definitions of a policy, in file order from 0.
 #[derive(Drop)]
 pub struct Numbers<'a> {
-    pub policy: &'a Policy,
+    pub walk: &'a Walk,
     /// The lines that define aliases, in file order.
     firsts: Vec<First>,
     count: usize,
-    ghost firsts_are: { firsts.items ≡ firsts_since 0 0 policy.now },
-    ghost count_is: { count ≡ length (definitions policy.now) },
+    ghost firsts_are: { firsts.items ≡ firsts_since 0 0 walk.now },
+    ghost count_is: { count ≡ length (definitions walk.now) },
 }
 
 /// Adds the line with this number, before which `number` definitions stand, if it defines any aliases.
@@ -64,25 +69,25 @@ fn find_first(firsts: &[First], line: usize) -> Option<usize>
 }
 
 impl<'a> Numbers<'a> {
-    /// Returns the numbers of the definitions of `policy`.
+    /// Returns the numbers of the definitions of `walk`.
     ///
     /// # Errors
     ///
     /// Memory ran out.
-    pub fn new(alloc: Global, policy: &'a Policy) -> Result<Numbers<'a>, AllocError>
-        ensures { IfOk result (λ numbers. numbers.policy.now ≡ policy.now) }
+    pub fn new(alloc: Global, walk: &'a Walk) -> Result<Numbers<'a>, AllocError>
+        ensures { IfOk result (λ numbers. numbers.walk.now ≡ walk.now) }
     {
-        policy.is_policy();
+        walk.is_walk();
         let mut firsts = Vec::new(alloc);
         let mut count = 0;
-        let lines = policy.lines();
+        let lines = walk.lines();
         for (line, row) in lines.rows.iter().enumerate() {
             let many = count_definitions(&lines.tables.node(&row.node));
             append_first(line, count, many, &mut firsts)?;
             count += many;
         }
         Ok(Numbers {
-            policy,
+            walk,
             firsts,
             count,
         })
@@ -90,32 +95,51 @@ impl<'a> Numbers<'a> {
 
     /// Returns how many definitions there are.
     pub fn len(&self) -> usize
-        ensures { result ≡ length (definitions self.now.policy.now) }
+        ensures { result ≡ length (definitions self.now.walk.now) }
     {
         self.count
     }
 
     /// Returns the number of the definition of the alias `name` of this kind, if it is defined.
     pub fn of(&self, kind: Kind, name: &[u8]) -> Option<usize>
-        ensures { result ≡ number_of kind name.now (definitions self.now.policy.now) }
+        ensures { result ≡ number_of kind name.now (definitions self.now.walk.now) }
     {
-        self.policy.is_policy();
-        let place = self.policy.definition(kind, name)?;
+        self.walk.is_walk();
+        let place = self.walk.definition(kind, name)?;
         let at = find_first(self.firsts.as_slice(), place.line)?;
         Some(self.firsts[at].number + place.def)
     }
 
-    /// Returns the definitions, each with those that it mentions.
+    /// Returns the lines that define aliases, in file order.
+    pub fn firsts(&self) -> &[First]
+        ensures { result.now ≡ firsts_since 0 0 self.now.walk.now }
+    {
+        self.firsts.as_slice()
+    }
+
+    /// Returns the definitions among `lines`, each with those that it mentions, and those that the user specifications and Defaults lines
+    /// there mention. The lines define what the walk defines.
     #[tactic(auto, using(crate::proofs::Nodes::nodes_append))]
-    pub fn graph(&self, alloc: Global) -> Result<Graph, AllocError>
-        ensures { IfOk result (λ graph. graph ≡ graph_of (definitions self.now.policy.now)) }
+    pub(crate) fn links(
+        &self,
+        alloc: Global,
+        lines: &Rows<'_, LineRow>,
+    ) -> Result<Links, AllocError>
+        requires { definitions (lines_shown lines.now) ≡ definitions self.now.walk.now }
+        ensures graph { IfOk result (λ links. links.graph ≡ graph_of (definitions self.now.walk.now)) }
+        ensures roots { IfOk result (λ links. links.roots.items ≡ roots_since (definitions self.now.walk.now) 0 (lines_shown lines.now)) }
     {
         let mut nodes = Vec::new(alloc);
-        let lines = self.policy.lines();
-        for row in lines.rows {
-            self.append_line(alloc, &lines.tables.node(&row.node), &mut nodes)?;
+        let mut roots = Vec::new(alloc);
+        for (number, row) in lines.rows.iter().enumerate() {
+            let node = lines.tables.node(&row.node);
+            self.append_line(alloc, &node, &mut nodes)?;
+            if is_rooting(&node) {
+                self.append_mentioned(alloc, number, &node, &mut roots)?;
+            }
         }
-        Ok(Graph::from_nodes(nodes))
+        let graph = Graph::from_nodes(nodes);
+        Ok(Links { graph, roots })
     }
 
     /// Adds the definitions of a line.
@@ -127,7 +151,7 @@ impl<'a> Numbers<'a> {
         nodes: &mut Vec<Vec<usize>>,
     ) -> Result<(), AllocError>
         ensures { OnOk result ((n : ℕ) → map (λ edges. edges.items) nodes.new.items ≡ map (λ edges. edges.items) nodes.old.items
-            ++ nodes_of (definitions self.now.policy.now) (definitions_in n (node_shown node.now))) }
+            ++ nodes_of (definitions self.now.walk.now) (definitions_in n (node_shown node.now))) }
     {
         match node {
             Node::Alias { kind, defs } => self.append_nodes(alloc, *kind, defs, nodes),
@@ -143,7 +167,7 @@ impl<'a> Numbers<'a> {
         nodes: &mut Vec<Vec<usize>>,
     ) -> Result<(), AllocError>
         ensures { OnOk result (map (λ edges. edges.items) nodes.new.items ≡ map (λ edges. edges.items) nodes.old.items
-            ++ map (λ (d : DefOf). numbers_of kind (names_in d.members) (definitions self.now.policy.now)) (defs_shown defs.now)) }
+            ++ map (λ (d : DefOf). numbers_of kind (names_in d.members) (definitions self.now.walk.now)) (defs_shown defs.now)) }
     {
         let tables = defs.tables;
         for row in defs.rows {
@@ -162,7 +186,7 @@ impl<'a> Numbers<'a> {
         members: &Rows<'_, MemberRow>,
     ) -> Result<Vec<usize>, AllocError>
         ensures { IfOk result (λ numbers. numbers.items
-            ≡ numbers_of kind (names_in (members_shown members.now)) (definitions self.now.policy.now)) }
+            ≡ numbers_of kind (names_in (members_shown members.now)) (definitions self.now.walk.now)) }
     {
         let aliases = list_aliases(alloc, kind, members)?;
         self.of_aliases(alloc, aliases.as_slice())
@@ -174,7 +198,7 @@ impl<'a> Numbers<'a> {
         alloc: Global,
         aliases: &[AliasMember<'_>],
     ) -> Result<Vec<usize>, AllocError>
-        ensures { IfOk result (λ numbers. numbers.items ≡ numbers_named (definitions self.now.policy.now) aliases.now) }
+        ensures { IfOk result (λ numbers. numbers.items ≡ numbers_named (definitions self.now.walk.now) aliases.now) }
     {
         let mut numbers = Vec::new(alloc);
         for alias in aliases {
@@ -185,21 +209,7 @@ impl<'a> Numbers<'a> {
         Ok(numbers)
     }
 
-    /// Returns the numbers of the definitions that the user specifications and Defaults lines among `lines` mention.
-    pub fn roots(&self, alloc: Global, lines: &Rows<'_, LineRow>) -> Result<Vec<usize>, AllocError>
-        ensures { IfOk result (λ roots. roots.items
-            ≡ roots_since (definitions self.now.policy.now) 0 (lines_shown lines.now)) }
-    {
-        let mut roots = Vec::new(alloc);
-        for (number, row) in lines.rows.iter().enumerate() {
-            let node = lines.tables.node(&row.node);
-            if is_rooting(&node) {
-                self.append_mentioned(alloc, number, &node, &mut roots)?;
-            }
-        }
-        Ok(roots)
-    }
-
+    /// Adds the numbers of the definitions that a line mentions.
     fn append_mentioned(
         &self,
         alloc: Global,
@@ -208,7 +218,7 @@ impl<'a> Numbers<'a> {
         numbers: &mut Vec<usize>,
     ) -> Result<(), AllocError>
         ensures { OnOk result (numbers.new.items ≡ numbers.old.items
-            ++ numbers_among (definitions self.now.policy.now) (mentions_of number (node_shown node.now))) }
+            ++ numbers_among (definitions self.now.walk.now) (mentions_of number (node_shown node.now))) }
     {
         for mention in &mentioned_in(alloc, number, node)? {
             if let Some(number) = self.of(mention.kind, mention.name) {

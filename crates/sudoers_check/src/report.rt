@@ -7,6 +7,7 @@ ghost use Rattle.sudoers_check.specs.Report.{place_text, name_text, note_text, i
 
 use std::alloc::{AllocError, Global};
 use sudoers_line::kind_name;
+use sudoers_text::append_number;
 use sudoers_tree::{Items, Kind};
 
 /// A name in a policy: its physical line and its column in bytes, both from 1.
@@ -121,11 +122,4 @@ fn append_name(text: &mut Vec<u8>, word: &[u8], note: &Note) -> Result<(), Alloc
     text.extend_from_slice(b" ")?;
     text.extend_from_slice(note.name.as_slice())?;
     text.extend_from_slice(b"\n")
-}
-
-fn append_number(alloc: Global, text: &mut Vec<u8>, number: usize) -> Result<(), AllocError>
-    ensures { OnOk result (text.new.items ≡ text.old.items ++ decimal number) }
-{
-    let digits = number.to_string(alloc)?;
-    text.extend_from_slice(digits.as_bytes())
 }

@@ -3,7 +3,7 @@
 ghost use Rattle.std.specs.Prelude.{◌≡◌, ◌∷◌, [], not, ◌||◌, List, ℕ, IfOk, OnOk};
 ghost use Rattle.std.specs.Str.{bytes_eq};
 ghost use Rattle.sudoers_line.specs.declared.node.Kind.{Kind as KindOf};
-ghost use Rattle.sudoers_check.specs.Seen.{key, has_seen};
+ghost use Rattle.sudoers_check.specs.internal.Seen.{key, has_seen};
 
 use indexmap::IndexSet;
 use std::alloc::{AllocError, Global};

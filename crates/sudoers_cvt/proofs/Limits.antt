@@ -6,12 +6,12 @@ use Rattle.std.proofs.lemmas.List.{drop_more, length-append}
 use Rattle.std.proofs.lemmas.Grind.{flat_map-append}
 use Rattle.std.proofs.lemmas.Option.{slice_get-get_or}
 use Rattle.sudoers_text.specs.Fault.{text_limit, line_limit}
-use Rattle.sudoers_line.specs.declared.node.Node.{Node}
-use Rattle.sudoers_print.specs.Lines.{printed_line, printed_lines}
+use Rattle.sudoers_line.specs.Node.{Node}
+use Rattle.sudoers_cvt_spell.specs.Lines.{printed_line, printed_lines}
 use Rattle.sudoers_cvt.specs.declared.fault.CvtFault.{CvtFault}
 use Rattle.sudoers_cvt.specs.declared.fault.CvtFault.TheVariants.{Cycle, TooLarge, NotUtf8, NoMemory}
 use Rattle.sudoers_cvt.specs.Rules.{Rules, fits, lines_of, printed}
-use Rattle.sudoers_cvt.specs.Long.{IsLong, IsTooLong, PassesLimit, Fits, IsPrintFault}
+use Rattle.sudoers_cvt.specs.internal.Long.{IsLong, IsTooLong, PassesLimit, Fits, IsPrintFault}
 
 -- what is next in a list, by what each row says
 pub next_at : {X Y : Type 0} (f : X → Y) (xs : List X) (i : ℕ) (d : X) → i < length xs → (y : Y) → y ≡ f (get_or xs i d)

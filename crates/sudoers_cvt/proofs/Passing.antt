@@ -2,11 +2,11 @@
 use Rattle.std.proofs.Common.{◌≡◌, ℕ, ◌≤◌, List, [], ◌∷◌, ◌++◌, length, map, flat_map, codes, refl, sym, ap, subst, ◌∙◌, append_assoc, append-nil, arith}
 use Rattle.std.specs.List.{join_by}
 use Rattle.std.proofs.lemmas.List.{length-append}
-use Rattle.sudoers_line.specs.declared.node.CmdSpec.{CmdSpec}
+use Rattle.sudoers_line.specs.Node.{CmdSpec}
 use Rattle.sudoers_match.specs.declared.head.Head.{Head as HeadHeld}
 use Rattle.sudoers_match.specs.Heads.{Head, no_head, inherit, filled}
 use Rattle.sudoers_match.specs.IsHead.{IsHead}
-use Rattle.sudoers_print.specs.Commands.{printed_command}
+use Rattle.sudoers_cvt_spell.specs.Commands.{printed_command}
 use Rattle.sudoers_cvt.specs.Effective.{effective_command, effective_commands}
 
 -- commands behind others that leave this to be inherited

@@ -8,9 +8,9 @@ use Rattle.sudoers_line.specs.declared.node.Tag.{Tag}
 use Rattle.sudoers_line.specs.declared.node.Tag.TheVariants as tag
 use Rattle.sudoers_match.specs.Heads.{listed, option_of, option_names, tag_of, tags_of}
 use Rattle.sudoers_match.specs.Values.{values_of}
-use Rattle.sudoers_print.specs.Commands.{printed_options, printed_tags}
+use Rattle.sudoers_cvt_spell.specs.Commands.{printed_options, printed_tags}
 use Rattle.sudoers_cvt.specs.Effective.{listed_tags, tag_names}
-use Rattle.sudoers_cvt.specs.Said.{printed_value, printed_limits, printed_values, printed_last_tags, printed_said, printed_tags_said}
+use Rattle.sudoers_cvt.specs.internal.Said.{printed_value, printed_limits, printed_values, printed_last_tags, printed_said, printed_tags_said}
 
 abbrev named : (OptionName → Option (List ℕ)) → List OptionName → List (OptionName × List ℕ)
 named f names = filter_map (λ name. option_map (λ (value : List ℕ). (name, value)) (f name)) names

@@ -1,5 +1,4 @@
 pub mod Effective
 pub mod Rules
-pub mod Said
-pub mod Long
 pub mod Rule
+pub mod internal

@@ -1,9 +1,9 @@
 -- What one rule says.
 use Rattle.std.specs.Prelude.{map}
 use Rattle.std.specs.Option.{option_map}
-use Rattle.sudoers_line.specs.declared.node.Node.{Node}
-use Rattle.sudoers_line.specs.declared.node.Node.TheVariants as node
-use Rattle.sudoers_rows.specs.View.{def_shown, groups_shown, members_shown, params_shown, scope_shown}
+use Rattle.sudoers_line.specs.Node.{Node}
+use Rattle.sudoers_line.specs.Node as node
+use Rattle.sudoers_line_rows.specs.View.{def_shown, groups_shown, members_shown, params_shown, scope_shown}
 use Rattle.sudoers_cvt.specs.declared.rule.Rule.{Rule}
 use Rattle.sudoers_cvt.specs.declared.rule.Rule.TheVariants.{Defaults, Def, Spec}
 use Rattle.sudoers_cvt.specs.Effective.{effective_group}

@@ -3,11 +3,10 @@ use Rattle.std.specs.Prelude.{ℕ, ◌&&◌, nat_le, Bool, List, [], ◌∷◌, 
 use Rattle.std.specs.List.{flat_map, list_all}
 use Rattle.sudoers_text.specs.Fault.{text_limit, line_limit}
 use Rattle.sudoers_line.specs.declared.node.Kind.{Kind}
-use Rattle.sudoers_line.specs.declared.node.Def.{Def}
-use Rattle.sudoers_line.specs.declared.node.Node.{Node}
-use Rattle.sudoers_line.specs.declared.node.Node.TheVariants as node
+use Rattle.sudoers_line.specs.Node.{Def, Node}
+use Rattle.sudoers_line.specs.Node as node
 use Rattle.sudoers_tree.specs.Line.{Line}
-use Rattle.sudoers_print.specs.Lines.{printed_line, printed_lines}
+use Rattle.sudoers_cvt_spell.specs.Lines.{printed_line, printed_lines}
 use Rattle.sudoers_cvt.specs.Effective.{effective}
 
 -- Defaults lines; alias lines of one definition each; user specifications whose commands say all that holds of them

@@ -3,19 +3,19 @@
 ghost use Rattle.std.specs.Prelude.{◌≡◌, ◌++◌, OnOk};
 ghost use Rattle.std.specs.Option.{option_map};
 ghost use Rattle.sudoers_line.specs.declared.node.Kind.TheVariants.{Cmnd};
-ghost use Rattle.sudoers_rows.specs.View.{member_shown, runas_shown};
+ghost use Rattle.sudoers_line_rows.specs.View.{member_shown, runas_shown};
 ghost use Rattle.sudoers_match.specs.Heads.{Head as HeadOf};
 ghost use Rattle.sudoers_match.specs.IsHead.{IsHead};
 ghost use Rattle.sudoers_match.specs.Values.{values_shown, value_shown};
-ghost use Rattle.sudoers_print.specs.Commands.{printed_front, printed_command};
+ghost use Rattle.sudoers_cvt_spell.specs.Commands.{printed_front, printed_command};
 ghost use Rattle.sudoers_cvt.specs.Effective.{effective_command};
-ghost use Rattle.sudoers_cvt.specs.Said.{printed_value, printed_labels, printed_limits, printed_values, printed_said, printed_first_tags, printed_last_tags, printed_tags_said};
+ghost use Rattle.sudoers_cvt.specs.internal.Said.{printed_value, printed_labels, printed_limits, printed_values, printed_said, printed_first_tags, printed_last_tags, printed_tags_said};
 
 use std::alloc::{AllocError, Global};
+use sudoers_cvt_spell::{append_member, append_option, append_runas, append_tag};
 use sudoers_line::{Kind, OptionName, Tag};
+use sudoers_line_rows::{Member, RunasSpec};
 use sudoers_match::{Head, Options, Tags};
-use sudoers_print::{append_member, append_option, append_runas, append_tag};
-use sudoers_rows::{Member, RunasSpec};
 
 /// Appends an option, if it is set, and a blank.
 fn append_value(

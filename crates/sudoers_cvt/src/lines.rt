@@ -5,23 +5,23 @@ ghost use Rattle.std.specs.List.{join_by};
 ghost use Rattle.sudoers_text.specs.Fault.{line_limit};
 ghost use Rattle.sudoers_line.specs.declared.node.Kind.TheVariants.{User as OfUsers, Host as OfHosts};
 ghost use Rattle.std.specs.Option.{option_map};
-ghost use Rattle.sudoers_rows.specs.View.{commands_shown, def_shown, group_shown, groups_shown, members_shown, params_shown, scope_shown};
-ghost use Rattle.sudoers_print.specs.Parameters.{printed_defaults};
-ghost use Rattle.sudoers_print.specs.Commands.{printed_command};
-ghost use Rattle.sudoers_print.specs.Lines.{printed_def, printed_group, printed_line, printed_spec};
+ghost use Rattle.sudoers_line_rows.specs.View.{commands_shown, def_shown, group_shown, groups_shown, members_shown, params_shown, scope_shown};
+ghost use Rattle.sudoers_cvt_spell.specs.Parameters.{printed_defaults};
+ghost use Rattle.sudoers_cvt_spell.specs.Commands.{printed_command};
+ghost use Rattle.sudoers_cvt_spell.specs.Lines.{printed_def, printed_group, printed_line, printed_spec};
 ghost use Rattle.sudoers_cvt.specs.Effective.{effective_commands, effective_group};
 ghost use Rattle.sudoers_cvt.specs.Rules.{one_def};
 ghost use Rattle.sudoers_cvt.specs.Rule.{rule_shown};
-ghost use Rattle.sudoers_cvt.specs.Long.{IsLong, IsTooLong};
+ghost use Rattle.sudoers_cvt.specs.internal.Long.{IsLong, IsTooLong};
 
 use crate::fault::CvtFault;
 use crate::heads::append_command;
 use crate::rule::Rule;
 use std::alloc::{AllocError, Global};
+use sudoers_cvt_spell::{append_defaults, append_list};
 use sudoers_line::{Kind, kind_name};
+use sudoers_line_rows::{CommandRow, Def, GroupRow, HostGroup, MemberRow, ParamRow, Rows, Scope};
 use sudoers_match::Head;
-use sudoers_print::{append_defaults, append_list};
-use sudoers_rows::{CommandRow, Def, GroupRow, HostGroup, MemberRow, ParamRow, Rows, Scope};
 use sudoers_text::LINE_LIMIT;
 
 /// Appends the commands of a host group, each with all that holds of it.

@@ -3,16 +3,16 @@
 ghost use Rattle.std.specs.Prelude.{◌≡◌, ◌⊎◌, true, false, ◌≤◌, ◌<◌, ◌++◌, length, map, IfOk, OnOk, IfErr};
 ghost use Rattle.std.specs.List.{AllByRecursion};
 ghost use Rattle.sudoers_text.specs.Fault.{text_limit, line_limit};
-ghost use Rattle.sudoers_rows.specs.View.{member_shown};
+ghost use Rattle.sudoers_line_rows.specs.View.{member_shown};
 ghost use Rattle.sudoers_match.specs.Heads.{Head as HeadOf};
 ghost use Rattle.sudoers_match.specs.IsHead.{IsHead};
-ghost use Rattle.sudoers_print.specs.Commands.{printed_command};
-ghost use Rattle.sudoers_print.specs.Lines.{printed_line, printed_lines};
+ghost use Rattle.sudoers_cvt_spell.specs.Commands.{printed_command};
+ghost use Rattle.sudoers_cvt_spell.specs.Lines.{printed_line, printed_lines};
 ghost use Rattle.sudoers_cvt.specs.declared.fault.CvtFault.TheVariants.{TooLarge, NoMemory};
 ghost use Rattle.sudoers_cvt.specs.Effective.{effective_command};
 ghost use Rattle.sudoers_cvt.specs.Rules.{fits, printed};
 ghost use Rattle.sudoers_cvt.specs.Rule.{rule_shown};
-ghost use Rattle.sudoers_cvt.specs.Long.{Fits, IsPrintFault, PassesLimit};
+ghost use Rattle.sudoers_cvt.specs.internal.Long.{Fits, IsPrintFault, PassesLimit};
 
 use crate::fault::CvtFault;
 use crate::heads::append_command;
@@ -20,8 +20,8 @@ use crate::lines::rule_line;
 use crate::rule::Rule;
 use crate::rules::Rules;
 use std::alloc::{AllocError, Global};
+use sudoers_line_rows::Member;
 use sudoers_match::Head;
-use sudoers_rows::Member;
 use sudoers_text::TEXT_LIMIT;
 
 /// Appends rules, a line each.

@@ -1,7 +1,7 @@
 //! One rule of a policy.
 
 use sudoers_line::Kind;
-use sudoers_rows::{Def, GroupRow, MemberRow, ParamRow, Rows, Scope};
+use sudoers_line_rows::{Def, GroupRow, MemberRow, ParamRow, Rows, Scope};
 
 /// A rule: a Defaults line, a definition of an alias or a user specification (sudoers(5), SUDOERS FILE FORMAT).
 #[derive(Clone, Copy)]

@@ -1,7 +1,7 @@
 //! The rules of a policy.
 
-ghost use Rattle.std.specs.Prelude.{◌≡◌, ◌++◌, map, IfOk, IfErr, OnOk};
-ghost use Rattle.sudoers_rows.specs.View.{defs_shown, node_shown};
+ghost use Rattle.std.specs.Prelude.{◌≡◌, ◌++◌, length, map, IfOk, IfErr, OnOk};
+ghost use Rattle.sudoers_line_rows.specs.View.{defs_shown, node_shown};
 ghost use Rattle.sudoers_cvt.specs.declared.fault.CvtFault.TheVariants.{NoMemory};
 ghost use Rattle.sudoers_cvt.specs.Rule.{rule_shown};
 ghost use Rattle.sudoers_cvt.specs.Rules.{defaults_in, defs_in, one_def, rules_of, specs_in, marked, with_marked};
@@ -12,7 +12,7 @@ use crate::rule::Rule;
 use std::alloc::{AllocError, Global};
 use std::marker::Model;
 use sudoers_line::Kind;
-use sudoers_rows::{DefRow, Node, Rows};
+use sudoers_line_rows::{DefRow, Node, Rows};
 use sudoers_tree::LineRow;
 
 /// The rules of a policy: its Defaults lines, its definitions of aliases and its user specifications, each in file order. Contracts
@@ -59,18 +59,14 @@ fn keep_marked<'a>(
     rules: &[Rule<'a>],
     marks: &[bool],
 ) -> Result<Vec<Rule<'a>>, AllocError>
+    requires { length marks.now ≡ length rules.now }
     ensures { IfOk result (λ kept. map rule_shown kept.items ≡ marked marks.now (map rule_shown rules.now)) }
 {
     let mut kept = Vec::new(alloc);
-    let mut rest = marks;
-    for rule in rules {
-        let Some((mark, behind)) = rest.split_first() else {
-            return Ok(kept);
-        };
-        if *mark {
+    for (i, rule) in rules.iter().enumerate() {
+        if marks[i] {
             kept.push(*rule)?;
         }
-        rest = behind;
     }
     Ok(kept)
 }
@@ -117,12 +113,13 @@ impl<'a> Rules<'a> {
         self.specs.as_slice()
     }
 
-    /// Returns the rules, of definitions only those with a mark. A definition without a mark is left out.
+    /// Returns the rules, of definitions only those with a mark. There is one for each definition.
     ///
     /// # Errors
     ///
     /// `NoMemory`: memory ran out.
     pub fn with_marked(mut self, alloc: Global, marks: &[bool]) -> Result<Rules<'a>, CvtFault>
+        requires { length marks.now ≡ length self.defs }
         ensures rules { IfOk result (λ rules. rules ≡ with_marked marks.now self.entry) }
         ensures fault { IfErr result (λ fault. fault ≡ NoMemory) }
     {

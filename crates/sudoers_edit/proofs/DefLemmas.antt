@@ -1,16 +1,16 @@
 -- Definitions put into a line and taken out of it.
 use Rattle.std.proofs.Common.{◌≡◌, ℕ, ◌+◌, List, [], ◌∷◌, length, Some, refl, sym, ap, ◌∙◌}
 use Rattle.std.specs.Prelude.{slice_get}
-use Rattle.sudoers_line.specs.declared.node.Def.{Def}
+use Rattle.sudoers_line.specs.Node.{Def}
 use Rattle.sudoers_tree.specs.Line.{Line}
 use Rattle.sudoers_tree.specs.Policy.{texts}
-use Rattle.sudoers_script.specs.declared.edit.Edit.TheVariants.{AddDef, DropDef}
+use Rattle.sudoers_edit_script.specs.declared.edit.Edit.TheVariants.{AddDef, DropDef}
 use Rattle.sudoers_edit.specs.declared.one_more.Among.TheVariants as among
 use Rattle.sudoers_edit.specs.Splice.{def_extents, seam, owned_stop, slice}
 use Rattle.sudoers_edit.specs.SpliceEdits.{defs_of, add_def, drop_def, owned_def}
 use Rattle.sudoers_edit.specs.Landing.{changed_or_refusal}
 use Rattle.sudoers_edit.specs.Editing.{run}
-use Rattle.sudoers_edit.specs.Leading.{IsKnown, PutIn, CutOut, Replaces}
+use Rattle.sudoers_edit.specs.internal.Leading.{IsKnown, PutIn, CutOut, Replaces}
 use Rattle.sudoers_edit.proofs.EditLemmas.{run_one}
 use Rattle.sudoers_edit.proofs.BackLemmas.{def_more, adds_def, drops_def, def_of_policy}
 use Rattle.sudoers_edit.proofs.WayBackLemmas.{said_logical, swaps, put_back, cut_back}

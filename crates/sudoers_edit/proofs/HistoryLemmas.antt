@@ -3,7 +3,7 @@ use Rattle.std.proofs.Common.{◌≡◌, ℕ, ◌+◌, ◌<◌, length, slice_in
 use Rattle.std.proofs.lemmas.List.{reverse-append, reverse-reverse, map-append, take_more, drop_more}
 use Rattle.std.specs.List.{flat_map}
 use Rattle.std.specs.Result.{result_ok, result_unwrap_or}
-use Rattle.sudoers_script.specs.declared.edit.Edit.{Edit}
+use Rattle.sudoers_edit_script.specs.declared.edit.Edit.{Edit}
 use Rattle.sudoers_edit.specs.declared.fault.EditFault.{EditFault}
 use Rattle.sudoers_edit.specs.declared.editor.Entry.{Entry}
 use Rattle.sudoers_edit.specs.Editing.{Desk, first_of, then_or, step, after, inv, run, run_all, inv_run, IsUndoable, first_lines, edits_of}

@@ -8,9 +8,9 @@ use Rattle.sudoers_text.specs.Fault.{text_limit}
 use Rattle.sudoers_tree.specs.Line.{Line}
 use Rattle.sudoers_tree.specs.Policy.{texts}
 use Rattle.sudoers_tree.specs.Reading.{read_of}
-use Rattle.sudoers_script.specs.Script.{AreNumbered}
-use Rattle.sudoers_script.specs.declared.edit.Edit.{Edit}
-use Rattle.sudoers_script.specs.declared.edit.Edit.TheVariants.{Insert, Delete, Move, AddMember, DropMember, AddDef, DropDef, Rename, EndLine, OpenEnd, Prune}
+use Rattle.sudoers_edit_script.specs.Script.{AreNumbered}
+use Rattle.sudoers_edit_script.specs.declared.edit.Edit.{Edit}
+use Rattle.sudoers_edit_script.specs.declared.edit.Edit.TheVariants.{Insert, Delete, Move, AddMember, DropMember, AddDef, DropDef, Rename, EndLine, OpenEnd, Prune}
 use Rattle.sudoers_edit.specs.declared.fault.EditFault.{EditFault}
 use Rattle.sudoers_edit.specs.declared.pruning.Removal.{Removal}
 use Rattle.sudoers_edit.specs.declared.pruning.Removal.TheVariants as removal

@@ -10,16 +10,16 @@ use Rattle.sudoers_text.specs.Ended.{ends_in_lf, has_unended_inside}
 use Rattle.sudoers_text.specs.Fault.{line_limit}
 use Rattle.sudoers_text.specs.Cut.{cut_of, StandAlone}
 use Rattle.sudoers_tree.specs.Policy.{texts}
-use Rattle.sudoers_script.specs.declared.edit.Edit.TheVariants.{EndLine, OpenEnd}
+use Rattle.sudoers_edit_script.specs.declared.edit.Edit.TheVariants.{EndLine, OpenEnd}
 use Rattle.sudoers_edit.specs.declared.fault.EditFault.TheVariants.{EndAsIs, TooLarge}
 use Rattle.sudoers_edit.specs.Landing.{lines_or_refusal}
 use Rattle.sudoers_edit.specs.LineEdits.{with_last, with_end, without_lf, is_last_too_long, ended_or_refusal}
 use Rattle.sudoers_edit.specs.Editing.{step}
 use Rattle.sudoers_edit.specs.OneLine.{IsAlone, IsSound}
-use Rattle.sudoers_edit.specs.LastLine.{StaysCut}
-use Rattle.sudoers_edit.specs.Leading.{Leads}
+use Rattle.sudoers_edit.specs.internal.LastLine.{StaysCut}
+use Rattle.sudoers_edit.specs.internal.Leading.{Leads}
 use Rattle.sudoers_edit.proofs.EditLemmas.{run_one, settled}
-use Rattle.sudoers_script.proofs.EndLemmas.{ended_parts}
+use Rattle.sudoers_edit_script.proofs.EndLemmas.{ended_parts}
 use Rattle.sudoers_edit.proofs.PolicyLemmas.{StandAloneLaw, CutLaw, read_cut}
 
 -- THE LAST LINE

@@ -1,9 +1,8 @@
 -- One member or definition more, as the code compares two lines.
 use Rattle.std.proofs.Common.{◌≡◌, ℕ, Bool, ◌&&◌, List, Some, refl, remove}
-use Rattle.sudoers_line.specs.declared.node.Def.{Def}
+use Rattle.sudoers_line.specs.Node.{Def, Node}
 use Rattle.sudoers_line.specs.declared.node.Kind.{Kind}
-use Rattle.sudoers_line.specs.declared.node.Node.{Node}
-use Rattle.sudoers_line.specs.declared.node.Node.TheVariants as node
+use Rattle.sudoers_line.specs.Node as node
 use Rattle.sudoers_tree.specs.Definition.{is_kind}
 use Rattle.sudoers_edit.specs.Alike.{are_alike, is_same_def}
 use Rattle.sudoers_edit.specs.Splice.{def_extents, owns_exactly, is_def_more}

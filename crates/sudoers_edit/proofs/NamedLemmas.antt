@@ -8,10 +8,10 @@ use Rattle.sudoers_edit.specs.Editing.{removed, put_back, put_all_back, inv, aft
 use Rattle.sudoers_edit.specs.Landing.{policy_of}
 use Rattle.sudoers_edit.specs.Pruning.{removals}
 use Rattle.sudoers_edit.specs.Named.{AreNamed, spelling_or_fault}
-use Rattle.sudoers_script.specs.Script.{is_named, is_word, spelling, writing, edit_limit, AreSpellable}
-use Rattle.sudoers_script.specs.ScriptReading.{reading}
-use Rattle.sudoers_script.specs.declared.edit.Edit.{Edit}
-use Rattle.sudoers_script.specs.declared.edit.Edit.TheVariants.{Insert, Delete, Move, AddMember, DropMember, AddDef, DropDef, Rename, EndLine, OpenEnd, Prune}
+use Rattle.sudoers_edit_script.specs.Script.{is_named, is_word, spelling, writing, edit_limit, AreSpellable}
+use Rattle.sudoers_edit_script.specs.ScriptReading.{reading}
+use Rattle.sudoers_edit_script.specs.declared.edit.Edit.{Edit}
+use Rattle.sudoers_edit_script.specs.declared.edit.Edit.TheVariants.{Insert, Delete, Move, AddMember, DropMember, AddDef, DropDef, Rename, EndLine, OpenEnd, Prune}
 use Rattle.sudoers_edit.specs.declared.pruning.Removal.{Removal}
 use Rattle.sudoers_edit.specs.declared.pruning.Removal.TheVariants as removal
 

@@ -1,7 +1,7 @@
 -- Prune is the edits of its list, one after another.
 use Rattle.std.proofs.Common.{◌≡◌, ℕ, ◌+◌, List, [], ◌∷◌, ◌++◌, map, Result, Ok, Err, refl, ap}
 use Rattle.std.specs.Result.{result_unwrap_or}
-use Rattle.sudoers_script.specs.declared.edit.Edit.TheVariants.{Prune}
+use Rattle.sudoers_edit_script.specs.declared.edit.Edit.TheVariants.{Prune}
 use Rattle.sudoers_edit.specs.declared.fault.EditFault.{EditFault}
 use Rattle.sudoers_edit.specs.declared.pruning.Removal.{Removal}
 use Rattle.sudoers_edit.specs.declared.pruning.Removal.TheVariants as removal

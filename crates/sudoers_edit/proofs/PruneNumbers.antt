@@ -7,8 +7,8 @@ use Rattle.sudoers_tree.specs.Line.{Line}
 use Rattle.sudoers_tree.specs.Definition.{Definition, definitions_in, definitions_since}
 use Rattle.sudoers_tree.specs.Policy.{IsPolicy, alias_limit}
 use Rattle.sudoers_check.specs.Led.{is_unused}
-use Rattle.sudoers_script.specs.Script.{AreNumbered}
-use Rattle.sudoers_script.specs.declared.edit.Edit.{Edit}
+use Rattle.sudoers_edit_script.specs.Script.{AreNumbered}
+use Rattle.sudoers_edit_script.specs.declared.edit.Edit.{Edit}
 use Rattle.sudoers_edit.specs.declared.pruning.Removal.TheVariants as removal
 use Rattle.sudoers_edit.specs.Pruning.{edit_of, removals_of, removals_in, removals_since, removals}
 use Rattle.sudoers_edit.proofs.PruneLemmas.{all_append, all_filter, def_since}
@@ -53,4 +53,4 @@ since policy n (line ∷ lines) few near =
 
 pub removals_numbered : (policy : List Line) → IsPolicy policy → length policy ≤ text_limit → AreNumbered (map edit_of (removals policy))
 unfolding removals
-removals_numbered policy is few = since policy 0 policy (omega (arith, few)) (def_since alias_limit 0 policy is.few)
+removals_numbered policy is few = since policy 0 policy (omega (arith, few)) (def_since alias_limit 0 policy is.walk.few)

@@ -11,9 +11,9 @@ use Rattle.sudoers_text.specs.Value.{value_of}
 use Rattle.sudoers_line.specs.Atom.{user_word, user_id, user_atom, unescaped_host, host_atom, bare_command, atom_of, command_with, option_value, path_value}
 use Rattle.sudoers_line.specs.Fault.{cause}
 use Rattle.sudoers_line.specs.Number.{address_number, mask_of, network_of, is_stamp}
-use Rattle.sudoers_reader.specs.Descent.{signs, member, members, digest, digests, arguments, behind_word, bare, command, scope_command, list, def, alias, runas_users, runas_groups, runas, option, tag, cmd_spec, host_group, spec, scope_list, scope, setting, flagged, named, param, params, scoped, defaults, include, last, line}
-use Rattle.sudoers_reader.specs.Outcome.{outcome_of}
-use Rattle.sudoers_reader.specs.Reader.{many, many_of}
+use Rattle.sudoers_line_reader.specs.Descent.{signs, member, members, digest, digests, arguments, behind_word, bare, command, scope_command, list, def, alias, runas_users, runas_groups, runas, option, tag, cmd_spec, host_group, spec, scope_list, scope, setting, flagged, named, param, params, scoped, defaults, include, last, line}
+use Rattle.sudoers_line_reader.specs.Outcome.{outcome_of}
+use Rattle.sudoers_line_reader.specs.Reader.{many, many_of}
 use Rattle.sudoers_line.specs.Pattern.{pattern_of}
 use Rattle.sudoers_line.specs.Piece.{is_mark, is_the_word, is_alias_name, kind_word, include_word, option_name, tag_of, digest_kind, operator_of, scope_sign}
 use Rattle.sudoers_tree.specs.Fault.{name_fault}

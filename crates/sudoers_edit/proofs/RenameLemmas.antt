@@ -16,13 +16,13 @@ use Rattle.sudoers_tree.specs.Fault.{is_some}
 use Rattle.sudoers_tree.specs.Policy.{texts}
 use Rattle.sudoers_tree.specs.Reading.{read_of}
 use Rattle.sudoers_edit.specs.Alike.{are_alike}
-use Rattle.sudoers_script.specs.declared.edit.Edit.TheVariants.{Rename}
+use Rattle.sudoers_edit_script.specs.declared.edit.Edit.TheVariants.{Rename}
 use Rattle.sudoers_edit.specs.declared.fault.EditFault.{EditFault}
 use Rattle.sudoers_edit.specs.declared.fault.EditFault.TheVariants.{NoAlias, BadName, NameTaken, TooLarge}
 use Rattle.sudoers_edit.specs.Landing.{is_too_long, policy_or_refusal, policy_of}
 use Rattle.sudoers_edit.specs.Renaming.{put_at, renamed, no_way_back, if_lines, is_lines, is_taken, rename_once, if_restored, rename}
 use Rattle.sudoers_edit.specs.Editing.{Refuses, step}
-use Rattle.sudoers_edit.specs.Leading.{IsLanded}
+use Rattle.sudoers_edit.specs.internal.Leading.{IsLanded}
 use Rattle.sudoers_edit.proofs.EditLemmas.{run_one}
 
 -- THE SAME LINES

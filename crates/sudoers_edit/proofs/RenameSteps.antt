@@ -10,7 +10,7 @@ use Rattle.sudoers_tree.specs.Definition.{place_of}
 use Rattle.sudoers_tree.specs.Fault.{is_some}
 use Rattle.sudoers_tree.specs.Policy.{texts}
 use Rattle.sudoers_tree.specs.Reading.{read_of}
-use Rattle.sudoers_script.specs.declared.edit.Edit.TheVariants.{Rename}
+use Rattle.sudoers_edit_script.specs.declared.edit.Edit.TheVariants.{Rename}
 use Rattle.sudoers_edit.specs.declared.fault.EditFault.{EditFault}
 use Rattle.sudoers_edit.specs.declared.fault.EditFault.TheVariants.{NoAlias, BadName, NameTaken, TooLarge}
 use Rattle.sudoers_edit.specs.Alike.{are_alike}

@@ -6,11 +6,11 @@ use Rattle.sudoers_text.specs.Ended.{has_unended_inside}
 use Rattle.sudoers_text.specs.Fault.{line_limit}
 use Rattle.sudoers_text.specs.Whole.{is_logical_line}
 use Rattle.sudoers_edit.specs.OneLine.{IsAlone, IsSound}
-use Rattle.sudoers_script.specs.declared.edit.Edit.{Edit}
+use Rattle.sudoers_edit_script.specs.declared.edit.Edit.{Edit}
 use Rattle.sudoers_edit.specs.declared.fault.EditFault.TheVariants.{OpenLine}
 use Rattle.sudoers_tree.specs.Changed.{replaced}
 use Rattle.sudoers_edit.specs.Editing.{step}
-use Rattle.sudoers_edit.specs.Leading.{Leads, Replaces}
+use Rattle.sudoers_edit.specs.internal.Leading.{Leads, Replaces}
 use Rattle.sudoers_edit.proofs.EditLemmas.{ReadsLaw}
 use Rattle.sudoers_edit.proofs.PolicyLemmas.{read_so}
 use Rattle.sudoers_edit.proofs.ReplacedLemmas.{each_replaced}

@@ -4,10 +4,9 @@ use Rattle.std.proofs.lemmas.Bool.{ltb-false, not-false}
 use Rattle.std.specs.Prelude.{slice_get, nat_lt, nat_le}
 use Rattle.sudoers_text.specs.Line.{join}
 use Rattle.sudoers_text.specs.Fault.{line_limit}
-use Rattle.sudoers_line.specs.declared.node.Def.{Def}
+use Rattle.sudoers_line.specs.Node.{Def, Node}
 use Rattle.sudoers_line.specs.declared.node.Kind.{Kind}
-use Rattle.sudoers_line.specs.declared.node.Node.{Node}
-use Rattle.sudoers_line.specs.declared.node.Node.TheVariants as node
+use Rattle.sudoers_line.specs.Node as node
 use Rattle.sudoers_tree.specs.Line.{Line}
 use Rattle.sudoers_tree.specs.declared.place.Place.{Place}
 use Rattle.sudoers_tree.specs.Changed.{replaced}
@@ -15,9 +14,9 @@ use Rattle.sudoers_tree.specs.Definition.{place_of}
 use Rattle.sudoers_tree.specs.Policy.{texts}
 use Rattle.sudoers_tree.specs.Reading.{read_of}
 use Rattle.sudoers_tree.specs.Single.{said}
-use Rattle.sudoers_script.specs.Script.{IsNumbered, AreNumbered}
-use Rattle.sudoers_script.specs.declared.edit.Edit.{Edit}
-use Rattle.sudoers_script.specs.declared.edit.Edit.TheVariants.{AddMember, DropMember, AddDef, DropDef}
+use Rattle.sudoers_edit_script.specs.Script.{IsNumbered, AreNumbered}
+use Rattle.sudoers_edit_script.specs.declared.edit.Edit.{Edit}
+use Rattle.sudoers_edit_script.specs.declared.edit.Edit.TheVariants.{AddMember, DropMember, AddDef, DropDef}
 use Rattle.sudoers_edit.specs.declared.fault.EditFault.{EditFault}
 use Rattle.sudoers_edit.specs.declared.fault.EditFault.TheVariants.{NoAlias, NoLine, NoPlace, OnlyOne, BadSplice, TooLarge}
 use Rattle.sudoers_edit.specs.declared.one_more.Among.{Among}
@@ -26,7 +25,7 @@ use Rattle.sudoers_edit.specs.Landing.{refuse_if, or_refuse, is_too_long, lines_
 use Rattle.sudoers_edit.specs.Splice.{Extent, member_extents, def_extents, seam, owned_stop, slice, line_with, line_without}
 use Rattle.sudoers_edit.specs.SpliceEdits.{place_to_add, place_to_drop, is_one_more, put_in, cut_out, defs_of, with_defs, with_def, add_def, drop_def, add_member, drop_member}
 use Rattle.sudoers_edit.specs.Editing.{Lines, step, inv}
-use Rattle.sudoers_edit.specs.Leading.{IsKnown, IsDefAt, PutIn, CutOut, Replaces}
+use Rattle.sudoers_edit.specs.internal.Leading.{IsKnown, IsDefAt, PutIn, CutOut, Replaces}
 use Rattle.sudoers_edit.proofs.BackLemmas.{def_of_policy}
 use Rattle.sudoers_edit.proofs.DefLemmas.{add_replaces as def_add_replaces, drop_replaces as def_drop_replaces}
 use Rattle.sudoers_edit.proofs.MemberLemmas.{add_replaces, drop_replaces}

@@ -5,13 +5,12 @@ use Rattle.sudoers_line.specs.declared.node.Kind.{Kind}
 use Rattle.sudoers_line.specs.declared.node.Kind.TheVariants as kind
 use Rattle.sudoers_line.specs.declared.node.Atom.{Atom}
 use Rattle.sudoers_line.specs.declared.node.Atom.TheVariants as atom
-use Rattle.sudoers_line.specs.declared.node.Member.{Member}
-use Rattle.sudoers_line.specs.declared.node.Node.{Node}
-use Rattle.sudoers_rows.specs.declared.list.Rows.{Rows}
-use Rattle.sudoers_rows.specs.declared.rows.DefRow.{DefRow}
-use Rattle.sudoers_rows.specs.declared.view.Node.{Node as NodeView}
-use Rattle.sudoers_rows.specs.declared.view.Node.TheVariants as node_view
-use Rattle.sudoers_rows.specs.View.{node_shown}
+use Rattle.sudoers_line.specs.Node.{Member, Node}
+use Rattle.sudoers_line_rows.specs.declared.list.Rows.{Rows}
+use Rattle.sudoers_line_rows.specs.declared.rows.DefRow.{DefRow}
+use Rattle.sudoers_line_rows.specs.declared.view.Node.{Node as NodeView}
+use Rattle.sudoers_line_rows.specs.declared.view.Node.TheVariants as node_view
+use Rattle.sudoers_line_rows.specs.View.{node_shown}
 use Rattle.sudoers_line.specs.Listed.{Listed, listed, listed_as, alias_of, aliases_among, aliases_in}
 use Rattle.sudoers_tree.specs.declared.place.Span.{Span}
 use Rattle.sudoers_tree.specs.Definition.{is_kind}

@@ -11,17 +11,17 @@ use Rattle.sudoers_text.specs.declared.fault.TextFault.{TextFault}
 use Rattle.sudoers_tree.specs.Line.{Line}
 use Rattle.sudoers_tree.specs.Policy.{texts, IsPolicy}
 use Rattle.sudoers_tree.specs.Reading.{read_of}
-use Rattle.sudoers_script.specs.Script.{IsNumbered, AreNumbered}
-use Rattle.sudoers_script.specs.declared.edit.Edit.{Edit}
-use Rattle.sudoers_script.specs.declared.edit.Edit.TheVariants.{Insert, Delete, Move, EndLine, OpenEnd}
+use Rattle.sudoers_edit_script.specs.Script.{IsNumbered, AreNumbered}
+use Rattle.sudoers_edit_script.specs.declared.edit.Edit.{Edit}
+use Rattle.sudoers_edit_script.specs.declared.edit.Edit.TheVariants.{Insert, Delete, Move, EndLine, OpenEnd}
 use Rattle.sudoers_edit.specs.declared.fault.EditFault.{EditFault}
 use Rattle.sudoers_edit.specs.declared.fault.EditFault.TheVariants.{OpenLine, NoLine, NotOneLine, EndAsIs, TooLarge}
 use Rattle.sudoers_edit.specs.OneLine.{is_one_line, gives_one, IsAlone, IsSound}
 use Rattle.sudoers_edit.specs.LineEdits.{moved}
-use Rattle.sudoers_edit.specs.LastLine.{StaysCut}
+use Rattle.sudoers_edit.specs.internal.LastLine.{StaysCut}
 use Rattle.sudoers_edit.specs.Landing.{lines_or_refusal, policy_or_refusal, where_policy}
 use Rattle.sudoers_edit.specs.Editing.{Lines, step, inv, run}
-use Rattle.sudoers_edit.specs.Leading.{Leads, IsKnown}
+use Rattle.sudoers_edit.specs.internal.Leading.{Leads, IsKnown}
 use Rattle.sudoers_edit.proofs.EditLemmas.{ReadsLaw, insert_leads, delete_leads, move_leads}
 use Rattle.sudoers_edit.proofs.LastLemmas.{no_end, end_as_is, end_too_long, open_short, open_lacks, end_leads, open_leads}
 use Rattle.sudoers_edit.proofs.PolicyLemmas.{StandAloneLaw, CutLaw, sound_of, alone_of, read_so}

@@ -5,8 +5,8 @@ use Rattle.std.specs.Result.{result_ok}
 use Rattle.sudoers_text.specs.Cut.{StandAlone}
 use Rattle.sudoers_text.specs.Line.{join}
 use Rattle.sudoers_text.specs.Whole.{is_logical_line}
-use Rattle.sudoers_line.specs.declared.node.Node.{Node}
-use Rattle.sudoers_reader.specs.Outcome.{outcome_of}
+use Rattle.sudoers_line.specs.Node.{Node}
+use Rattle.sudoers_line_reader.specs.Outcome.{outcome_of}
 use Rattle.sudoers_tree.specs.Line.{Line}
 use Rattle.sudoers_tree.specs.Policy.{texts}
 use Rattle.sudoers_tree.specs.Reading.{read_of}
@@ -17,7 +17,7 @@ use Rattle.sudoers_edit.specs.SpliceEdits.{is_one_more, put_in, cut_out}
 use Rattle.sudoers_edit.specs.declared.one_more.Among.{Among}
 use Rattle.sudoers_edit.specs.Landing.{changed_or_refusal}
 use Rattle.sudoers_tree.specs.Changed.{replaced}
-use Rattle.sudoers_edit.specs.Leading.{IsKnown, PutIn, CutOut}
+use Rattle.sudoers_edit.specs.internal.Leading.{IsKnown, PutIn, CutOut}
 use Rattle.sudoers_edit.proofs.BackLemmas.{puts, cuts}
 use Rattle.sudoers_edit.proofs.ReplacedLemmas.{AllSaid, Swapped, swapped}
 use Rattle.sudoers_edit.proofs.SpliceLemmas.{without_with, with_without, size_slice}

@@ -3,17 +3,15 @@ use Rattle.std.proofs.Common.{◌≡◌, ℕ, zero, suc, ◌≤◌, List, [], �
 use Rattle.std.specs.Prelude.{slice_get}
 use Rattle.std.specs.List.{AllByRecursion}
 use Rattle.sudoers_text.specs.Ascend.{Ascend}
-use Rattle.sudoers_line.specs.declared.node.Def.{Def}
+use Rattle.sudoers_line.specs.Node.{Def, Member, Node}
 use Rattle.sudoers_line.specs.declared.node.Kind.{Kind}
-use Rattle.sudoers_line.specs.declared.node.Member.{Member}
-use Rattle.sudoers_line.specs.declared.node.Node.{Node}
-use Rattle.sudoers_line.specs.declared.node.Node.TheVariants as node
+use Rattle.sudoers_line.specs.Node as node
 use Rattle.sudoers_line.specs.Line.{ReadsLine}
 use Rattle.sudoers_line.specs.Ascend.{HoldsMembers, DefsAscend}
 use Rattle.sudoers_tree.specs.Line.{Line}
 use Rattle.sudoers_tree.specs.declared.place.Place.{Place}
 use Rattle.sudoers_tree.specs.Policy.{IsPolicy, SaysSo}
-use Rattle.sudoers_edit.specs.Leading.{IsKnown, IsDefAt}
+use Rattle.sudoers_edit.specs.internal.Leading.{IsKnown, IsDefAt}
 use Rattle.sudoers_edit.specs.Splice.{def_extents, member_extents, seam, owned_stop}
 use Rattle.sudoers_edit.specs.SpliceEdits.{defs_of}
 use Rattle.sudoers_edit.proofs.SpliceLemmas.{ascend_le, seam_in, owned_in}
@@ -42,7 +40,7 @@ pub known_ascend : (policy : List Line) → AscendLaw → IsPolicy policy → (n
     → DefsAscend 0 (length line.text) defs
 known_ascend policy law is n line defs here makes =
     let alias = makes_alias line.node defs makes in
-    law line.text alias.0 defs (subst (ReadsLine line.text) alias.1 (says_at policy n line is.says here))
+    law line.text alias.0 defs (subst (ReadsLine line.text) alias.1 (says_at policy n line is.walk.says here))
 
 -- DEFINITIONS
 

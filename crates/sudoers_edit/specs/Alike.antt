@@ -5,13 +5,11 @@ use Rattle.sudoers_line.specs.declared.node.Args.{Args}
 use Rattle.sudoers_line.specs.declared.node.Args.TheVariants as args
 use Rattle.sudoers_line.specs.declared.node.Atom.{Atom}
 use Rattle.sudoers_line.specs.declared.node.Atom.TheVariants as atom
-use Rattle.sudoers_line.specs.declared.node.Def.{Def}
-use Rattle.sudoers_line.specs.declared.node.Digest.{Digest}
+use Rattle.sudoers_line.specs.Node.{Def, Digest, Member}
 use Rattle.sudoers_line.specs.declared.node.DigestKind.{DigestKind}
 use Rattle.sudoers_line.specs.declared.node.DigestKind.TheVariants as digest
 use Rattle.sudoers_line.specs.declared.node.Mask.{Mask}
 use Rattle.sudoers_line.specs.declared.node.Mask.TheVariants as mask
-use Rattle.sudoers_line.specs.declared.node.Member.{Member}
 
 -- the lists have the same length, and each two items that stand at one place are alike
 abbrev pub are_alike : {X : Type 0} → (X → X → Bool) → List X → List X → Bool

@@ -6,8 +6,8 @@ use Rattle.sudoers_edit.specs.LineEdits.{with_line, without_line, with_move, wit
 use Rattle.sudoers_edit.specs.SpliceEdits.{add_member, drop_member, add_def, drop_def, owned_member, owned_def}
 use Rattle.sudoers_edit.specs.Renaming.{rename}
 use Rattle.sudoers_edit.specs.Pruning.{removals, edit_of}
-use Rattle.sudoers_script.specs.declared.edit.Edit.{Edit}
-use Rattle.sudoers_script.specs.declared.edit.Edit.TheVariants.{Insert, Delete, Move, AddMember, DropMember, AddDef, DropDef, Rename, EndLine, OpenEnd, Prune}
+use Rattle.sudoers_edit_script.specs.declared.edit.Edit.{Edit}
+use Rattle.sudoers_edit_script.specs.declared.edit.Edit.TheVariants.{Insert, Delete, Move, AddMember, DropMember, AddDef, DropDef, Rename, EndLine, OpenEnd, Prune}
 use Rattle.sudoers_edit.specs.declared.fault.EditFault.{EditFault}
 use Rattle.sudoers_edit.specs.declared.fault.EditFault.TheVariants.{NoMemory}
 use Rattle.sudoers_edit.specs.declared.editor.Entry.{Entry}

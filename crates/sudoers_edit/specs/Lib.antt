@@ -6,12 +6,9 @@ pub mod LineEdits
 pub mod SpliceEdits
 pub mod Renaming
 pub mod Pruning
-pub mod PruneOrder
 pub mod Memory
 pub mod Editing
 pub mod Undoing
-pub mod LastLine
-pub mod Leading
-pub mod Reread
 pub mod Named
 pub mod WayBack
+pub mod internal

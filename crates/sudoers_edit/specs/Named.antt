@@ -1,9 +1,9 @@
 -- Edits all of whose names have a spelling.
 use Rattle.std.specs.Prelude.{◌≡◌, ℕ, true, nat_lt, if◌then◌else◌, List, [], ◌∷◌, length, Result, Ok, Err}
-use Rattle.sudoers_script.specs.Script.{edit_limit, is_named, spelling}
-use Rattle.sudoers_script.specs.declared.edit.Edit.{Edit}
-use Rattle.sudoers_script.specs.declared.script.ScriptFault.{ScriptFault}
-use Rattle.sudoers_script.specs.declared.script.ScriptFault.TheVariants.{TooMany}
+use Rattle.sudoers_edit_script.specs.Script.{edit_limit, is_named, spelling}
+use Rattle.sudoers_edit_script.specs.declared.edit.Edit.{Edit}
+use Rattle.sudoers_edit_script.specs.declared.script.ScriptFault.{ScriptFault}
+use Rattle.sudoers_edit_script.specs.declared.script.ScriptFault.TheVariants.{TooMany}
 
 abbrev pub AreNamed : List Edit → Type 0
 AreNamed [] = Unit {0}

@@ -4,8 +4,8 @@ use Rattle.std.specs.List.{filter}
 use Rattle.sudoers_tree.specs.Line.{Line}
 use Rattle.sudoers_tree.specs.Definition.{Definition, definitions_in}
 use Rattle.sudoers_check.specs.Led.{is_unused}
-use Rattle.sudoers_script.specs.declared.edit.Edit.{Edit}
-use Rattle.sudoers_script.specs.declared.edit.Edit.TheVariants.{Delete, DropDef}
+use Rattle.sudoers_edit_script.specs.declared.edit.Edit.{Edit}
+use Rattle.sudoers_edit_script.specs.declared.edit.Edit.TheVariants.{Delete, DropDef}
 use Rattle.sudoers_edit.specs.declared.pruning.Removal.{Removal}
 use Rattle.sudoers_edit.specs.declared.pruning.Removal.TheVariants as removal
 

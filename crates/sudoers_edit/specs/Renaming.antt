@@ -5,11 +5,9 @@ use Rattle.std.specs.Str.{bytes_eq}
 use Rattle.sudoers_text.specs.Line.{join}
 use Rattle.sudoers_text.specs.Word.{is_name, is_reserved}
 use Rattle.sudoers_line.specs.declared.fault.Why.TheVariants.{UnexpectedToken}
-use Rattle.sudoers_line.specs.declared.node.Def.{Def}
+use Rattle.sudoers_line.specs.Node.{Def, Member, Node}
 use Rattle.sudoers_line.specs.declared.node.Kind.{Kind}
-use Rattle.sudoers_line.specs.declared.node.Member.{Member}
-use Rattle.sudoers_line.specs.declared.node.Node.{Node}
-use Rattle.sudoers_line.specs.declared.node.Node.TheVariants as node
+use Rattle.sudoers_line.specs.Node as node
 use Rattle.sudoers_line.specs.Listed.{AliasMember}
 use Rattle.sudoers_tree.specs.declared.fault.ReadFault.TheVariants.{Syntax}
 use Rattle.sudoers_tree.specs.Line.{Line}

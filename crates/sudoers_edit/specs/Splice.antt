@@ -1,10 +1,8 @@
 -- Which bytes of its line a member or a definition owns.
 use Rattle.std.specs.Prelude.{ℕ, zero, suc, ◌-◌, Bool, false, ◌&&◌, ◌==◌, if◌then◌else◌, List, [], ◌∷◌, ◌++◌, take, drop, remove, map, Option, Some, None, slice_get}
 use Rattle.std.specs.Option.{option_map}
-use Rattle.sudoers_line.specs.declared.node.Def.{Def}
-use Rattle.sudoers_line.specs.declared.node.Member.{Member}
-use Rattle.sudoers_line.specs.declared.node.Node.{Node}
-use Rattle.sudoers_line.specs.declared.node.Node.TheVariants as node
+use Rattle.sudoers_line.specs.Node.{Def, Member, Node}
+use Rattle.sudoers_line.specs.Node as node
 use Rattle.sudoers_tree.specs.Definition.{is_kind}
 use Rattle.sudoers_edit.specs.Alike.{are_alike, is_same_def}
 

@@ -4,8 +4,8 @@ use Rattle.sudoers_text.specs.Line.{join}
 use Rattle.sudoers_tree.specs.Line.{Line}
 use Rattle.sudoers_tree.specs.Policy.{texts}
 use Rattle.sudoers_tree.specs.Reading.{read_of}
-use Rattle.sudoers_script.specs.Script.{AreNumbered}
-use Rattle.sudoers_script.specs.declared.edit.Edit.{Edit}
+use Rattle.sudoers_edit_script.specs.Script.{AreNumbered}
+use Rattle.sudoers_edit_script.specs.declared.edit.Edit.{Edit}
 use Rattle.sudoers_edit.specs.Editing.{run_all, inv_run}
 
 -- The edits lead to the lines of a policy, and what takes them back leads from there to the lines before them; and its numbers fit

@@ -3,7 +3,7 @@ ghost use Rattle.std.specs.Prelude.{◌≡◌, ◌⊎◌, ◌<◌, ◌∷◌, []
 ghost use Rattle.std.specs.List.{flat_map};
 ghost use Rattle.sudoers_tree.specs.Policy.{texts};
 ghost use Rattle.sudoers_edit.specs.Editing.{run};
-ghost use Rattle.sudoers_edit.specs.Leading.{Lands};
+ghost use Rattle.sudoers_edit.specs.internal.Leading.{Lands};
 
 use crate::fault::EditFault;
 use crate::landing::{Landed, copied};
@@ -13,8 +13,9 @@ use crate::renaming::alias_renamed;
 use crate::splice_edits::{def_added, def_dropped, member_added, member_dropped};
 use std::alloc::{AllocError, Global};
 use std::marker::Model;
-use sudoers_script::{Edit, Edits, Text};
-use sudoers_tree::{Policy, read_is};
+use sudoers_edit_script::{Edit, Edits, Text};
+use sudoers_tree::Policy;
+use sudoers_tree::laws::read_is;
 
 /// An accepted edit, with the edits that take it back.
 #[derive(Debug, Drop)]

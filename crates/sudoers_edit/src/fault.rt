@@ -72,7 +72,7 @@ impl<T: Drop> From<AllocFailed<T>> for EditFault {
 
 impl From<ReadFault> for EditFault {
     ghost use Rattle.std.specs.Prelude.{◌≡◌};
-    ghost use Rattle.sudoers_edit.specs.Reread.{edit_of_read};
+    ghost use Rattle.sudoers_edit.specs.internal.Reread.{edit_of_read};
 
     ghost from_gives = { λ fault e. e ≡ edit_of_read fault };
 

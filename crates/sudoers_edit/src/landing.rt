@@ -5,16 +5,17 @@ ghost use Rattle.sudoers_text.specs.Ended.{has_unended_inside};
 ghost use Rattle.sudoers_text.specs.Cut.{StandAlone};
 ghost use Rattle.sudoers_tree.specs.Line.{Line as LineOf};
 ghost use Rattle.sudoers_tree.specs.Policy.{texts};
-ghost use Rattle.sudoers_script.specs.declared.edit.Edit.{Edit as AnEdit};
+ghost use Rattle.sudoers_edit_script.specs.declared.edit.Edit.{Edit as AnEdit};
 ghost use Rattle.sudoers_edit.specs.Landing.{policy_or_refusal};
-ghost use Rattle.sudoers_edit.specs.Leading.{Leads, Lands};
+ghost use Rattle.sudoers_edit.specs.internal.Leading.{Leads, Lands};
 ghost use Rattle.sudoers_edit.specs.OneLine.{IsSound};
 
 use crate::fault::EditFault;
 use crate::reread::reread;
-use sudoers_script::Edits;
-use sudoers_text::{lines_of_join, lines_stand_alone};
-use sudoers_tree::{Policy, policy_is_cut};
+use sudoers_edit_script::Edits;
+use sudoers_text::laws::{lines_of_join, lines_stand_alone};
+use sudoers_tree::Policy;
+use sudoers_tree::laws::policy_is_cut;
 
 /// The policy to which an edit leads, and the edits that take it back.
 #[derive(Drop)]

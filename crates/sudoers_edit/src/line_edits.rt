@@ -5,19 +5,20 @@ ghost use Rattle.sudoers_text.specs.Ended.{has_unended_inside};
 ghost use Rattle.sudoers_tree.specs.Policy.{texts};
 ghost use Rattle.sudoers_edit.specs.OneLine.{is_one_line, IsAlone};
 ghost use Rattle.sudoers_edit.specs.LineEdits.{moved};
-ghost use Rattle.sudoers_edit.specs.LastLine.{StaysCut};
-ghost use Rattle.sudoers_edit.specs.Leading.{Lands};
+ghost use Rattle.sudoers_edit.specs.internal.LastLine.{StaysCut};
+ghost use Rattle.sudoers_edit.specs.internal.Leading.{Lands};
 
 use crate::fault::EditFault;
 use crate::landing::{Landed, is_sound, land};
 use crate::reread::text_moved;
 use std::alloc::{AllocError, Global};
-use sudoers_script::{Edit, Edits, Text};
-use sudoers_text::{
-    LINE_LIMIT, TextFault, cut, ends_in_lf, lf_behind_last_line, lf_from_last_line,
-    line_alone_size, lines_stand_alone,
+use sudoers_edit_script::{Edit, Edits, Text};
+use sudoers_text::laws::{
+    lf_behind_last_line, lf_from_last_line, line_alone_size, lines_stand_alone,
 };
-use sudoers_tree::{Policy, policy_is_cut, text_with, text_without};
+use sudoers_text::{LINE_LIMIT, TextFault, cut, ends_in_lf};
+use sudoers_tree::laws::policy_is_cut;
+use sudoers_tree::{Policy, text_with, text_without};
 
 /// A line put in.
 pub fn line_inserted(policy: &Policy, at: u32, text: &[u8]) -> Result<Landed, EditFault>

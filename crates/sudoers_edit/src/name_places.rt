@@ -1,13 +1,13 @@
 //! Where the name of an alias stands in a line.
 ghost use Rattle.std.specs.Prelude.{◌≡◌, ◌++◌, IfOk, OnOk};
 ghost use Rattle.std.specs.List.{flat_map};
-ghost use Rattle.sudoers_rows.specs.View.{def_shown, defs_shown, members_shown, node_shown};
+ghost use Rattle.sudoers_line_rows.specs.View.{def_shown, defs_shown, members_shown, node_shown};
 ghost use Rattle.sudoers_edit.specs.Renaming.{start_if, starts_among, starts_in_def, starts_in};
 
 use std::alloc::{AllocError, Global};
+use sudoers_tree::laws::members_are_listed;
 use sudoers_tree::{
     AliasMember, Def, DefRow, Kind, MemberRow, Node, Rows, alias_members, is_kind, list_aliases,
-    members_are_listed,
 };
 
 /// Returns at which bytes of a line that says this the name stands as an alias of this kind.

@@ -3,7 +3,7 @@ ghost use Rattle.std.specs.Prelude.{◌≡◌, ◌≤◌, ℕ, Some, length, tak
 ghost use Rattle.std.specs.Option.{option_copied};
 ghost use Rattle.sudoers_edit.specs.Alike.{are_alike as alike_lists, is_same_def as same_def};
 ghost use Rattle.sudoers_edit.specs.SpliceEdits.{is_one_more};
-ghost use Rattle.sudoers_rows.specs.View.{def_shown, defs_shown, members_shown, node_shown};
+ghost use Rattle.sudoers_line_rows.specs.View.{def_shown, defs_shown, members_shown, node_shown};
 ghost use Rattle.sudoers_edit.specs.Splice.{Extent, is_at as stands_at, owns_exactly as owns, less_member, changed_at, is_member_more as one_member_more, is_def_more as one_def_more, member_extents, extents_in};
 
 use crate::alike::{Alike, are_alike};

@@ -1,16 +1,15 @@
 //! Prune.
-ghost use Rattle.std.specs.Prelude.{◌≡◌, ◌≤◌, ◌<◌, ◌^◌, ◌++◌, map, length, ℕ, List, IfOk, OnOk};
+ghost use Rattle.std.specs.Prelude.{◌≡◌, ◌≤◌, ◌<◌, ◌^◌, ◌++◌, length, ℕ, IfOk, OnOk};
 ghost use Rattle.std.specs.List.{All};
 ghost use Rattle.sudoers_line.specs.declared.node.Kind.{Kind as AKind};
 ghost use Rattle.sudoers_text.specs.Fault.{text_limit};
-ghost use Rattle.sudoers_rows.specs.View.{node_shown};
+ghost use Rattle.sudoers_line_rows.specs.View.{node_shown};
 ghost use Rattle.sudoers_tree.specs.declared.place.Place.{Place as APlace};
 ghost use Rattle.sudoers_tree.specs.Definition.{Definition, definitions, definitions_in};
 ghost use Rattle.sudoers_tree.specs.Policy.{texts, alias_limit};
-ghost use Rattle.sudoers_edit.specs.Editing.{step as step_of, inv, run_all, inv_run, prune_list, without_place};
-ghost use Rattle.sudoers_edit.specs.Leading.{Lands};
+ghost use Rattle.sudoers_edit.specs.internal.Leading.{Lands};
 ghost use Rattle.sudoers_edit.specs.Pruning.{edit_of, removals as the_removals};
-ghost use Rattle.sudoers_edit.specs.PruneOrder.{front_count, removals_at};
+ghost use Rattle.sudoers_edit.specs.internal.PruneOrder.{front_count, removals_at};
 
 use crate::fault::EditFault;
 use crate::landing::{Landed, copied, is_sound};
@@ -18,8 +17,8 @@ use crate::line_edits::line_deleted;
 use crate::splice_edits::def_dropped;
 use std::alloc::{AllocError, Global};
 use sudoers_check::unused;
-use sudoers_script::{Edit, Edits};
-use sudoers_text::line_alone_size;
+use sudoers_edit_script::{Edit, Edits};
+use sudoers_text::laws::line_alone_size;
 use sudoers_tree::{Kind, Node, Place, Policy};
 
 /// What Prune takes out.
@@ -51,13 +50,6 @@ pub fn pruned(policy: &Policy) -> Result<Landed, EditFault>
         inverse: Edits::from_vec(back),
     })
 }
-
-/// A law: Prune is the edits of its list, made one after another: it is refused as the first of them that is, and its inverse is
-/// theirs.
-pub fn prune_is_its_list()
-    ensures step { (lines : List (List ℕ)) → step_of Edit.Prune lines ≡ without_place (run_all 0 (prune_list lines) lines) }
-    ensures inverse { (lines : List (List ℕ)) → inv Edit.Prune lines ≡ inv_run (prune_list lines) lines }
-{}
 
 /// Returns the policy without what is taken out.
 fn removed(policy: &Policy, removal: Removal) -> Result<Landed, EditFault>

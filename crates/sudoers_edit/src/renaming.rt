@@ -8,7 +8,7 @@ ghost use Rattle.sudoers_tree.specs.Policy.{texts};
 ghost use Rattle.sudoers_edit.specs.Alike.{are_alike as alike_lists};
 ghost use Rattle.sudoers_edit.specs.Editing.{Refuses};
 ghost use Rattle.sudoers_edit.specs.Landing.{is_too_long, policy_or_refusal};
-ghost use Rattle.sudoers_edit.specs.Leading.{Lands};
+ghost use Rattle.sudoers_edit.specs.internal.Leading.{Lands};
 ghost use Rattle.sudoers_edit.specs.Renaming.{put_at, renamed_line, renamed, no_way_back as the_fault, if_lines, is_lines, is_taken as taken, rename_once};
 
 use crate::fault::EditFault;
@@ -16,7 +16,7 @@ use crate::landing::Landed;
 use crate::name_places::name_starts;
 use crate::reread::reread;
 use std::alloc::{AllocError, Global};
-use sudoers_script::{Edit, Edits, Text};
+use sudoers_edit_script::{Edit, Edits, Text};
 use sudoers_text::{LINE_LIMIT, is_name, is_reserved};
 use sudoers_tree::{Kind, Line, LineRow, Policy, ReadFault, Rows, Why};
 

@@ -2,15 +2,15 @@
 ghost use Rattle.std.specs.Prelude.{◌≡◌, ◌≤◌, ◌<◌, ◌∷◌, [], length, option_map, slice_get, Some, Result, Err, List, ℕ, IfOk, MatchResult};
 ghost use Rattle.sudoers_text.specs.Ended.{has_unended_inside};
 ghost use Rattle.sudoers_tree.specs.Policy.{texts};
-ghost use Rattle.sudoers_script.specs.declared.edit.Edit.{Edit as AnEdit};
+ghost use Rattle.sudoers_edit_script.specs.declared.edit.Edit.{Edit as AnEdit};
 ghost use Rattle.sudoers_edit.specs.Editing.{Refuses};
 ghost use Rattle.sudoers_edit.specs.Landing.{changed_or_refusal};
 ghost use Rattle.sudoers_tree.specs.Changed.{replaced};
-ghost use Rattle.sudoers_edit.specs.Leading.{Lands, Replaces, PutIn, CutOut, IsKnown, IsDefAt};
+ghost use Rattle.sudoers_edit.specs.internal.Leading.{Lands, Replaces, PutIn, CutOut, IsKnown, IsDefAt};
 ghost use Rattle.sudoers_edit.specs.SpliceEdits.{Lines, put_in as with_more, cut_out as with_less, with_defs, with_def, defs_of};
-ghost use Rattle.sudoers_rows.specs.View.{def_shown, defs_shown};
+ghost use Rattle.sudoers_line_rows.specs.View.{def_shown, defs_shown};
 ghost use Rattle.sudoers_tree.specs.Line.{Line as LineOf, line_shown};
-ghost use Rattle.sudoers_line.specs.declared.node.Def.{Def as DefOf};
+ghost use Rattle.sudoers_line.specs.Node.{Def as DefOf};
 ghost use Rattle.sudoers_tree.specs.declared.place.Place.{Place as PlaceOf};
 ghost use Rattle.sudoers_tree.specs.Definition.{place_of};
 ghost use Rattle.sudoers_edit.specs.declared.fault.EditFault.{EditFault as Refusal};
@@ -20,12 +20,12 @@ use crate::landing::{Landed, is_sound, land, reads_lines};
 use crate::one_more::{Among, OneMore};
 use crate::splice::{line_with, line_without, place_to_add, place_to_drop};
 use std::alloc::{AllocError, Global};
-use sudoers_script::{Edit, Edits, Text};
-use sudoers_text::{LINE_LIMIT, ends_in_lf, line_alone_is_whole, line_alone_size};
-use sudoers_tree::{
-    Def, DefRow, Kind, Line, Node, Place, Policy, Rows, definitions_ascend, lines_are_said,
-    read_line, text_replaced,
-};
+use sudoers_edit_script::{Edit, Edits, Text};
+use sudoers_line::laws::definitions_ascend;
+use sudoers_text::laws::{line_alone_is_whole, line_alone_size};
+use sudoers_text::{LINE_LIMIT, ends_in_lf};
+use sudoers_tree::laws::lines_are_said;
+use sudoers_tree::{Def, DefRow, Kind, Line, Node, Place, Policy, Rows, read_line, text_replaced};
 
 /// A definition put into a line.
 pub fn def_added(policy: &Policy, line: u32, at: u32, splice: &[u8]) -> Result<Landed, EditFault>

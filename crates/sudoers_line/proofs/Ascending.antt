@@ -8,10 +8,8 @@ use Rattle.sudoers_text.specs.LineMode.{line_mode}
 use Rattle.sudoers_text.specs.Ascend.{Ascend, TokensAscend}
 use Rattle.sudoers_line.specs.declared.node.Kind.{Kind}
 use Rattle.sudoers_line.specs.declared.node.Kind.TheVariants.{User, Runas, Host, Cmnd}
-use Rattle.sudoers_line.specs.declared.node.Digest.{Digest}
-use Rattle.sudoers_line.specs.declared.node.Member.{Member}
-use Rattle.sudoers_line.specs.declared.node.Def.{Def}
-use Rattle.sudoers_line.specs.declared.node.Node.TheVariants as node
+use Rattle.sudoers_line.specs.Node.{Digest, Member, Def}
+use Rattle.sudoers_line.specs.Node as node
 use Rattle.sudoers_line.specs.Piece.{Piece, pieces}
 use Rattle.sudoers_line.specs.Grammar.{Many, Behind, Separated, Perhaps, start_of, stop_of, list_stop, IsMember, IsDigest, IsCommand, IsList, IsDef, IsAlias}
 use Rattle.sudoers_line.specs.Line.{ReadsLine}

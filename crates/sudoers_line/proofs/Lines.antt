@@ -5,7 +5,7 @@ use Rattle.sudoers_text.specs.declared.token.Token.{Token}
 use Rattle.sudoers_text.specs.Token.{HasTokens}
 use Rattle.sudoers_text.specs.LineMode.{line_mode}
 use Rattle.sudoers_line.specs.declared.fault.Why.{Why}
-use Rattle.sudoers_line.specs.declared.node.Node.{Node}
+use Rattle.sudoers_line.specs.Node.{Node}
 use Rattle.sudoers_line.specs.Piece.{pieces}
 use Rattle.sudoers_line.specs.Grammar.{Reads}
 use Rattle.sudoers_line.specs.Fault.{IsFirstFault}

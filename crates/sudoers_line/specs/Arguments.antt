@@ -1,6 +1,6 @@
 -- Commands with arguments.
 use Rattle.std.specs.Prelude.{ℕ, Bool, true, List, [], ◌∷◌, ◌++◌, Option, Some, None, if◌then◌else◌}
-use Rattle.sudoers_line.specs.declared.node.Digest.{Digest}
+use Rattle.sudoers_line.specs.Node.{Digest}
 use Rattle.sudoers_line.specs.declared.node.Args.{Args}
 use Rattle.sudoers_line.specs.declared.node.Args.TheVariants.{Any, Nothing, Pattern}
 use Rattle.sudoers_line.specs.declared.node.Atom.{Atom}

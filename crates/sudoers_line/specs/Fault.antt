@@ -7,7 +7,7 @@ use Rattle.sudoers_text.specs.Part.{is_whole_argument}
 use Rattle.sudoers_text.specs.Value.{value_of}
 use Rattle.sudoers_line.specs.declared.fault.Why.{Why}
 use Rattle.sudoers_line.specs.declared.fault.Why.TheVariants.{UnexpectedByte, UnexpectedToken, EndOfLine, OpenQuote, EmptyName, BadId, BadAddress, BadStamp, Regex}
-use Rattle.sudoers_line.specs.declared.node.Node.{Node}
+use Rattle.sudoers_line.specs.Node.{Node}
 use Rattle.sudoers_line.specs.declared.awaited.Awaited.{Awaited}
 use Rattle.sudoers_line.specs.Piece.{Piece, is_word, is_quoted, is_bad, is_comment, begins_with}
 use Rattle.sudoers_line.specs.Number.{is_slashed, are_digits}

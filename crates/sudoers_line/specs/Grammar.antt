@@ -6,17 +6,8 @@ use Rattle.sudoers_line.specs.declared.node.Kind.{Kind}
 use Rattle.sudoers_line.specs.declared.node.Kind.TheVariants.{User, Runas, Host, Cmnd}
 use Rattle.sudoers_line.specs.declared.node.OptionName.{OptionName}
 use Rattle.sudoers_line.specs.declared.node.Tag.{Tag}
-use Rattle.sudoers_line.specs.declared.node.Digest.{Digest}
-use Rattle.sudoers_line.specs.declared.node.Member.{Member}
-use Rattle.sudoers_line.specs.declared.node.Def.{Def}
-use Rattle.sudoers_line.specs.declared.node.RunasSpec.{RunasSpec}
-use Rattle.sudoers_line.specs.declared.node.CmdSpec.{CmdSpec}
-use Rattle.sudoers_line.specs.declared.node.HostGroup.{HostGroup}
-use Rattle.sudoers_line.specs.declared.node.Scope.{Scope}
-use Rattle.sudoers_line.specs.declared.node.Setting.{Setting}
-use Rattle.sudoers_line.specs.declared.node.Param.{Param}
-use Rattle.sudoers_line.specs.declared.node.Node.{Node}
-use Rattle.sudoers_line.specs.declared.node.Node.TheVariants as node
+use Rattle.sudoers_line.specs.Node.{Digest, Member, Def, RunasSpec, CmdSpec, HostGroup, Scope, Setting, Param, Node}
+use Rattle.sudoers_line.specs.Node as node
 use Rattle.sudoers_text.specs.Value.{value_of}
 use Rattle.sudoers_line.specs.Piece.{Piece, is_arg, is_digest, is_parameter, is_value, is_comment, is_mark, is_the_word, is_alias_name, kind_word, include_word, option_name, tag_of, digest_kind, operator_of, scope_sign}
 use Rattle.sudoers_line.specs.Atom.{atom_of, command_atom, takes_digests, option_value, path_value}

@@ -1,3 +1,4 @@
+pub mod Node
 pub mod Kind
 pub mod Piece
 pub mod Seen

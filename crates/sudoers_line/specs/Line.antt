@@ -6,7 +6,7 @@ use Rattle.sudoers_text.specs.LineMode.{line_mode}
 use Rattle.sudoers_line.specs.declared.fault.Why.{Why}
 use Rattle.sudoers_line.specs.declared.fault.LineFault.{LineFault}
 use Rattle.sudoers_line.specs.declared.fault.LineFault.TheVariants.{Syntax, NoMemory}
-use Rattle.sudoers_line.specs.declared.node.Node.{Node}
+use Rattle.sudoers_line.specs.Node.{Node}
 use Rattle.sudoers_line.specs.Piece.{Piece, pieces, ends_with}
 use Rattle.sudoers_line.specs.Grammar.{Reads}
 use Rattle.sudoers_line.specs.Fault.{IsFirstFault}

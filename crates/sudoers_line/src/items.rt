@@ -20,7 +20,7 @@ impl<T> Model for Items<T> {
 }
 
 impl<T> Items<T> {
-    /// No items.
+    /// Returns no items.
     pub fn new(alloc: Global) -> Self
         ensures { result ≡ [] }
     {
@@ -29,28 +29,28 @@ impl<T> Items<T> {
         }
     }
 
-    /// The items, taken over.
+    /// Returns `items` as a list, without taking memory.
     pub fn from_vec(items: Vec<T>) -> Self
         ensures { result ≡ items.items }
     {
         Items { items }
     }
 
-    /// The items, given back.
+    /// Gives the items back, without taking memory.
     pub fn into_vec(self) -> Vec<T>
         ensures { result.items ≡ self }
     {
         self.items
     }
 
-    /// The items.
+    /// Returns the items.
     pub fn as_slice(&self) -> &[T]
         ensures { result.now ≡ self.now }
     {
         self.items.as_slice()
     }
 
-    /// How many items there are.
+    /// Returns how many items there are.
     pub fn len(&self) -> usize
         ensures { result ≡ length self.now }
     {
@@ -59,11 +59,11 @@ impl<T> Items<T> {
 }
 
 impl Items<u8> {
-    /// A copy of the bytes.
+    /// Returns a copy of `bytes`.
     ///
     /// # Errors
     ///
-    /// A growth of memory was refused.
+    /// Memory ran out.
     pub fn from_slice(alloc: Global, bytes: &[u8]) -> Result<Self, AllocError>
         ensures { IfOk result (λ list. list ≡ bytes.now) }
     {
@@ -71,14 +71,39 @@ impl Items<u8> {
             items: Vec::from_slice(alloc, bytes)?,
         })
     }
-}
 
-impl<T: Drop> Items<T> {
-    /// One more item at the end.
+    /// Appends `bytes`.
     ///
     /// # Errors
     ///
-    /// A growth of memory was refused.
+    /// Memory ran out.
+    pub fn extend_from_slice(&mut self, bytes: &[u8]) -> Result<(), AllocError>
+        ensures more { OnOk result (self.new ≡ self.old ++ bytes.now) }
+        ensures kept { OnErr result (self.new ≡ self.old) }
+    {
+        self.items.extend_from_slice(bytes)
+    }
+}
+
+impl<T: Drop> Items<T> {
+    /// Returns `item` alone.
+    ///
+    /// # Errors
+    ///
+    /// Memory ran out.
+    pub fn one(alloc: Global, item: T) -> Result<Self, AllocError>
+        ensures { IfOk result (λ list. list ≡ item ∷ []) }
+    {
+        let mut items = Vec::new(alloc);
+        items.push(item)?;
+        Ok(Items { items })
+    }
+
+    /// Appends `item`.
+    ///
+    /// # Errors
+    ///
+    /// Memory ran out.
     pub fn push(&mut self, item: T) -> Result<(), AllocError>
         ensures more { OnOk result (self.new ≡ self.old ++ item ∷ []) }
         ensures kept { OnErr result (self.new ≡ self.old) }
@@ -89,19 +114,5 @@ impl<T: Drop> Items<T> {
         }
         self.items.push(item)?;
         Ok(())
-    }
-}
-
-impl Items<u8> {
-    /// More bytes at the end.
-    ///
-    /// # Errors
-    ///
-    /// A growth of memory was refused.
-    pub fn extend_from_slice(&mut self, bytes: &[u8]) -> Result<(), AllocError>
-        ensures more { OnOk result (self.new ≡ self.old ++ bytes.now) }
-        ensures kept { OnErr result (self.new ≡ self.old) }
-    {
-        self.items.extend_from_slice(bytes)
     }
 }

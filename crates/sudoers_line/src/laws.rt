@@ -2,16 +2,15 @@
 
 ghost use Rattle.std.specs.Prelude.{◌≡◌, ℕ, List, length};
 ghost use Rattle.sudoers_line.specs.declared.fault.Why.{Why as WhyOf};
-ghost use Rattle.sudoers_line.specs.declared.node.Def.{Def as DefOf};
+ghost use Rattle.sudoers_line.specs.Node.{Def as DefOf, Node as NodeOf};
 ghost use Rattle.sudoers_line.specs.declared.node.Kind.{Kind as KindOf};
-ghost use Rattle.sudoers_line.specs.declared.node.Node.{Node as NodeOf};
-ghost use Rattle.sudoers_line.specs.declared.node.Node.TheVariants as node_of;
+ghost use Rattle.sudoers_line.specs.Node as node_of;
 ghost use Rattle.sudoers_text.specs.Word.{is_among, is_tag, is_option_name, digest_kinds as digest_words, include_words as words_of_includes};
 ghost use Rattle.sudoers_line.specs.Piece.{is_some, looked_up, option_names, tag_of_word, digest_kinds, include_words};
 ghost use Rattle.sudoers_line.specs.Line.{ReadsLine, IsFault};
 ghost use Rattle.sudoers_line.specs.Ascend.{DefsAscend};
 
-use sudoers_text::{one_token_list, tokens_ascend};
+use sudoers_text::laws::{one_token_list, tokens_ascend};
 
 /// A line that says something has no fault.
 pub fn no_fault()

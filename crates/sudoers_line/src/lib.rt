@@ -9,7 +9,7 @@ mod cause;
 mod fault;
 mod items;
 mod kind;
-mod laws;
+pub mod laws;
 mod node;
 mod number;
 mod part;
@@ -23,11 +23,7 @@ pub use cause::cause as cause_of;
 pub use fault::{LineFault, Why};
 pub use items::Items;
 pub use kind::kind_name;
-pub use laws::{definitions_ascend, no_fault, one_fault, words_agree};
-pub use node::{
-    Address, Args, Atom, CmdSpec, Def, Digest, DigestKind, HostGroup, Kind, Mask, Member, Node,
-    Operator, OptionName, Param, RunasSpec, Scope, Setting, Tag,
-};
+pub use node::{Address, Args, Atom, DigestKind, Kind, Mask, Operator, OptionName, Tag};
 pub use number::{are_digits, is_stamp, network as network_of, number_up_to};
 pub use part::{Part, begins_with, ends_with, part_of};
 pub use pattern::{Spelling, pattern as pattern_of};

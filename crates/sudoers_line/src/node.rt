@@ -11,58 +11,6 @@ pub enum Kind {
     Cmnd,
 }
 
-/// What a line says (sudoers(5), SUDOERS FILE FORMAT).
-#[derive(Drop)]
-pub enum Node {
-    /// Nothing.
-    Blank,
-    /// A comment alone.
-    Comment,
-    /// Another file, or all files of a directory, read in this place.
-    Include {
-        dir: bool,
-        path: Items<u8>,
-    },
-    /// Settings of parameters, for all or for a list of users, runas users, hosts or commands.
-    Defaults {
-        scope: Option<Scope>,
-        params: Items<Param>,
-    },
-    /// Definitions of aliases of one kind.
-    Alias {
-        kind: Kind,
-        defs: Items<Def>,
-    },
-    /// Who may run what, where, and as whom.
-    Spec {
-        users: Items<Member>,
-        groups: Items<HostGroup>,
-    },
-}
-
-/// What a Defaults line is for: `@` hosts, `:` users, `!` commands, `>` runas users (sudoers(5), Defaults).
-#[derive(Drop)]
-pub struct Scope {
-    pub kind: Kind,
-    pub members: Items<Member>,
-}
-
-/// A parameter of a Defaults line; its value is without quotes and escapes.
-#[derive(Drop)]
-pub struct Param {
-    /// An odd number of `!` stands before the name.
-    pub negated: bool,
-    pub name: Items<u8>,
-    pub setting: Option<Setting>,
-}
-
-/// What a parameter is set to.
-#[derive(Drop)]
-pub struct Setting {
-    pub operator: Operator,
-    pub value: Items<u8>,
-}
-
 /// How a parameter is set.
 #[derive(Clone, Copy, Debug, PartialEq, Eq)]
 pub enum Operator {
@@ -72,39 +20,6 @@ pub enum Operator {
     Add,
     /// `-=`
     Remove,
-}
-
-/// A definition of an alias: from its name's first byte up to its last member's end.
-#[derive(Drop)]
-pub struct Def {
-    pub name: Items<u8>,
-    pub start: usize,
-    pub stop: usize,
-    pub members: Items<Member>,
-}
-
-/// Hosts, and what may be run there (sudoers(5), User specification).
-#[derive(Drop)]
-pub struct HostGroup {
-    pub hosts: Items<Member>,
-    pub commands: Items<CmdSpec>,
-}
-
-/// A command with what stands before it (sudoers(5), User specification).
-#[derive(Drop)]
-pub struct CmdSpec {
-    pub runas: Option<RunasSpec>,
-    pub options: Items<(OptionName, Items<u8>)>,
-    /// Each tag with whether it stands without `NO`.
-    pub tags: Items<(Tag, bool)>,
-    pub member: Member,
-}
-
-/// The users and groups as which a command may be run. A list without members is an absent one (sudoers(5), Runas_Spec).
-#[derive(Drop)]
-pub struct RunasSpec {
-    pub users: Items<Member>,
-    pub groups: Items<Member>,
 }
 
 /// The options of a command (sudoers(5), Option_Spec).
@@ -133,25 +48,6 @@ pub enum Tag {
     Mail,
     Passwd,
     Setenv,
-}
-
-/// A member of a list: from its first digest, `!` or other token up to its last token's end.
-#[derive(Drop)]
-pub struct Member {
-    pub start: usize,
-    pub stop: usize,
-    /// An odd number of `!` stands before it.
-    pub negated: bool,
-    /// The digests of a command; other members have none.
-    pub digests: Items<Digest>,
-    pub atom: Atom,
-}
-
-/// A digest of a command's file; of several one is enough (sudoers(5), Digest_Spec).
-#[derive(Drop)]
-pub struct Digest {
-    pub kind: DigestKind,
-    pub text: Items<u8>,
 }
 
 /// How a digest is computed.

@@ -3,14 +3,14 @@ use Rattle.std.proofs.Common.{◌≡◌, inl, inr, Bool, ℕ, zero, suc, List, [
 use Rattle.std.specs.List.{AllByRecursion}
 use Rattle.sudoers_line.specs.declared.node.Atom.TheVariants.{Alias}
 use Rattle.sudoers_line.specs.declared.node.Kind.TheVariants.{Cmnd}
-use Rattle.sudoers_line.specs.declared.node.Member.{Member}
+use Rattle.sudoers_line.specs.Node.{Member}
 use Rattle.sudoers_tree.specs.Line.{Line}
 use Rattle.sudoers_tree.specs.Definition.{members_of}
 use Rattle.sudoers_check.specs.Chain.{Has}
-use Rattle.sudoers_verdict.specs.Flat.{Signed, IsFlat, alias_of, signed, turn}
-use Rattle.sudoers_verdict.specs.Flat as flat
-use Rattle.sudoers_verdict.specs.Flattened.{replaced_by, replaced_once, replaced_times, turned_member}
-use Rattle.sudoers_list.specs.Going.{IsWithin, NamesNone}
+use Rattle.sudoers_match_list.specs.Flat.{Signed, IsFlat, alias_of, signed, turn}
+use Rattle.sudoers_match_list.specs.Flat as flat
+use Rattle.sudoers_match_list.specs.Flattened.{replaced_by, replaced_once, replaced_times, turned_member}
+use Rattle.sudoers_list.specs.internal.Going.{IsWithin, NamesNone}
 
 has_front : {Y : Type 0} (xs ys : List Y) (y : Y) → Has xs y → Has (xs ++ ys) y
 has_front [] ys y h = absurd h

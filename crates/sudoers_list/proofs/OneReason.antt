@@ -4,13 +4,13 @@ use Rattle.std.proofs.lemmas.Option.{same_Some}
 use Rattle.sudoers_line.specs.declared.node.Atom.{Atom}
 use Rattle.sudoers_line.specs.declared.node.Atom.TheVariants.{Alias}
 use Rattle.sudoers_line.specs.declared.node.Kind.TheVariants.{Cmnd}
-use Rattle.sudoers_line.specs.declared.node.Member.{Member}
+use Rattle.sudoers_line.specs.Node.{Member}
 use Rattle.sudoers_tree.specs.Line.{Line}
 use Rattle.sudoers_check.specs.Chain.{Chain, here, onward}
-use Rattle.sudoers_hits.specs.declared.asked.Who.{Who}
-use Rattle.sudoers_hits.specs.declared.request.Request.{Request}
-use Rattle.sudoers_hits.specs.Hits.{command_hits}
-use Rattle.sudoers_verdict.specs.Flat.{alias_of}
+use Rattle.sudoers_match_member.specs.declared.asked.Who.{Who}
+use Rattle.sudoers_match_member.specs.declared.request.Request.{Request}
+use Rattle.sudoers_match_member.specs.Hits.{command_hits}
+use Rattle.sudoers_match_list.specs.Flat.{alias_of}
 use Rattle.sudoers_match.specs.Answer.{Answer, command_line}
 use Rattle.sudoers_match.specs.Default.{IsRunasDefault}
 use Rattle.sudoers_match.specs.Last.{IsLast}

@@ -4,19 +4,18 @@ use Rattle.std.proofs.lemmas.List.{drop_more, length-append}
 use Rattle.sudoers_text.specs.Fault.{lf_count}
 use Rattle.sudoers_text.specs.Line.{join}
 use Rattle.sudoers_line.specs.declared.node.Kind.TheVariants.{Runas}
-use Rattle.sudoers_line.specs.declared.node.CmdSpec.{CmdSpec}
-use Rattle.sudoers_line.specs.declared.node.Member.{Member}
+use Rattle.sudoers_line.specs.Node.{CmdSpec, Member}
 use Rattle.sudoers_tree.specs.Line.{Line}
 use Rattle.sudoers_tree.specs.Policy.{texts}
 use Rattle.sudoers_match.specs.declared.head.Head.{Head as HeadHeld}
 use Rattle.sudoers_match.specs.Heads.{Head, no_head, inherit, filled}
 use Rattle.sudoers_match.specs.IsHead.{IsHead}
-use Rattle.sudoers_print.specs.Members.{printed_list}
-use Rattle.sudoers_print.specs.Commands.{printed_inside}
+use Rattle.sudoers_cvt_spell.specs.Members.{printed_list}
+use Rattle.sudoers_cvt_spell.specs.Commands.{printed_inside}
 use Rattle.sudoers_cvt.specs.Effective.{effective_command, effective_commands}
 use Rattle.sudoers_list.specs.Listing.{users_or}
 use Rattle.sudoers_list.specs.Rule.{numbered}
-use Rattle.sudoers_list.specs.Inside.{printed_behind}
+use Rattle.sudoers_list.specs.internal.Inside.{printed_behind}
 
 -- what stands in the parentheses, where there are users
 pub inside : (user : List ℕ) (us gs : List Member) → printed_list false Runas (users_or user us) ++ printed_behind gs ≡ printed_inside (users_or user us) gs

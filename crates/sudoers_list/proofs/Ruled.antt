@@ -4,16 +4,15 @@ use Rattle.std.proofs.lemmas.Option.{same_Some, slice_get-map}
 use Rattle.std.specs.List.{cons_option}
 use Rattle.std.specs.Option.{option_map}
 use Rattle.sudoers_text.specs.Fault.{lf_count}
-use Rattle.sudoers_line.specs.declared.node.HostGroup.{HostGroup}
-use Rattle.sudoers_line.specs.declared.node.Member.{Member}
-use Rattle.sudoers_rows.specs.View.{member_shown}
+use Rattle.sudoers_line.specs.Node.{HostGroup, Member}
+use Rattle.sudoers_line_rows.specs.View.{member_shown}
 use Rattle.sudoers_tree.specs.Line.{Line}
 use Rattle.sudoers_check.specs.Chain.{Has}
-use Rattle.sudoers_hits.specs.declared.asked.Who.{Who}
+use Rattle.sudoers_match_member.specs.declared.asked.Who.{Who}
 use Rattle.sudoers_match.specs.declared.groups.GroupPlace.{GroupPlace}
-use Rattle.sudoers_hits.specs.declared.request.Request.{Request}
+use Rattle.sudoers_match_member.specs.declared.request.Request.{Request}
 use Rattle.sudoers_line.specs.declared.node.Kind.TheVariants.{User, Host}
-use Rattle.sudoers_hits.specs.Hits.{user_hits, host_hits, command_hits}
+use Rattle.sudoers_match_member.specs.Hits.{user_hits, host_hits, command_hits}
 use Rattle.sudoers_match.specs.Allows.{Allows}
 use Rattle.sudoers_match.specs.Answer.{Answer, Fits, IsAnswer, command_line, is_hit, told}
 use Rattle.sudoers_match.specs.declared.rules.Found.{Found}

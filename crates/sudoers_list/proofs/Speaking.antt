@@ -5,16 +5,16 @@ use Rattle.std.specs.Option.{is_some}
 use Rattle.std.specs.Prelude.{◌↔◌, IsTrue}
 use Rattle.sudoers_line.specs.declared.node.Atom.{Atom}
 use Rattle.sudoers_line.specs.declared.node.Kind.TheVariants.{Cmnd}
-use Rattle.sudoers_line.specs.declared.node.Member.{Member}
+use Rattle.sudoers_line.specs.Node.{Member}
 use Rattle.sudoers_tree.specs.Line.{Line}
 use Rattle.sudoers_check.specs.Chain.{Has}
-use Rattle.sudoers_verdict.specs.declared.verdict.Hit.{Hit}
-use Rattle.sudoers_verdict.specs.Flat.{Signed, IsFlat, IsLatest, alias_of, has_none, hit_of, is_all, last_hit, later, signed, turn, turned}
-use Rattle.sudoers_verdict.specs.Flat as flat
-use Rattle.sudoers_verdict.proofs.Flats.{last_append, last_turned}
+use Rattle.sudoers_match_list.specs.declared.verdict.Hit.{Hit}
+use Rattle.sudoers_match_list.specs.Flat.{Signed, IsFlat, IsLatest, alias_of, has_none, hit_of, is_all, last_hit, later, signed, turn, turned}
+use Rattle.sudoers_match_list.specs.Flat as flat
+use Rattle.sudoers_match_list.proofs.Flats.{last_append, last_turned}
 use Rattle.sudoers_match.specs.Last.{IsLast}
 use Rattle.sudoers_match.proofs.Lasts.{last_then}
-use Rattle.sudoers_list.specs.Going.{HasFlat}
+use Rattle.sudoers_list.specs.internal.Going.{HasFlat}
 use Rattle.sudoers_list.specs.Inner.{Says, Speaks}
 
 -- ---- hits

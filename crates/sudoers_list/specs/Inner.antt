@@ -3,12 +3,12 @@ use Rattle.std.specs.Prelude.{◌≡◌, ℕ, Bool, List, [], ◌∷◌, Option,
 use Rattle.sudoers_line.specs.declared.node.Atom.{Atom}
 use Rattle.sudoers_line.specs.declared.node.Atom.TheVariants.{Alias}
 use Rattle.sudoers_line.specs.declared.node.Kind.TheVariants.{Cmnd}
-use Rattle.sudoers_line.specs.declared.node.Member.{Member}
+use Rattle.sudoers_line.specs.Node.{Member}
 use Rattle.sudoers_tree.specs.Line.{Line}
 use Rattle.sudoers_tree.specs.Definition.{members_of}
 use Rattle.sudoers_check.specs.Chain.{Chain}
-use Rattle.sudoers_verdict.specs.declared.verdict.Hit.{Hit}
-use Rattle.sudoers_verdict.specs.Flat.{IsLatest, alias_of}
+use Rattle.sudoers_match_list.specs.declared.verdict.Hit.{Hit}
+use Rattle.sudoers_match_list.specs.Flat.{IsLatest, alias_of}
 use Rattle.sudoers_match.specs.Last.{IsLast}
 
 -- The list says something of the command: with its aliases replaced, it has a member that matches.

@@ -2,5 +2,4 @@ pub mod Listing
 pub mod Rule
 pub mod Inner
 pub mod Reason
-pub mod Inside
-pub mod Going
+pub mod internal

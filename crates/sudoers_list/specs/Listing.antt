@@ -3,18 +3,15 @@ use Rattle.std.specs.Prelude.{◌≡◌, ℕ, false, List, [], ◌∷◌, ◌++�
 use Rattle.std.specs.List.{filter_map, flat_map}
 use Rattle.sudoers_line.specs.declared.node.Atom.TheVariants as atom
 use Rattle.sudoers_line.specs.declared.node.Kind.TheVariants.{Runas}
-use Rattle.sudoers_line.specs.declared.node.CmdSpec.{CmdSpec}
-use Rattle.sudoers_line.specs.declared.node.HostGroup.{HostGroup}
-use Rattle.sudoers_line.specs.declared.node.Member.{Member}
-use Rattle.sudoers_line.specs.declared.node.RunasSpec.{RunasSpec}
+use Rattle.sudoers_line.specs.Node.{CmdSpec, HostGroup, Member, RunasSpec}
 use Rattle.sudoers_tree.specs.Line.{Line}
-use Rattle.sudoers_hits.specs.declared.asked.Who.{Who}
+use Rattle.sudoers_match_member.specs.declared.asked.Who.{Who}
 use Rattle.sudoers_match.specs.declared.groups.GroupPlace.{GroupPlace}
 use Rattle.sudoers_match.specs.Specs.{Spec, specs_of}
 use Rattle.sudoers_match.specs.Groups.{AreHostGroups}
 use Rattle.sudoers_match.specs.Default.{IsRunasDefault}
-use Rattle.sudoers_print.specs.Members.{printed_list}
-use Rattle.sudoers_print.specs.Commands.{printed_command}
+use Rattle.sudoers_cvt_spell.specs.Members.{printed_list}
+use Rattle.sudoers_cvt_spell.specs.Commands.{printed_command}
 use Rattle.sudoers_cvt.specs.Effective.{effective_commands}
 
 -- ---- as whom a command is listed

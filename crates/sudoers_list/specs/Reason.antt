@@ -5,12 +5,12 @@ use Rattle.sudoers_line.specs.declared.node.Kind.TheVariants.{Cmnd}
 use Rattle.sudoers_tree.specs.declared.place.Place.{Place}
 use Rattle.sudoers_tree.specs.Line.{Line}
 use Rattle.sudoers_tree.specs.Definition.{place_of}
-use Rattle.sudoers_hits.specs.declared.request.Request.{Request}
-use Rattle.sudoers_hits.specs.Hits.{command_hits}
+use Rattle.sudoers_match_member.specs.declared.request.Request.{Request}
+use Rattle.sudoers_match_member.specs.Hits.{command_hits}
 use Rattle.sudoers_match.specs.Answer.{Answer, command_line}
 use Rattle.sudoers_match.specs.Default.{IsRunasDefault}
-use Rattle.sudoers_print.specs.Commands.{printed_command}
-use Rattle.sudoers_print.specs.Members.{printed_member}
+use Rattle.sudoers_cvt_spell.specs.Commands.{printed_command}
+use Rattle.sudoers_cvt_spell.specs.Members.{printed_member}
 use Rattle.sudoers_list.specs.declared.spot.Spot.{Spot}
 use Rattle.sudoers_list.specs.Listing.{listed_command}
 use Rattle.sudoers_list.specs.Inner.{Inner, IsInner}

@@ -2,13 +2,13 @@
 
 ghost use Rattle.std.specs.Prelude.{◌≡◌, map, IfOk};
 ghost use Rattle.std.specs.Option.{option_map};
-ghost use Rattle.sudoers_rows.specs.View.{group_shown, groups_shown};
+ghost use Rattle.sudoers_line_rows.specs.View.{group_shown, groups_shown};
 ghost use Rattle.sudoers_list.specs.Listing.{group_at, groups_at, groups_in};
 
 use std::alloc::{AllocError, Global};
+use sudoers_line_rows::{GroupRow, HostGroup, Node, Rows};
 use sudoers_match::GroupPlace;
-use sudoers_rows::{GroupRow, HostGroup, Node, Rows};
-use sudoers_verdict::Acyclic;
+use sudoers_match_list::Acyclic;
 
 /// Returns the host groups of each user specification.
 fn groups_in<'a>(alloc: Global, policy: &Acyclic<'a>) -> Result<Vec<Rows<'a, GroupRow>>, AllocError>

@@ -4,26 +4,25 @@ ghost use Rattle.std.specs.Prelude.{◌≡◌, ◌↔◌, ◌∷◌, [], IsTrue,
 ghost use Rattle.std.specs.Option.{option_map};
 ghost use Rattle.sudoers_line.specs.declared.node.Atom.TheVariants.{Alias as AliasOf};
 ghost use Rattle.sudoers_line.specs.declared.node.Kind.TheVariants.{Cmnd as OfCommands};
-ghost use Rattle.sudoers_rows.specs.Tables.{member_in};
-ghost use Rattle.sudoers_rows.specs.View.{atom_shown, member_shown, members_shown};
+ghost use Rattle.sudoers_line_rows.specs.Tables.{member_in};
+ghost use Rattle.sudoers_line_rows.specs.View.{atom_shown, member_shown, members_shown};
 ghost use Rattle.sudoers_tree.specs.Definition.{definitions, members_of};
-ghost use Rattle.sudoers_hits.specs.Hits.{command_hits};
-ghost use Rattle.sudoers_verdict.specs.Flat.{alias_of};
-ghost use Rattle.sudoers_verdict.specs.Search.{Remembers};
+ghost use Rattle.sudoers_match_member.specs.Hits.{command_hits};
+ghost use Rattle.sudoers_match_list.specs.Flat.{alias_of};
+ghost use Rattle.sudoers_match_list.specs.Search.{Remembers};
 ghost use Rattle.sudoers_match.specs.Answer.{command_line};
 ghost use Rattle.sudoers_match.specs.Last.{IsLast};
-ghost use Rattle.sudoers_list.specs.Going.{HasFlat, IsWithin};
+ghost use Rattle.sudoers_list.specs.internal.Going.{HasFlat, IsWithin};
 ghost use Rattle.sudoers_list.specs.Inner.{IsInner, IsInnermost, Says, Speaks};
-ghost use Rattle.sudoers_list.specs.Inside.{inner_shown};
+ghost use Rattle.sudoers_list.specs.internal.Inside.{inner_shown};
 
 use std::alloc::{AllocError, Global};
-use sudoers_hits::{CommandLine, Request};
 use sudoers_line::Kind;
+use sudoers_line_rows::{Atom, Member, MemberRow, Rows, Tables};
 use sudoers_match::join_command;
-use sudoers_rows::{Atom, Member, MemberRow, Rows, Tables};
-use sudoers_verdict::{
-    Acyclic, Commands, Decision, Verdicts, flat_then_no_cycle, flattened_is_flat, one_flat,
-};
+use sudoers_match_list::laws::{flat_then_no_cycle, flattened_is_flat, one_flat};
+use sudoers_match_list::{Acyclic, Commands, Decision, Verdicts};
+use sudoers_match_member::{CommandLine, Request};
 
 /// A member of an alias.
 #[derive(Clone, Copy)]
@@ -47,7 +46,7 @@ fn find_alias<'a>(policy: &Acyclic<'a>, member: &Member<'a>) -> Option<Alias<'a>
     let Atom::Alias(name) = member.atom else {
         return None;
     };
-    let members = policy.policy().members(Kind::Cmnd, name)?;
+    let members = policy.walk().members(Kind::Cmnd, name)?;
     Some(Alias { name, members })
 }
 

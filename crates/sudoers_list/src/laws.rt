@@ -1,19 +1,19 @@
 //! Laws of listings and of reasons. Each is the contract of a function that does nothing.
 
 ghost use Rattle.std.specs.Prelude.{◌≡◌, ℕ, List, Option, Some};
-ghost use Rattle.sudoers_line.specs.declared.node.HostGroup.{HostGroup as HostGroupOf};
+ghost use Rattle.sudoers_line.specs.Node.{HostGroup as HostGroupOf};
 ghost use Rattle.sudoers_tree.specs.Line.{Line as LineOf};
 ghost use Rattle.sudoers_check.specs.Chain.{Has};
-ghost use Rattle.sudoers_hits.specs.declared.asked.Who.{Who as WhoOf};
+ghost use Rattle.sudoers_match_member.specs.declared.asked.Who.{Who as WhoOf};
 ghost use Rattle.sudoers_match.specs.declared.groups.GroupPlace.{GroupPlace as GroupPlaceOf};
-ghost use Rattle.sudoers_hits.specs.declared.request.Request.{Request as RequestOf};
+ghost use Rattle.sudoers_match_member.specs.declared.request.Request.{Request as RequestOf};
 ghost use Rattle.sudoers_match.specs.Answer.{Answer as AnswerOf, IsAnswer};
 ghost use Rattle.sudoers_match.specs.Groups.{AreHostGroups, place_of};
 ghost use Rattle.sudoers_list.specs.Listing.{IsListing, group_at, groups_in};
 ghost use Rattle.sudoers_list.specs.Reason.{IsReason};
 ghost use Rattle.sudoers_list.specs.Rule.{Rule as RuleOf, deciding_rule};
 
-use sudoers_match::{one_list_of_host_groups, one_runas_default};
+use sudoers_match::laws::{one_list_of_host_groups, one_runas_default};
 
 /// A user on a host has one listing.
 pub fn one_listing()

@@ -4,21 +4,21 @@ ghost use Rattle.std.specs.Prelude.{◌≡◌, ◌++◌, codes, false, map, OnOk
 ghost use Rattle.std.specs.List.{flat_map};
 ghost use Rattle.std.specs.Option.{option_map};
 ghost use Rattle.sudoers_line.specs.declared.node.Kind.TheVariants.{Runas as RunasKind};
-ghost use Rattle.sudoers_rows.specs.View.{commands_shown, group_shown, member_shown, members_shown, runas_shown};
+ghost use Rattle.sudoers_line_rows.specs.View.{commands_shown, group_shown, member_shown, members_shown, runas_shown};
 ghost use Rattle.sudoers_match.specs.Heads.{Head as HeadOf};
 ghost use Rattle.sudoers_match.specs.IsHead.{IsHead};
-ghost use Rattle.sudoers_print.specs.Members.{printed_list};
-ghost use Rattle.sudoers_print.specs.Commands.{printed_command, printed_runas};
+ghost use Rattle.sudoers_cvt_spell.specs.Members.{printed_list};
+ghost use Rattle.sudoers_cvt_spell.specs.Commands.{printed_command, printed_runas};
 ghost use Rattle.sudoers_cvt.specs.Effective.{effective_command, effective_commands};
 ghost use Rattle.sudoers_list.specs.Listing.{command_line, group_lines, listed_command, listed_runas, plain, users_or};
-ghost use Rattle.sudoers_list.specs.Inside.{printed_behind};
+ghost use Rattle.sudoers_list.specs.internal.Inside.{printed_behind};
 
 use std::alloc::{AllocError, Global};
 use sudoers_cvt::print_command;
+use sudoers_cvt_spell::{append_list, append_member};
 use sudoers_line::Kind;
+use sudoers_line_rows::{Atom, CommandRow, HostGroup, Member, MemberRow, Rows, RunasSpec, Tables};
 use sudoers_match::Head;
-use sudoers_print::{append_list, append_member};
-use sudoers_rows::{Atom, CommandRow, HostGroup, Member, MemberRow, Rows, RunasSpec, Tables};
 
 /// A user who may run something, and the user as whom he runs it where nothing else is said.
 #[derive(Clone, Copy)]

@@ -1,20 +1,20 @@
 //! The listing of a user.
 
 ghost use Rattle.std.specs.Prelude.{◌≡◌, ◌⊎◌, ◌++◌, map, OnOk, IfOk, IfErr};
-ghost use Rattle.sudoers_rows.specs.View.{group_shown};
+ghost use Rattle.sudoers_line_rows.specs.View.{group_shown};
 ghost use Rattle.sudoers_check.specs.Chains.{HasReachableCycle};
-ghost use Rattle.sudoers_verdict.specs.declared.verdict.AskFault.TheVariants.{Cycle, NoMemory};
+ghost use Rattle.sudoers_match_list.specs.declared.verdict.AskFault.TheVariants.{Cycle, NoMemory};
 ghost use Rattle.sudoers_match.specs.Default.{IsRunasDefault};
 ghost use Rattle.sudoers_list.specs.Listing.{IsListing, heading, stop, verb};
 
 use crate::groups::groups_at;
 use crate::lines::{Names, append_groups, append_plain};
 use std::alloc::{AllocError, Global};
-use sudoers_hits::Who;
+use sudoers_line_rows::{HostGroup, Tables};
 use sudoers_match::{find_default, find_host_groups};
-use sudoers_rows::{HostGroup, Tables};
+use sudoers_match_list::{Acyclic, AskFault};
+use sudoers_match_member::Who;
 use sudoers_tree::Policy;
-use sudoers_verdict::{Acyclic, AskFault};
 
 /// Returns what stands before the name of the host.
 fn verb(groups: &[HostGroup<'_>]) -> &'static [u8]
@@ -63,7 +63,7 @@ pub fn list(alloc: Global, policy: &Policy, who: &Who) -> Result<Vec<u8>, AskFau
     ensures straight { IfOk result (λ _. HasReachableCycle policy.now → ⊥) }
     ensures fault { IfErr result (λ fault. (fault ≡ NoMemory) ⊎ ((fault ≡ Cycle) × HasReachableCycle policy.now)) }
 {
-    let policy = Acyclic::new(alloc, policy)?;
+    let policy = Acyclic::new(alloc, policy.walk())?;
     let default = find_default(alloc, &policy, who)?;
     Ok(list_rules(alloc, &policy, who, default)?)
 }

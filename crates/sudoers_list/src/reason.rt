@@ -3,13 +3,13 @@
 ghost use Rattle.std.specs.Prelude.{◌≡◌, ◌⊎◌, ◌++◌, Some, IfOk, IfErr, IfSome, OnOk};
 ghost use Rattle.std.specs.Option.{option_map};
 ghost use Rattle.sudoers_check.specs.Chains.{HasReachableCycle};
-ghost use Rattle.sudoers_verdict.specs.declared.verdict.AskFault.TheVariants.{Cycle, NoMemory};
+ghost use Rattle.sudoers_match_list.specs.declared.verdict.AskFault.TheVariants.{Cycle, NoMemory};
 ghost use Rattle.sudoers_match.specs.Answer.{IsAnswer, answer_shown};
 ghost use Rattle.sudoers_match.specs.Default.{IsRunasDefault};
 ghost use Rattle.sudoers_match.specs.Found.{IsFound, found_answer};
 ghost use Rattle.sudoers_match.specs.Heads.{Head as HeadOf};
 ghost use Rattle.sudoers_match.specs.IsHead.{IsHead};
-ghost use Rattle.sudoers_list.specs.Inside.{inner_shown, rule_held};
+ghost use Rattle.sudoers_list.specs.internal.Inside.{inner_shown, rule_held};
 ghost use Rattle.sudoers_list.specs.Reason.{IsReason, NamesRule, inner_text, no_rule, placed, rule_text, verdict_words as words_of};
 
 use crate::inner::{Inner, innermost};
@@ -17,12 +17,14 @@ use crate::lines::{Names, append_command};
 use crate::rule::{Rule, find_line, find_rule};
 use crate::spot::{Spot, spot_in};
 use std::alloc::{AllocError, Global};
-use sudoers_hits::Request;
+use sudoers_cvt_spell::append_member;
 use sudoers_line::Kind;
-use sudoers_match::{Answer, Found, find_default, find_row, one_answer};
-use sudoers_print::{append_member, append_number};
-use sudoers_tree::Policy;
-use sudoers_verdict::{Acyclic, AskFault};
+use sudoers_match::laws::one_answer;
+use sudoers_match::{Answer, Found, find_default, find_row};
+use sudoers_match_list::{Acyclic, AskFault};
+use sudoers_match_member::Request;
+use sudoers_text::append_number;
+use sudoers_tree::{Policy, Walk};
 
 /// Returns what stands before the rule.
 fn verdict_words(allow: bool) -> &'static [u8]
@@ -81,16 +83,16 @@ fn rule_text(
 fn append_inner(
     alloc: Global,
     out: &mut Vec<u8>,
-    policy: &Policy,
+    walk: &Walk,
     inner: &Inner<'_>,
     file: &[u8],
 ) -> Result<(), AllocError>
-    ensures { OnOk result (out.new.items ≡ out.old.items ++ inner_text file.now policy.now (Some (inner_shown inner.now))) }
+    ensures { OnOk result (out.new.items ≡ out.old.items ++ inner_text file.now walk.now (Some (inner_shown inner.now))) }
 {
-    let Some(place) = policy.definition(Kind::Cmnd, inner.name) else {
+    let Some(place) = walk.definition(Kind::Cmnd, inner.name) else {
         return Ok(());
     };
-    let Some(at) = find_line(policy, place.line) else {
+    let Some(at) = find_line(walk, place.line) else {
         return Ok(());
     };
     let spot = spot_in(at.row, at.line.text, inner.member.start);
@@ -116,11 +118,11 @@ fn answer_text<'a>(
     requires user { names.now.user.now ≡ request.now.who.user.name }
     ensures { IfOk result (λ text. NamesRule policy.now request.now file.now names.now.default.now (found_answer found.now) text.items) }
 {
-    let lines = policy.policy();
-    let rule = find_rule(lines, found);
+    let walk = policy.walk();
+    let rule = find_rule(walk, found);
     let mut text = rule_text(alloc, names, &rule, found.answer.allow, file)?;
     if let Some(inner) = innermost(alloc, policy, request, &rule.command.member)? {
-        append_inner(alloc, &mut text, lines, &inner, file)?;
+        append_inner(alloc, &mut text, walk, &inner, file)?;
     }
     Ok(text)
 }
@@ -146,7 +148,7 @@ pub fn explain(
 {
     // A request has one answer, so the row that is found has the one that is given.
     one_answer();
-    let policy = Acyclic::new(alloc, policy)?;
+    let policy = Acyclic::new(alloc, policy.walk())?;
     let default = find_default(alloc, &policy, &request.who)?;
     let found = find_row(alloc, &policy, request, default)?;
     Ok(explain_answer(alloc, &policy, request, default, found, file)?)

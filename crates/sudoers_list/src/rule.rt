@@ -3,13 +3,13 @@
 ghost use Rattle.std.specs.Prelude.{◌≡◌, ◌+◌, ◌≤◌, ◌<◌, ◌^◌, length, slice_get, IfSome};
 ghost use Rattle.std.specs.Option.{option_map};
 ghost use Rattle.sudoers_match.specs.Found.{IsFound, found_answer};
-ghost use Rattle.sudoers_list.specs.Inside.{IsRule, numbered_shown};
+ghost use Rattle.sudoers_list.specs.internal.Inside.{IsRule, numbered_shown};
 ghost use Rattle.sudoers_list.specs.Rule.{deciding_rule, numbered};
 
 use crate::spot::{Spot, spot_in};
+use sudoers_line_rows::Member;
 use sudoers_match::{Found, Head};
-use sudoers_rows::Member;
-use sudoers_tree::{Line, Policy, lf_count};
+use sudoers_tree::{Line, Walk, lf_count};
 
 /// A line, and the number of its first physical line, from 1.
 #[derive(Clone, Copy)]
@@ -33,14 +33,14 @@ pub struct Rule<'a> {
 }
 
 /// Returns the line with the number `number`, from 0.
-pub fn find_line<'a>(policy: &'a Policy, number: usize) -> Option<LineAt<'a>>
-    ensures line { option_map numbered_shown result ≡ slice_get (numbered 1 policy.now) number }
+pub fn find_line<'a>(walk: &'a Walk, number: usize) -> Option<LineAt<'a>>
+    ensures line { option_map numbered_shown result ≡ slice_get (numbered 1 walk.now) number }
     ensures small { IfSome result (λ at. at.row + length at.line.text.now ≤ 1048577) }
 {
-    policy.text_is_within_limit();
+    walk.is_within_limit();
     let mut row = 1;
     let mut left = number;
-    let lines = policy.lines();
+    let lines = walk.lines();
     for line_row in lines.rows {
         let line = Line::of(lines.tables, line_row);
         if left == 0 {
@@ -53,11 +53,11 @@ pub fn find_line<'a>(policy: &'a Policy, number: usize) -> Option<LineAt<'a>>
 }
 
 /// Returns the command by which a request is answered, with the tags of the answer.
-pub fn find_rule<'a>(policy: &'a Policy, found: &Found<'a>) -> Rule<'a>
-    requires { IsFound policy.now found.now }
-    ensures { IsRule result (deciding_rule policy.now (found_answer found.now)) }
+pub fn find_rule<'a>(walk: &'a Walk, found: &Found<'a>) -> Rule<'a>
+    requires { IsFound walk.now found.now }
+    ensures { IsRule result (deciding_rule walk.now (found_answer found.now)) }
 {
-    let Some(at) = find_line(policy, found.line) else {
+    let Some(at) = find_line(walk, found.line) else {
         unreachable!()
     };
     let head = Head {

@@ -6,19 +6,17 @@ use Rattle.std.specs.Option.{option_map}
 use Rattle.sudoers_line.specs.declared.node.Kind.{Kind}
 use Rattle.sudoers_line.specs.declared.node.Kind.TheVariants.{User, Runas, Host, Cmnd}
 use Rattle.sudoers_line.specs.declared.node.Atom.{Atom}
-use Rattle.sudoers_line.specs.declared.node.Member.{Member}
-use Rattle.sudoers_line.specs.declared.node.RunasSpec.{RunasSpec}
-use Rattle.sudoers_line.specs.declared.node.Scope.{Scope}
+use Rattle.sudoers_line.specs.Node.{Member, RunasSpec, Scope}
 use Rattle.sudoers_tree.specs.Line.{Line}
-use Rattle.sudoers_hits.specs.declared.asked.Group.{Group}
-use Rattle.sudoers_hits.specs.declared.asked.Person.{Person}
-use Rattle.sudoers_hits.specs.declared.asked.Who.{Who}
-use Rattle.sudoers_hits.specs.Hits.{user_hits, group_hits, host_hits}
-use Rattle.sudoers_verdict.specs.declared.verdict.Verdict.{Verdict}
-use Rattle.sudoers_verdict.specs.declared.verdict.Verdict.TheVariants.{Allow}
-use Rattle.sudoers_verdict.specs.Flat.{Signed, is_all, has_none, IsVerdict}
-use Rattle.sudoers_verdict.specs.Alike.{AllAlike, AreAlike}
-use Rattle.sudoers_hits.specs.declared.request.Request.{Request}
+use Rattle.sudoers_match_member.specs.declared.asked.Group.{Group}
+use Rattle.sudoers_match_member.specs.declared.asked.Person.{Person}
+use Rattle.sudoers_match_member.specs.declared.asked.Who.{Who}
+use Rattle.sudoers_match_member.specs.Hits.{user_hits, group_hits, host_hits}
+use Rattle.sudoers_match_list.specs.declared.verdict.Verdict.{Verdict}
+use Rattle.sudoers_match_list.specs.declared.verdict.Verdict.TheVariants.{Allow}
+use Rattle.sudoers_match_list.specs.Flat.{Signed, is_all, has_none, IsVerdict}
+use Rattle.sudoers_match_list.specs.Alike.{AllAlike, AreAlike}
+use Rattle.sudoers_match_member.specs.declared.request.Request.{Request}
 use Rattle.sudoers_match.specs.Alike.{MatchesSame, AreCountedAlike, AreScopesAlike, AreSettingsAlike, AreDefaultsAlike, AreRunasListsAlike, AreRunasAlike, AreRowsAlike, AreRowsEqual, SaysSame}
 use Rattle.sudoers_match.specs.Allows.{Allows}
 use Rattle.sudoers_match.specs.Answer.{Answer, Answers, Fits, is_hit, command_line, freed, told}

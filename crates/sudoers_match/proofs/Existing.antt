@@ -3,19 +3,17 @@ use Rattle.std.proofs.Common.{◌≡◌, ◌⊎◌, inl, inr, ℕ, suc, List, []
 use Rattle.std.specs.List.{cons_option, filter_map}
 use Rattle.sudoers_line.specs.declared.node.Kind.{Kind}
 use Rattle.sudoers_line.specs.declared.node.Kind.TheVariants.{Cmnd}
-use Rattle.sudoers_line.specs.declared.node.Member.{Member}
-use Rattle.sudoers_line.specs.declared.node.CmdSpec.{CmdSpec}
-use Rattle.sudoers_line.specs.declared.node.Node.{Node}
-use Rattle.sudoers_line.specs.declared.node.Node.TheVariants as node
+use Rattle.sudoers_line.specs.Node.{Member, CmdSpec, Node}
+use Rattle.sudoers_line.specs.Node as node
 use Rattle.sudoers_tree.specs.Line.{Line}
 use Rattle.sudoers_check.specs.Chain.{Has}
 use Rattle.sudoers_check.specs.Chains.{HasReachableCycle}
-use Rattle.sudoers_verdict.specs.Flat.{Signed, IsFlat}
-use Rattle.sudoers_verdict.specs.Cycle.{LeadsToCycle}
+use Rattle.sudoers_match_list.specs.Flat.{Signed, IsFlat}
+use Rattle.sudoers_match_list.specs.Cycle.{LeadsToCycle}
 use Rattle.sudoers_match.specs.Heads.{Head, no_head, inherit, filled}
 use Rattle.sudoers_match.specs.Rows.{Row, row_of, CommandRows, GroupRows, SpecRows, AreRows}
 use Rattle.sudoers_match.specs.Specs.{Spec, spec_in, specs_of, AreJoined}
-use Rattle.sudoers_match.specs.Straight.{CommandIsStraight}
+use Rattle.sudoers_match.specs.internal.Straight.{CommandIsStraight}
 use Rattle.sudoers_match.proofs.Reached.{groups_straight}
 
 has_filtered : {X Y : Type 0} (f : X → Option Y) (xs : List X) (y : Y) → Has (filter_map f xs) y → (x : X) × Has xs x × (f x ≡ Some y)

@@ -1,9 +1,9 @@
 -- What is found with an answer.
 use Rattle.std.proofs.Common.{◌≡◌, ℕ, List, slice_get, Option, Some, None, IfSome, refl, sym, ap, ◌∙◌}
 use Rattle.std.specs.Option.{option_map, option_or}
-use Rattle.sudoers_line.specs.declared.node.HostGroup.{HostGroup}
-use Rattle.sudoers_rows.specs.declared.view.Member.{Member as MemberHeld}
-use Rattle.sudoers_rows.specs.View.{member_shown}
+use Rattle.sudoers_line.specs.Node.{HostGroup}
+use Rattle.sudoers_line_rows.specs.declared.view.Member.{Member as MemberHeld}
+use Rattle.sudoers_line_rows.specs.View.{member_shown}
 use Rattle.sudoers_tree.specs.Line.{Line}
 use Rattle.sudoers_match.specs.declared.groups.GroupPlace.{GroupPlace}
 use Rattle.sudoers_match.specs.declared.head.Head.{Head as HeadHeld}
@@ -14,7 +14,7 @@ use Rattle.sudoers_match.specs.Answer.{answer_shown}
 use Rattle.sudoers_match.specs.Found.{IsFound, found_answer, numbered_specs}
 use Rattle.sudoers_match.specs.Heads.{Head, no_head, filled}
 use Rattle.sudoers_match.specs.IsHead.{IsHead}
-use Rattle.sudoers_match.specs.Question.{IsOfGroup, IsOfSpec, found_with, place_told}
+use Rattle.sudoers_match.specs.internal.Question.{IsOfGroup, IsOfSpec, found_with, place_told}
 use Rattle.sudoers_match.specs.Specs.{Spec}
 
 module _ {X : Type 0} (P : X → Type 0) where

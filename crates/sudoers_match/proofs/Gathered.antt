@@ -4,7 +4,7 @@ use Rattle.std.proofs.lemmas.List.{drop_more, drop_all}
 use Rattle.std.proofs.lemmas.Option.{slice_get-get_or, slice_get_within}
 use Rattle.std.proofs.Math.Numerals.{add-one}
 use Rattle.sudoers_match.specs.Specs.{AreJoined}
-use Rattle.sudoers_match.specs.Asked.{IsAdded, IsAllAdded}
+use Rattle.sudoers_match.specs.internal.Asked.{IsAdded, IsAllAdded}
 
 pub drop_at : {X : Type 0} (xs : List X) (i : ℕ) (x : X) → slice_get xs i ≡ Some x → drop i xs ≡ x ∷ drop (i + 1) xs
 drop_at xs i x at =

@@ -1,13 +1,13 @@
 -- Where a user has rules, in two policies whose user specifications are for the same users and hosts.
 use Rattle.std.proofs.Common.{inl, inr, ◌↔◌, ℕ, suc, List, [], ◌∷◌}
 use Rattle.sudoers_line.specs.declared.node.Atom.{Atom}
-use Rattle.sudoers_line.specs.declared.node.HostGroup.{HostGroup}
+use Rattle.sudoers_line.specs.Node.{HostGroup}
 use Rattle.sudoers_line.specs.declared.node.Kind.TheVariants.{User, Host}
 use Rattle.sudoers_tree.specs.Line.{Line}
-use Rattle.sudoers_hits.specs.declared.asked.Who.{Who}
-use Rattle.sudoers_hits.specs.Hits.{user_hits, host_hits}
-use Rattle.sudoers_verdict.specs.declared.verdict.Verdict.TheVariants.{Allow}
-use Rattle.sudoers_verdict.specs.Alike.{AllAlike}
+use Rattle.sudoers_match_member.specs.declared.asked.Who.{Who}
+use Rattle.sudoers_match_member.specs.Hits.{user_hits, host_hits}
+use Rattle.sudoers_match_list.specs.declared.verdict.Verdict.TheVariants.{Allow}
+use Rattle.sudoers_match_list.specs.Alike.{AllAlike}
 use Rattle.sudoers_match.specs.declared.groups.GroupPlace.{GroupPlace}
 use Rattle.sudoers_match.specs.Alike.{MatchesSame, AreGroupsAlike, AreSpecsAlike}
 use Rattle.sudoers_match.specs.Allows.{Allows}

@@ -3,11 +3,10 @@ use Rattle.std.proofs.Common.{◌≡◌, ℕ, suc, List, [], ◌∷◌, ◌++◌
 use Rattle.std.specs.Option.{option_map}
 use Rattle.sudoers_line.specs.declared.node.Kind.{Kind}
 use Rattle.sudoers_line.specs.declared.node.Kind.TheVariants.{Cmnd}
-use Rattle.sudoers_line.specs.declared.node.HostGroup.{HostGroup}
-use Rattle.sudoers_line.specs.declared.node.Member.{Member}
+use Rattle.sudoers_line.specs.Node.{HostGroup, Member}
 use Rattle.sudoers_tree.specs.Line.{Line}
-use Rattle.sudoers_verdict.specs.Flat.{Signed, IsFlat}
-use Rattle.sudoers_hits.specs.declared.request.Request.{Request}
+use Rattle.sudoers_match_list.specs.Flat.{Signed, IsFlat}
+use Rattle.sudoers_match_member.specs.declared.request.Request.{Request}
 use Rattle.sudoers_match.specs.Answer.{Answer, Fits, told, IsAnswer}
 use Rattle.sudoers_match.specs.Heads.{Head, no_head, filled}
 use Rattle.sudoers_match.specs.Last.{IsLast}

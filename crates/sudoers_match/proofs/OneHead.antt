@@ -6,7 +6,7 @@ use Rattle.sudoers_line.specs.declared.node.OptionName.{OptionName}
 use Rattle.sudoers_line.specs.declared.node.OptionName.TheVariants as option
 use Rattle.sudoers_line.specs.declared.node.Tag.{Tag}
 use Rattle.sudoers_line.specs.declared.node.Tag.TheVariants as tag
-use Rattle.sudoers_rows.specs.View.{runas_shown}
+use Rattle.sudoers_line_rows.specs.View.{runas_shown}
 use Rattle.sudoers_match.specs.declared.head.Head.{Head as HeadHeld}
 use Rattle.sudoers_match.specs.declared.tags.Tags.{Tags}
 use Rattle.sudoers_match.specs.Heads.{Head, last_said, tags_of}

@@ -1,9 +1,8 @@
 -- A user on a host has one list of host groups, and one runas_default.
 use Rattle.std.proofs.Common.{◌≡◌, inl, inr, ℕ, List, Option, sym, ap, ◌∙◌}
-use Rattle.sudoers_line.specs.declared.node.HostGroup.{HostGroup}
-use Rattle.sudoers_line.specs.declared.node.Scope.{Scope}
+use Rattle.sudoers_line.specs.Node.{HostGroup, Scope}
 use Rattle.sudoers_tree.specs.Line.{Line}
-use Rattle.sudoers_hits.specs.declared.asked.Who.{Who}
+use Rattle.sudoers_match_member.specs.declared.asked.Who.{Who}
 use Rattle.sudoers_match.specs.declared.groups.GroupPlace.{GroupPlace}
 use Rattle.sudoers_match.specs.Default.{IsFor, defaults_of, name_or_root, IsRunasDefault}
 use Rattle.sudoers_match.specs.Groups.{GroupPlaces, SpecPlaces, AreHostGroups}

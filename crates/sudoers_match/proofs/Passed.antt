@@ -2,22 +2,22 @@
 use Rattle.std.proofs.Common.{◌≡◌, ℕ, ◌+◌, ◌<◌, ◌≤◌, List, [], ◌∷◌, ◌++◌, length, map, drop, get_or, slice_get, Some, None, refl, sym, ap, subst, ◌∙◌, append_assoc, append-nil, Option}
 use Rattle.std.specs.List.{cons_option}
 use Rattle.std.proofs.lemmas.List.{drop_more, drop_all}
-use Rattle.sudoers_line.specs.declared.node.Node.TheVariants as node
-use Rattle.sudoers_rows.specs.declared.list.Rows.{Rows}
-use Rattle.sudoers_rows.specs.declared.rows.MemberRow.{MemberRow}
-use Rattle.sudoers_rows.specs.declared.rows.GroupRow.{GroupRow}
-use Rattle.sudoers_rows.specs.declared.rows.Tables.{Tables}
+use Rattle.sudoers_line.specs.Node as node
+use Rattle.sudoers_line_rows.specs.declared.list.Rows.{Rows}
+use Rattle.sudoers_line_rows.specs.declared.rows.MemberRow.{MemberRow}
+use Rattle.sudoers_line_rows.specs.declared.rows.GroupRow.{GroupRow}
+use Rattle.sudoers_line_rows.specs.declared.rows.Tables.{Tables}
 use Rattle.std.specs.Option.{option_map}
-use Rattle.sudoers_rows.specs.declared.rows.ParamRow.{ParamRow}
-use Rattle.sudoers_rows.specs.declared.view.Scope.{Scope as ScopeView}
+use Rattle.sudoers_line_rows.specs.declared.rows.ParamRow.{ParamRow}
+use Rattle.sudoers_line_rows.specs.declared.view.Scope.{Scope as ScopeView}
 use Rattle.sudoers_match.specs.Default.{defaults_in}
-use Rattle.sudoers_rows.specs.declared.view.Node.{Node as NodeView}
-use Rattle.sudoers_rows.specs.declared.view.Node.TheVariants as view
-use Rattle.sudoers_rows.specs.Tables.{node_in}
-use Rattle.sudoers_rows.specs.View.{members_shown, groups_shown, params_shown, scope_shown, node_shown}
+use Rattle.sudoers_line_rows.specs.declared.view.Node.{Node as NodeView}
+use Rattle.sudoers_line_rows.specs.declared.view.Node.TheVariants as view
+use Rattle.sudoers_line_rows.specs.Tables.{node_in}
+use Rattle.sudoers_line_rows.specs.View.{members_shown, groups_shown, params_shown, scope_shown, node_shown}
 use Rattle.sudoers_tree.specs.Line.{Line, line_in}
 use Rattle.sudoers_tree.specs.declared.line.LineRow.{LineRow}
-use Rattle.sudoers_hits.specs.declared.asked.Who.{Who}
+use Rattle.sudoers_match_member.specs.declared.asked.Who.{Who}
 use Rattle.sudoers_match.specs.declared.groups.GroupPlace.{GroupPlace}
 use Rattle.sudoers_match.specs.Specs.{Spec, spec_in, specs_of, AreJoined}
 use Rattle.sudoers_match.specs.Found.{numbered_specs}

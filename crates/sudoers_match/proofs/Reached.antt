@@ -3,20 +3,15 @@ use Rattle.std.proofs.Common.{refl, ◌≡◌, inl, inr, List, [], ◌∷◌, ma
 use Rattle.std.specs.List.{flat_map}
 use Rattle.sudoers_line.specs.declared.node.Kind.{Kind}
 use Rattle.sudoers_line.specs.declared.node.Kind.TheVariants.{User, Runas, Host, Cmnd}
-use Rattle.sudoers_line.specs.declared.node.Member.{Member}
-use Rattle.sudoers_line.specs.declared.node.RunasSpec.{RunasSpec}
-use Rattle.sudoers_line.specs.declared.node.CmdSpec.{CmdSpec}
-use Rattle.sudoers_line.specs.declared.node.HostGroup.{HostGroup}
-use Rattle.sudoers_line.specs.declared.node.Scope.{Scope}
-use Rattle.sudoers_line.specs.declared.node.Param.{Param}
-use Rattle.sudoers_line.specs.declared.node.Node.TheVariants as node
+use Rattle.sudoers_line.specs.Node.{Member, RunasSpec, CmdSpec, HostGroup, Scope, Param}
+use Rattle.sudoers_line.specs.Node as node
 use Rattle.sudoers_tree.specs.Line.{Line}
 use Rattle.sudoers_tree.specs.Mention.{of_runas, in_group}
 use Rattle.sudoers_check.specs.Chain.{Has}
 use Rattle.sudoers_check.specs.Chains.{names_in, roots_in, HasReachableCycle}
 use Rattle.sudoers_check.proofs.Named.{has_front, has_back, has_flat, kind_itself}
-use Rattle.sudoers_verdict.proofs.Straight.{list_straight}
-use Rattle.sudoers_match.specs.Straight.{IsStraight, ScopeIsStraight, RunasIsStraight, CommandIsStraight, GroupIsStraight, GroupsAreStraight}
+use Rattle.sudoers_match_list.proofs.Straight.{list_straight}
+use Rattle.sudoers_match.specs.internal.Straight.{IsStraight, ScopeIsStraight, RunasIsStraight, CommandIsStraight, GroupIsStraight, GroupsAreStraight}
 
 has_map : {X Y : Type 0} (f : X → Y) (xs : List X) (x : X) → Has xs x → Has (map f xs) (f x)
 has_map f [] x h = absurd h

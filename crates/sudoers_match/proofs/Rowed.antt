@@ -5,26 +5,23 @@ use Rattle.std.specs.Option.{option_map, option_or}
 use Rattle.std.proofs.Math.Numerals.{add-one}
 use Rattle.std.proofs.lemmas.Bool.{false≢true}
 use Rattle.sudoers_line.specs.declared.node.Kind.TheVariants.{User, Host, Cmnd}
-use Rattle.sudoers_line.specs.declared.node.Member.{Member}
-use Rattle.sudoers_line.specs.declared.node.HostGroup.{HostGroup}
+use Rattle.sudoers_line.specs.Node.{Member, HostGroup, CmdSpec, RunasSpec}
 use Rattle.sudoers_tree.specs.Line.{Line}
-use Rattle.sudoers_hits.specs.Hits.{user_hits, host_hits, command_hits}
-use Rattle.sudoers_verdict.specs.declared.verdict.Hit.{Hit}
-use Rattle.sudoers_verdict.specs.Flat.{Signed, IsFlat, IsLatest, hit_of, later, last_hit, is_all}
+use Rattle.sudoers_match_member.specs.Hits.{user_hits, host_hits, command_hits}
+use Rattle.sudoers_match_list.specs.declared.verdict.Hit.{Hit}
+use Rattle.sudoers_match_list.specs.Flat.{Signed, IsFlat, IsLatest, hit_of, later, last_hit, is_all}
 use Rattle.sudoers_match.specs.declared.rules.Place.{Place}
-use Rattle.sudoers_hits.specs.declared.request.Request.{Request}
+use Rattle.sudoers_match_member.specs.declared.request.Request.{Request}
 use Rattle.sudoers_match.specs.Allows.{Allows}
 use Rattle.sudoers_match.specs.Answer.{Answer, Answers, Fits, command_line, freed, is_hit, told}
-use Rattle.sudoers_line.specs.declared.node.CmdSpec.{CmdSpec}
-use Rattle.sudoers_line.specs.declared.node.RunasSpec.{RunasSpec}
 use Rattle.std.proofs.lemmas.List.{drop_all}
 use Rattle.sudoers_match.proofs.Gathered.{drop_at, drop_next}
 use Rattle.sudoers_match.specs.declared.head.Head.{Head as HeadHeld}
 use Rattle.sudoers_match.specs.IsHead.{IsHead}
-use Rattle.sudoers_match.specs.Straight.{RunasIsStraight}
+use Rattle.sudoers_match.specs.internal.Straight.{RunasIsStraight}
 use Rattle.sudoers_match.specs.Heads.{Head, no_head, inherit, filled, tags_of}
 use Rattle.sudoers_match.specs.Moment.{is_in_time}
-use Rattle.sudoers_match.specs.Question.{IsSoFar, IsListSoFar, told_by}
+use Rattle.sudoers_match.specs.internal.Question.{IsSoFar, IsListSoFar, told_by}
 use Rattle.sudoers_match.specs.Rows.{Row, row_of, CommandRows, GroupRows, SpecRows}
 use Rattle.sudoers_match.specs.Runas.{RunasAllows}
 use Rattle.sudoers_match.specs.Specs.{Spec, AreJoined}

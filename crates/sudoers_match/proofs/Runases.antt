@@ -2,18 +2,18 @@
 use Rattle.std.proofs.Common.{◌≡◌, ℕ, ◌&&◌, ◌==◌, length, map, Bool, true, false, List, [], ◌∷◌, Option, Some, None, refl, sym, ap, ◌∙◌, Result, Ok, Err, IfOk}
 use Rattle.std.proofs.lemmas.Bool.{false≢true}
 use Rattle.sudoers_line.specs.declared.node.Kind.TheVariants.{Runas}
-use Rattle.sudoers_line.specs.declared.node.Member.{Member}
+use Rattle.sudoers_line.specs.Node.{Member}
 use Rattle.sudoers_tree.specs.Line.{Line}
-use Rattle.sudoers_hits.specs.declared.asked.Group.{Group}
-use Rattle.sudoers_hits.specs.declared.asked.Person.{Person}
-use Rattle.sudoers_hits.specs.declared.asked.Who.{Who}
-use Rattle.sudoers_hits.specs.Hits.{user_hits, group_hits, is_same_name}
-use Rattle.sudoers_verdict.specs.declared.verdict.Hit.{Hit}
-use Rattle.sudoers_verdict.specs.declared.verdict.Verdict.{Verdict}
-use Rattle.sudoers_verdict.specs.Flat.{IsLatest, IsVerdict, verdict_of}
+use Rattle.sudoers_match_member.specs.declared.asked.Group.{Group}
+use Rattle.sudoers_match_member.specs.declared.asked.Person.{Person}
+use Rattle.sudoers_match_member.specs.declared.asked.Who.{Who}
+use Rattle.sudoers_match_member.specs.Hits.{user_hits, group_hits, is_same_name}
+use Rattle.sudoers_match_list.specs.declared.verdict.Hit.{Hit}
+use Rattle.sudoers_match_list.specs.declared.verdict.Verdict.{Verdict}
+use Rattle.sudoers_match_list.specs.Flat.{IsLatest, IsVerdict, verdict_of}
 use Rattle.sudoers_match.specs.Allows.{Permits}
 use Rattle.sudoers_match.specs.Default.{IsRunasDefault}
-use Rattle.sudoers_match.specs.Question.{GroupPermits, RunasPermits}
+use Rattle.sudoers_match.specs.internal.Question.{GroupPermits, RunasPermits}
 use Rattle.sudoers_match.specs.Runas.{is_among, may_use}
 use Rattle.sudoers_match.proofs.Settings.{one_default}
 

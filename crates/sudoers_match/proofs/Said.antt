@@ -2,12 +2,12 @@
 use Rattle.std.proofs.Common.{◌≡◌, Bool, true, false, List, Option, subst}
 use Rattle.sudoers_line.specs.declared.node.Kind.{Kind}
 use Rattle.sudoers_line.specs.declared.node.Atom.{Atom}
-use Rattle.sudoers_line.specs.declared.node.Member.{Member}
+use Rattle.sudoers_line.specs.Node.{Member}
 use Rattle.sudoers_tree.specs.Line.{Line}
-use Rattle.sudoers_verdict.specs.declared.verdict.Hit.{Hit}
-use Rattle.sudoers_verdict.specs.declared.verdict.Verdict.{Verdict}
-use Rattle.sudoers_verdict.specs.declared.verdict.Verdict.TheVariants.{Allow}
-use Rattle.sudoers_verdict.specs.Flat.{IsLatest, IsVerdict, verdict_of}
+use Rattle.sudoers_match_list.specs.declared.verdict.Hit.{Hit}
+use Rattle.sudoers_match_list.specs.declared.verdict.Verdict.{Verdict}
+use Rattle.sudoers_match_list.specs.declared.verdict.Verdict.TheVariants.{Allow}
+use Rattle.sudoers_match_list.specs.Flat.{IsLatest, IsVerdict, verdict_of}
 use Rattle.sudoers_match.specs.Allows.{Permits}
 
 module _ (k : Kind) (lines : List Line) (test : Atom → Bool) (ms : List Member) where

@@ -5,14 +5,13 @@ use Rattle.std.specs.Option.{option_or}
 use Rattle.std.proofs.lemmas.List.{take_more, take_all}
 use Rattle.std.proofs.lemmas.Grind.{flat_map-append}
 use Rattle.std.proofs.lemmas.Option.{slice_get-get_or, slice_get_within}
-use Rattle.sudoers_line.specs.declared.node.Scope.{Scope}
-use Rattle.sudoers_line.specs.declared.node.Param.{Param}
-use Rattle.sudoers_line.specs.declared.node.Node.TheVariants as node
+use Rattle.sudoers_line.specs.Node.{Scope, Param}
+use Rattle.sudoers_line.specs.Node as node
 use Rattle.sudoers_tree.specs.Line.{Line}
-use Rattle.sudoers_hits.specs.declared.asked.Who.{Who}
+use Rattle.sudoers_match_member.specs.declared.asked.Who.{Who}
 use Rattle.sudoers_match.specs.Last.{IsLast, last_of}
 use Rattle.sudoers_match.specs.Default.{IsFor, with_scope, settings_in, defaults_in, defaults_of, name_or_root, IsRunasDefault}
-use Rattle.sudoers_match.specs.Asked.{Counts, IsLatestDefault, IsNameSoFar}
+use Rattle.sudoers_match.specs.internal.Asked.{Counts, IsLatestDefault, IsNameSoFar}
 use Rattle.sudoers_match.proofs.Lasts.{last_then, last_one}
 
 module _ {X : Type 0} where

@@ -6,9 +6,9 @@ use Rattle.sudoers_line.specs.declared.node.Tag.TheVariants as tag
 use Rattle.sudoers_match.specs.declared.tags.Tags.{Tags}
 use Rattle.sudoers_match.specs.Heads.{last_said, tag_place, tag_of, tags_of, set_tag}
 use Rattle.std.proofs.lemmas.List.{take_more, length-map, get_or-map}
-use Rattle.sudoers_rows.specs.declared.rows.TagRow.{TagRow}
-use Rattle.sudoers_rows.specs.declared.rows.Tables.{Tables as TablesOf}
-use Rattle.sudoers_rows.specs.Tables.{tag_in}
+use Rattle.sudoers_line_rows.specs.declared.rows.TagRow.{TagRow}
+use Rattle.sudoers_line_rows.specs.declared.rows.Tables.{Tables as TablesOf}
+use Rattle.sudoers_line_rows.specs.Tables.{tag_in}
 use Rattle.sudoers_match.proofs.Lasts.{or_none}
 
 or_assoc : {X : Type 0} (a b c : Option X) → option_or (option_or a b) c ≡ option_or a (option_or b c)

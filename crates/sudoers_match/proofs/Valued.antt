@@ -4,9 +4,9 @@ use Rattle.std.specs.Option.{option_or}
 use Rattle.std.proofs.lemmas.List.{take_more, length-map, get_or-map}
 use Rattle.sudoers_line.specs.declared.node.OptionName.{OptionName}
 use Rattle.sudoers_line.specs.declared.node.OptionName.TheVariants as option
-use Rattle.sudoers_rows.specs.declared.rows.OptionRow.{OptionRow}
-use Rattle.sudoers_rows.specs.declared.rows.Tables.{Tables}
-use Rattle.sudoers_rows.specs.Tables.{option_in, text_in}
+use Rattle.sudoers_line_rows.specs.declared.rows.OptionRow.{OptionRow}
+use Rattle.sudoers_line_rows.specs.declared.rows.Tables.{Tables}
+use Rattle.sudoers_line_rows.specs.Tables.{option_in, text_in}
 use Rattle.sudoers_match.specs.Heads.{option_place, option_of}
 use Rattle.sudoers_match.specs.Values.{Values, values_of, set_value}
 use Rattle.sudoers_match.proofs.Tagged.{said_more}

@@ -3,18 +3,15 @@ use Rattle.std.specs.Prelude.{◌≡◌, ℕ, List, [], ◌∷◌, Option, Some,
 use Rattle.sudoers_line.specs.declared.node.Kind.{Kind}
 use Rattle.sudoers_line.specs.declared.node.Kind.TheVariants.{User, Runas, Host, Cmnd}
 use Rattle.sudoers_line.specs.declared.node.Atom.{Atom}
-use Rattle.sudoers_line.specs.declared.node.HostGroup.{HostGroup}
-use Rattle.sudoers_line.specs.declared.node.Member.{Member}
-use Rattle.sudoers_line.specs.declared.node.RunasSpec.{RunasSpec}
-use Rattle.sudoers_line.specs.declared.node.Scope.{Scope}
+use Rattle.sudoers_line.specs.Node.{HostGroup, Member, RunasSpec, Scope}
 use Rattle.sudoers_tree.specs.Line.{Line}
-use Rattle.sudoers_hits.specs.declared.asked.CommandLine.{CommandLine}
-use Rattle.sudoers_hits.specs.declared.asked.Group.{Group}
-use Rattle.sudoers_hits.specs.declared.asked.Person.{Person}
-use Rattle.sudoers_hits.specs.declared.asked.Who.{Who}
-use Rattle.sudoers_hits.specs.Hits.{user_hits, group_hits, host_hits, command_hits}
-use Rattle.sudoers_verdict.specs.Flat.{is_all}
-use Rattle.sudoers_verdict.specs.Alike.{AllAlike, AreAlike, rewritten}
+use Rattle.sudoers_match_member.specs.declared.asked.CommandLine.{CommandLine}
+use Rattle.sudoers_match_member.specs.declared.asked.Group.{Group}
+use Rattle.sudoers_match_member.specs.declared.asked.Person.{Person}
+use Rattle.sudoers_match_member.specs.declared.asked.Who.{Who}
+use Rattle.sudoers_match_member.specs.Hits.{user_hits, group_hits, host_hits, command_hits}
+use Rattle.sudoers_match_list.specs.Flat.{is_all}
+use Rattle.sudoers_match_list.specs.Alike.{AllAlike, AreAlike, rewritten}
 use Rattle.sudoers_match.specs.Answer.{Answer}
 use Rattle.sudoers_match.specs.Default.{defaults_of}
 use Rattle.sudoers_match.specs.Heads.{tags_of}

@@ -2,10 +2,10 @@
 use Rattle.std.specs.Prelude.{Bool, true, false, List}
 use Rattle.sudoers_line.specs.declared.node.Kind.{Kind}
 use Rattle.sudoers_line.specs.declared.node.Atom.{Atom}
-use Rattle.sudoers_line.specs.declared.node.Member.{Member}
+use Rattle.sudoers_line.specs.Node.{Member}
 use Rattle.sudoers_tree.specs.Line.{Line}
-use Rattle.sudoers_verdict.specs.declared.verdict.Verdict.TheVariants.{Allow}
-use Rattle.sudoers_verdict.specs.Flat.{IsVerdict}
+use Rattle.sudoers_match_list.specs.declared.verdict.Verdict.TheVariants.{Allow}
+use Rattle.sudoers_match_list.specs.Flat.{IsVerdict}
 
 -- The verdict of the list is Allow.
 abbrev pub Allows : Kind → List Line → (Atom → Bool) → List Member → Type 0

@@ -3,11 +3,11 @@ use Rattle.std.specs.Prelude.{◌≡◌, ◌&&◌, ℕ, Bool, true, List, [], �
 use Rattle.std.specs.Option.{option_map, option_or}
 use Rattle.sudoers_line.specs.declared.node.Kind.TheVariants.{User, Host}
 use Rattle.sudoers_tree.specs.Line.{Line}
-use Rattle.sudoers_hits.specs.declared.asked.CommandLine.{CommandLine}
-use Rattle.sudoers_hits.specs.Hits.{user_hits, host_hits, command_hits}
-use Rattle.sudoers_verdict.specs.Flat.{Signed, is_all, has_none}
+use Rattle.sudoers_match_member.specs.declared.asked.CommandLine.{CommandLine}
+use Rattle.sudoers_match_member.specs.Hits.{user_hits, host_hits, command_hits}
+use Rattle.sudoers_match_list.specs.Flat.{Signed, is_all, has_none}
 use Rattle.sudoers_match.specs.declared.tags.Tags.{Tags}
-use Rattle.sudoers_hits.specs.declared.request.Request.{Request}
+use Rattle.sudoers_match_member.specs.declared.request.Request.{Request}
 use Rattle.sudoers_match.specs.declared.rules.Answer.{Answer as AnswerHeld}
 use Rattle.sudoers_match.specs.Allows.{Allows}
 use Rattle.sudoers_match.specs.Heads.{tags_of}

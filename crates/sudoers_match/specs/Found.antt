@@ -2,8 +2,8 @@
 use Rattle.std.specs.Prelude.{◌≡◌, ◌+◌, ℕ, List, [], ◌∷◌, slice_get, Some}
 use Rattle.std.specs.List.{cons_option}
 use Rattle.std.specs.Option.{option_map}
-use Rattle.sudoers_line.specs.declared.node.HostGroup.{HostGroup}
-use Rattle.sudoers_rows.specs.View.{member_shown}
+use Rattle.sudoers_line.specs.Node.{HostGroup}
+use Rattle.sudoers_line_rows.specs.View.{member_shown}
 use Rattle.sudoers_tree.specs.Line.{Line}
 use Rattle.sudoers_match.specs.declared.rules.Found.{Found}
 use Rattle.sudoers_match.specs.Answer.{Answer, answer_shown}

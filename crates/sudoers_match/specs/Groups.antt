@@ -1,10 +1,10 @@
 -- Where a user has rules: the host groups whose users and whose hosts match (sudoers(5), User specification).
 use Rattle.std.specs.Prelude.{◌≡◌, ◌⊎◌, ℕ, List, [], ◌∷◌}
 use Rattle.sudoers_line.specs.declared.node.Kind.TheVariants.{User, Host}
-use Rattle.sudoers_line.specs.declared.node.HostGroup.{HostGroup}
+use Rattle.sudoers_line.specs.Node.{HostGroup}
 use Rattle.sudoers_tree.specs.Line.{Line}
-use Rattle.sudoers_hits.specs.Hits.{user_hits, host_hits}
-use Rattle.sudoers_hits.specs.declared.asked.Who.{Who}
+use Rattle.sudoers_match_member.specs.Hits.{user_hits, host_hits}
+use Rattle.sudoers_match_member.specs.declared.asked.Who.{Who}
 use Rattle.sudoers_match.specs.declared.groups.GroupPlace.{GroupPlace}
 use Rattle.sudoers_match.specs.Specs.{Spec, specs_of, AreJoined}
 use Rattle.sudoers_match.specs.Allows.{Allows}

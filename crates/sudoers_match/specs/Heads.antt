@@ -2,13 +2,11 @@
 use Rattle.std.specs.Prelude.{ℕ, ◌==◌, Bool, List, [], ◌∷◌, ◌++◌, Option, Some, None, if◌then◌else◌}
 use Rattle.std.specs.List.{filter_map}
 use Rattle.std.specs.Option.{option_map, option_or}
-use Rattle.sudoers_line.specs.declared.node.CmdSpec.{CmdSpec}
-use Rattle.sudoers_line.specs.declared.node.RunasSpec.{RunasSpec}
+use Rattle.sudoers_line.specs.Node.{CmdSpec, RunasSpec, Member}
 use Rattle.sudoers_line.specs.declared.node.OptionName.{OptionName}
 use Rattle.sudoers_line.specs.declared.node.OptionName.TheVariants as option
 use Rattle.sudoers_line.specs.declared.node.Tag.{Tag}
 use Rattle.sudoers_line.specs.declared.node.Tag.TheVariants as tag
-use Rattle.sudoers_line.specs.declared.node.Member.{Member}
 use Rattle.sudoers_match.specs.declared.tags.Tags.{Tags}
 
 -- The Runas_Spec of a command, and the options and tags of the commands before it and of itself, in this order.

@@ -1,7 +1,7 @@
 -- What the code holds of a command beside its member.
 use Rattle.std.specs.Prelude.{◌≡◌}
 use Rattle.std.specs.Option.{option_map}
-use Rattle.sudoers_rows.specs.View.{runas_shown}
+use Rattle.sudoers_line_rows.specs.View.{runas_shown}
 use Rattle.sudoers_match.specs.declared.head.Head.{Head as HeadHeld}
 use Rattle.sudoers_match.specs.Heads.{Head, tags_of}
 use Rattle.sudoers_match.specs.Values.{values_of, values_shown}

@@ -6,12 +6,10 @@ pub mod Default
 pub mod Heads
 pub mod Values
 pub mod IsHead
-pub mod Asked
-pub mod Straight
 pub mod Moment
 pub mod Runas
 pub mod Rows
 pub mod Answer
 pub mod Found
-pub mod Question
 pub mod Alike
+pub mod internal

@@ -1,6 +1,6 @@
 -- The time stamps that bound a command (sudoers(5), Date_Spec).
 use Rattle.std.specs.Prelude.{ℕ, ◌&&◌, nat_le, Bool, true, List, Option, Some, None}
-use Rattle.sudoers_hits.specs.Moment.{stamp_number}
+use Rattle.sudoers_match_member.specs.Moment.{stamp_number}
 use Rattle.sudoers_match.specs.Values.{Values}
 
 abbrev pub is_from : ℕ → Option (List ℕ) → Bool

@@ -1,10 +1,9 @@
 -- Rows: each way in which the user specifications may let a command run (sudoers(5), User specification).
 use Rattle.std.specs.Prelude.{◌≡◌, ℕ, List, [], ◌∷◌, map}
 use Rattle.sudoers_line.specs.declared.node.Kind.TheVariants.{Cmnd}
-use Rattle.sudoers_line.specs.declared.node.Member.{Member}
-use Rattle.sudoers_line.specs.declared.node.HostGroup.{HostGroup}
+use Rattle.sudoers_line.specs.Node.{Member, HostGroup}
 use Rattle.sudoers_tree.specs.Line.{Line}
-use Rattle.sudoers_verdict.specs.Flat.{Signed, IsFlat}
+use Rattle.sudoers_match_list.specs.Flat.{Signed, IsFlat}
 use Rattle.sudoers_match.specs.Heads.{Head, no_head, filled}
 use Rattle.sudoers_match.specs.Specs.{Spec, specs_of, AreJoined}
 

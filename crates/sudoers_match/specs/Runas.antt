@@ -1,16 +1,15 @@
 -- As whom a command may run (sudoers(5), Runas_Spec, runas_default).
 use Rattle.std.specs.Prelude.{◌≡◌, ℕ, Bool, true, false, List, [], ◌∷◌, Option, Some, None}
 use Rattle.sudoers_line.specs.declared.node.Kind.TheVariants.{Runas}
-use Rattle.sudoers_line.specs.declared.node.Member.{Member}
-use Rattle.sudoers_line.specs.declared.node.RunasSpec.{RunasSpec}
+use Rattle.sudoers_line.specs.Node.{Member, RunasSpec}
 use Rattle.sudoers_tree.specs.Line.{Line}
-use Rattle.sudoers_hits.specs.declared.asked.Group.{Group}
-use Rattle.sudoers_hits.specs.declared.asked.Person.{Person}
-use Rattle.sudoers_hits.specs.declared.asked.Who.{Who}
-use Rattle.sudoers_hits.specs.Hits.{belongs_to_number, user_hits, group_hits, is_same_name}
-use Rattle.sudoers_verdict.specs.declared.verdict.Verdict.{Verdict}
-use Rattle.sudoers_verdict.specs.declared.verdict.Verdict.TheVariants.{Allow, Deny, Unsaid}
-use Rattle.sudoers_verdict.specs.Flat.{IsVerdict}
+use Rattle.sudoers_match_member.specs.declared.asked.Group.{Group}
+use Rattle.sudoers_match_member.specs.declared.asked.Person.{Person}
+use Rattle.sudoers_match_member.specs.declared.asked.Who.{Who}
+use Rattle.sudoers_match_member.specs.Hits.{belongs_to_number, user_hits, group_hits, is_same_name}
+use Rattle.sudoers_match_list.specs.declared.verdict.Verdict.{Verdict}
+use Rattle.sudoers_match_list.specs.declared.verdict.Verdict.TheVariants.{Allow, Deny, Unsaid}
+use Rattle.sudoers_match_list.specs.Flat.{IsVerdict}
 use Rattle.sudoers_match.specs.Allows.{Allows}
 use Rattle.sudoers_match.specs.Default.{IsRunasDefault}
 

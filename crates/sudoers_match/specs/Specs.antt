@@ -1,10 +1,8 @@
 -- User specifications, by their numbers (sudoers(5), User specification).
 use Rattle.std.specs.Prelude.{◌≡◌, ℕ, suc, List, [], ◌∷◌, ◌++◌, Option, Some, None}
 use Rattle.std.specs.List.{filter_map}
-use Rattle.sudoers_line.specs.declared.node.Member.{Member}
-use Rattle.sudoers_line.specs.declared.node.HostGroup.{HostGroup}
-use Rattle.sudoers_line.specs.declared.node.Node.{Node}
-use Rattle.sudoers_line.specs.declared.node.Node.TheVariants as node
+use Rattle.sudoers_line.specs.Node.{Member, HostGroup, Node}
+use Rattle.sudoers_line.specs.Node as node
 use Rattle.sudoers_tree.specs.Line.{Line}
 
 pub record Spec : Type 0 where

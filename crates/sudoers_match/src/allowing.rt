@@ -1,15 +1,16 @@
 //! Lists that allow what is asked.
 
 ghost use Rattle.std.specs.Prelude.{◌≡◌, IfOk};
-ghost use Rattle.sudoers_rows.specs.View.{members_shown};
-ghost use Rattle.sudoers_verdict.specs.Flat.{IsLatest, IsVerdict};
-ghost use Rattle.sudoers_verdict.specs.Search.{Remembers};
+ghost use Rattle.sudoers_line_rows.specs.View.{members_shown};
+ghost use Rattle.sudoers_match_list.specs.Flat.{IsLatest, IsVerdict};
+ghost use Rattle.sudoers_match_list.specs.Search.{Remembers};
 ghost use Rattle.sudoers_match.specs.Allows.{Permits};
-ghost use Rattle.sudoers_match.specs.Straight.{IsStraight};
+ghost use Rattle.sudoers_match.specs.internal.Straight.{IsStraight};
 
 use std::alloc::AllocError;
+use sudoers_match_list::laws::one_verdict;
+use sudoers_match_list::{Acyclic, Decision, Hit, MemberKind, Verdict, Verdicts};
 use sudoers_tree::{Kind, MemberRow, Rows};
-use sudoers_verdict::{Acyclic, Decision, Hit, MemberKind, Verdict, Verdicts, one_verdict};
 
 /// Returns what the list `members` says of `asked`. The list leads to no cyclic alias.
 ///

@@ -3,21 +3,21 @@
 ghost use Rattle.std.specs.Prelude.{◌≡◌, ◌⊎◌, ◌<◌, ◌≤◌, ◌∷◌, [], List, length, Some, IfOk, IfErr, IfSome};
 ghost use Rattle.std.specs.Option.{option_map};
 ghost use Rattle.sudoers_line.specs.declared.node.Kind.TheVariants.{User as OfUsers, Host as OfHosts, Cmnd as OfCommands};
-ghost use Rattle.sudoers_line.specs.declared.node.Member.{Member as MemberOf};
-ghost use Rattle.sudoers_rows.specs.View.{group_shown, groups_shown, members_shown, runas_shown};
-ghost use Rattle.sudoers_hits.specs.Hits.{user_hits, host_hits};
+ghost use Rattle.sudoers_line.specs.Node.{Member as MemberOf};
+ghost use Rattle.sudoers_line_rows.specs.View.{group_shown, groups_shown, members_shown, runas_shown};
+ghost use Rattle.sudoers_match_member.specs.Hits.{user_hits, host_hits};
 ghost use Rattle.sudoers_check.specs.Chains.{HasReachableCycle};
-ghost use Rattle.sudoers_verdict.specs.declared.verdict.AskFault.TheVariants.{Cycle, TooLong, NoMemory};
+ghost use Rattle.sudoers_match_list.specs.declared.verdict.AskFault.TheVariants.{Cycle, TooLong, NoMemory};
 ghost use Rattle.sudoers_match.specs.Allows.{Allows};
 ghost use Rattle.sudoers_match.specs.Default.{IsRunasDefault};
 ghost use Rattle.sudoers_match.specs.Answer.{Answers, IsAnswer, answer_shown, argument_limit, joined};
 ghost use Rattle.sudoers_match.specs.Found.{IsFound, found_answer};
 ghost use Rattle.sudoers_match.specs.Heads.{Head as HeadOf, no_head};
 ghost use Rattle.sudoers_match.specs.IsHead.{IsHead};
-ghost use Rattle.sudoers_match.specs.Question.{IsOfGroup, IsOfSpec, IsQuestion, PermittedIs, RunasPermits, place_told};
+ghost use Rattle.sudoers_match.specs.internal.Question.{IsOfGroup, IsOfSpec, IsQuestion, PermittedIs, RunasPermits, place_told};
 ghost use Rattle.sudoers_match.specs.Rows.{Row, CommandRows, GroupRows, SpecRows};
 ghost use Rattle.sudoers_match.specs.Specs.{spec_of};
-ghost use Rattle.sudoers_match.specs.Straight.{IsStraight, RunasIsStraight, GroupIsStraight, GroupsAreStraight};
+ghost use Rattle.sudoers_match.specs.internal.Straight.{IsStraight, RunasIsStraight, GroupIsStraight, GroupsAreStraight};
 
 use crate::allowing::{allows, find_hit};
 use crate::defaults::find_default;
@@ -28,10 +28,11 @@ use crate::question::{Asked, Question};
 use crate::request::{join_command, join_words};
 use crate::rules::{Answer, Found, Place, find_at, take_answer, tell};
 use std::alloc::{AllocError, Global};
-use sudoers_hits::Request;
-use sudoers_rows::HostGroup;
+use sudoers_line_rows::HostGroup;
+use sudoers_match_list::laws::{flat_or_cycle, one_flat};
+use sudoers_match_list::{Acyclic, AskFault, Commands, Hosts, Users};
+use sudoers_match_member::Request;
 use sudoers_tree::{GroupRow, Kind, MemberRow, Node, Policy, Rows};
-use sudoers_verdict::{Acyclic, AskFault, Commands, Hosts, Users, flat_or_cycle, one_flat};
 
 /// The greatest length of the arguments of a request, joined by single spaces.
 const ARGUMENT_LIMIT: usize = 65_536;
@@ -54,7 +55,7 @@ pub fn answer<'a>(
     ensures fault { IfErr result (λ fault. (fault ≡ NoMemory) ⊎ (((fault ≡ Cycle) × HasReachableCycle policy.now)
         ⊎ ((fault ≡ TooLong) × (HasReachableCycle policy.now → ⊥) × (argument_limit < length (joined request.now.args))))) }
 {
-    let policy = Acyclic::new(alloc, policy)?;
+    let policy = Acyclic::new(alloc, policy.walk())?;
     let default = find_default(alloc, &policy, &request.who)?;
     let found = find_answer(alloc, &policy, request, default)?;
     Ok(take_answer(found))

@@ -4,21 +4,21 @@ ghost use Rattle.std.specs.Prelude.{◌≡◌, ◌⊎◌, ℕ, List, IfOk, IfErr
 ghost use Rattle.std.specs.Option.{option_map};
 ghost use Rattle.std.specs.Borrow.{Bor};
 ghost use Rattle.sudoers_line.specs.declared.node.Kind.TheVariants.{User as OfUsers, Host as OfHosts};
-ghost use Rattle.sudoers_rows.specs.View.{param_shown, params_shown, scope_shown};
-ghost use Rattle.sudoers_hits.specs.Hits.{user_hits, host_hits};
+ghost use Rattle.sudoers_line_rows.specs.View.{param_shown, params_shown, scope_shown};
+ghost use Rattle.sudoers_match_member.specs.Hits.{user_hits, host_hits};
 ghost use Rattle.sudoers_check.specs.Chains.{HasReachableCycle};
-ghost use Rattle.sudoers_verdict.specs.declared.verdict.AskFault.TheVariants.{Cycle, NoMemory};
-ghost use Rattle.sudoers_verdict.specs.Search.{Remembers};
+ghost use Rattle.sudoers_match_list.specs.declared.verdict.AskFault.TheVariants.{Cycle, NoMemory};
+ghost use Rattle.sudoers_match_list.specs.Search.{Remembers};
 ghost use Rattle.sudoers_match.specs.Last.{last_of};
 ghost use Rattle.sudoers_match.specs.Default.{IsRunasDefault, default_in, settings_in};
-ghost use Rattle.sudoers_match.specs.Asked.{Counts, IsLatestDefault};
-ghost use Rattle.sudoers_match.specs.Straight.{ScopeIsStraight};
+ghost use Rattle.sudoers_match.specs.internal.Asked.{Counts, IsLatestDefault};
+ghost use Rattle.sudoers_match.specs.internal.Straight.{ScopeIsStraight};
 
 use crate::allowing::allows;
 use std::alloc::{AllocError, Global};
-use sudoers_hits::Who;
+use sudoers_match_list::{Acyclic, AskFault, Hosts, Users, Verdicts};
+use sudoers_match_member::Who;
 use sudoers_tree::{Kind, Node, Operator, Param, ParamRow, Policy, Rows, Scope, Setting};
-use sudoers_verdict::{Acyclic, AskFault, Hosts, Users, Verdicts};
 
 /// Returns the value to which `param` sets runas_default, if it sets it.
 fn read_setting<'a>(param: &Param<'a>) -> Option<&'a [u8]>
@@ -64,7 +64,7 @@ pub fn runas_default<'a>(alloc: Global, policy: &'a Policy, who: &Who) -> Result
     ensures straight { IfOk result (λ _. HasReachableCycle policy.now → ⊥) }
     ensures fault { IfErr result (λ fault. (fault ≡ NoMemory) ⊎ ((fault ≡ Cycle) × HasReachableCycle policy.now)) }
 {
-    let policy = Acyclic::new(alloc, policy)?;
+    let policy = Acyclic::new(alloc, policy.walk())?;
     Ok(find_default(alloc, &policy, who)?)
 }
 

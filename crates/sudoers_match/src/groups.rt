@@ -2,20 +2,20 @@
 
 ghost use Rattle.std.specs.Prelude.{◌≡◌, ◌⊎◌, ◌++◌, ◌∷◌, [], IfOk, IfErr, OnOk};
 ghost use Rattle.sudoers_line.specs.declared.node.Kind.TheVariants.{Host as OfHosts};
-ghost use Rattle.sudoers_rows.specs.View.{groups_shown};
-ghost use Rattle.sudoers_hits.specs.Hits.{host_hits};
+ghost use Rattle.sudoers_line_rows.specs.View.{groups_shown};
+ghost use Rattle.sudoers_match_member.specs.Hits.{host_hits};
 ghost use Rattle.sudoers_check.specs.Chains.{HasReachableCycle};
-ghost use Rattle.sudoers_verdict.specs.declared.verdict.AskFault.TheVariants.{Cycle, NoMemory};
-ghost use Rattle.sudoers_verdict.specs.Search.{Remembers};
+ghost use Rattle.sudoers_match_list.specs.declared.verdict.AskFault.TheVariants.{Cycle, NoMemory};
+ghost use Rattle.sudoers_match_list.specs.Search.{Remembers};
 ghost use Rattle.sudoers_match.specs.Groups.{AreHostGroups, GroupPlaces};
-ghost use Rattle.sudoers_match.specs.Asked.{IsAllAdded};
-ghost use Rattle.sudoers_match.specs.Straight.{GroupsAreStraight};
+ghost use Rattle.sudoers_match.specs.internal.Asked.{IsAllAdded};
+ghost use Rattle.sudoers_match.specs.internal.Straight.{GroupsAreStraight};
 
 use crate::allowing::allows;
 use std::alloc::{AllocError, Global};
-use sudoers_hits::Who;
+use sudoers_match_list::{Acyclic, AskFault, Hosts, Users, Verdicts};
+use sudoers_match_member::Who;
 use sudoers_tree::{GroupRow, Kind, Node, Policy, Rows};
-use sudoers_verdict::{Acyclic, AskFault, Hosts, Users, Verdicts};
 
 /// Where a host group stands (sudoers(5), User specification).
 #[derive(Clone, Copy, Debug, PartialEq, Eq)]
@@ -36,7 +36,7 @@ pub fn host_groups(alloc: Global, policy: &Policy, who: &Who) -> Result<Vec<Grou
     ensures straight { IfOk result (λ _. HasReachableCycle policy.now → ⊥) }
     ensures fault { IfErr result (λ fault. (fault ≡ NoMemory) ⊎ ((fault ≡ Cycle) × HasReachableCycle policy.now)) }
 {
-    let policy = Acyclic::new(alloc, policy)?;
+    let policy = Acyclic::new(alloc, policy.walk())?;
     Ok(find_host_groups(alloc, &policy, who)?)
 }
 

@@ -1,12 +1,12 @@
 //! What stands before a command: as whom it runs, its options and its tags.
 
-ghost use Rattle.sudoers_rows.specs.View.{command_shown};
+ghost use Rattle.sudoers_line_rows.specs.View.{command_shown};
 ghost use Rattle.sudoers_match.specs.Heads.{Head as HeadOf, no_head, inherit};
 ghost use Rattle.sudoers_match.specs.IsHead.{IsHead};
 
 use crate::options::Options;
 use crate::tags::Tags;
-use sudoers_rows::{CmdSpec, RunasSpec};
+use sudoers_line_rows::{CmdSpec, RunasSpec};
 
 /// What holds of a command beside its member.
 #[derive(Clone, Copy)]

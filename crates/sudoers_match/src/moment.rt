@@ -5,7 +5,7 @@ ghost use Rattle.sudoers_match.specs.Moment.{is_in_time};
 ghost use Rattle.sudoers_match.specs.Values.{values_shown};
 
 use crate::options::Options;
-use sudoers_hits::stamp_number;
+use sudoers_match_member::stamp_number;
 
 /// Returns whether `moment` is not before NOTBEFORE and not after NOTAFTER.
 pub fn is_in_time(moment: u64, options: &Options<'_>) -> bool

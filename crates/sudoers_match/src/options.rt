@@ -2,11 +2,11 @@
 
 ghost use Rattle.std.specs.Prelude.{◌≡◌, ◌++◌, ℕ, List, []};
 ghost use Rattle.sudoers_line.specs.declared.node.OptionName.{OptionName as NameOf};
-ghost use Rattle.sudoers_rows.specs.View.{options_shown};
+ghost use Rattle.sudoers_line_rows.specs.View.{options_shown};
 ghost use Rattle.sudoers_match.specs.Values.{values_of, values_shown, set_value};
 
 use sudoers_line::OptionName;
-use sudoers_rows::{OptionRow, Rows};
+use sudoers_line_rows::{OptionRow, Rows};
 
 /// The options of a command: the value of each, if it is set (sudoers(5), Option_Spec).
 #[derive(Clone, Copy, Debug)]

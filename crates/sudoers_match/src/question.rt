@@ -2,22 +2,23 @@
 
 ghost use Rattle.std.specs.Prelude.{◌≡◌, IfOk};
 ghost use Rattle.sudoers_line.specs.declared.node.Kind.TheVariants.{Runas as OfRunas};
-ghost use Rattle.sudoers_rows.specs.View.{members_shown, runas_shown};
+ghost use Rattle.sudoers_line_rows.specs.View.{members_shown, runas_shown};
 ghost use Rattle.std.specs.Option.{option_map};
-ghost use Rattle.sudoers_hits.specs.Hits.{user_hits};
+ghost use Rattle.sudoers_match_member.specs.Hits.{user_hits};
 ghost use Rattle.sudoers_match.specs.Allows.{Permits};
 ghost use Rattle.sudoers_match.specs.Answer.{command_line};
 ghost use Rattle.sudoers_match.specs.Default.{IsRunasDefault};
-ghost use Rattle.sudoers_match.specs.Question.{IsQuestion, GroupPermits, RunasPermits};
+ghost use Rattle.sudoers_match.specs.internal.Question.{IsQuestion, GroupPermits, RunasPermits};
 ghost use Rattle.sudoers_match.specs.Runas.{is_among};
-ghost use Rattle.sudoers_match.specs.Straight.{IsStraight, RunasIsStraight};
+ghost use Rattle.sudoers_match.specs.internal.Straight.{IsStraight, RunasIsStraight};
 
 use crate::allowing::{allows, find_hit};
 use std::alloc::{AllocError, Global};
-use sudoers_hits::{CommandLine, Group, Request, belongs_to_number, is_same_name};
-use sudoers_rows::RunasSpec;
+use sudoers_line_rows::RunasSpec;
+use sudoers_match_list::laws::one_verdict;
+use sudoers_match_list::{Acyclic, Groups, Users, Verdict, Verdicts};
+use sudoers_match_member::{CommandLine, Group, Request, belongs_to_number, is_same_name};
 use sudoers_tree::{Kind, MemberRow, Rows};
-use sudoers_verdict::{Acyclic, Groups, Users, Verdict, Verdicts, one_verdict};
 
 /// A request to a policy.
 #[derive(Clone, Copy)]

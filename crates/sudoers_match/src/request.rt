@@ -4,8 +4,8 @@ ghost use Rattle.std.specs.Prelude.{◌≡◌, IfOk};
 ghost use Rattle.sudoers_match.specs.Answer.{command_line, joined};
 
 use std::alloc::{AllocError, Global};
-use sudoers_hits::{CommandLine, Request};
 use sudoers_line::Items;
+use sudoers_match_member::{CommandLine, Request};
 
 /// Returns `words`, joined by single spaces.
 ///

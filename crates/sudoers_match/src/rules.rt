@@ -6,13 +6,13 @@ ghost use Rattle.sudoers_match.specs.Answer.{answer_shown};
 ghost use Rattle.sudoers_match.specs.Heads.{Head as HeadOf};
 ghost use Rattle.sudoers_match.specs.IsHead.{IsHead};
 ghost use Rattle.sudoers_match.specs.Found.{found_answer};
-ghost use Rattle.sudoers_match.specs.Question.{found_with, place_told, told_by};
+ghost use Rattle.sudoers_match.specs.internal.Question.{found_with, place_told, told_by};
 
 use crate::head::Head;
 use crate::options::Options;
 use crate::tags::Tags;
-use sudoers_rows::Member;
-use sudoers_verdict::Hit;
+use sudoers_line_rows::Member;
+use sudoers_match_list::Hit;
 
 /// The row that answers a request: where it stands, and what it says of the command.
 #[derive(Clone, Copy, Debug)]

@@ -2,11 +2,11 @@
 
 ghost use Rattle.std.specs.Prelude.{◌≡◌, ◌++◌, ◌∷◌, [], Bool, List};
 ghost use Rattle.sudoers_line.specs.declared.node.Tag.{Tag as TagOf};
-ghost use Rattle.sudoers_rows.specs.View.{tags_shown};
+ghost use Rattle.sudoers_line_rows.specs.View.{tags_shown};
 ghost use Rattle.sudoers_match.specs.Heads.{tags_of, set_tag};
 
 use sudoers_line::Tag;
-use sudoers_rows::{Rows, TagRow};
+use sudoers_line_rows::{Rows, TagRow};
 
 /// The tags of a command: each with whether it stands without `NO`, if it stands (sudoers(5), Tag_Spec).
 #[derive(Clone, Copy, Debug, PartialEq, Eq)]

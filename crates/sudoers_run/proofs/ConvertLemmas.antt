@@ -6,13 +6,13 @@ use Rattle.sudoers_tree.specs.Line.{Line}
 use Rattle.sudoers_tree.specs.declared.fault.ReadFault.{ReadFault}
 use Rattle.sudoers_cvt.specs.declared.fault.CvtFault.TheVariants.{Cycle, TooLarge, NotUtf8}
 use Rattle.sudoers_cvt.specs.Rules.{Rules, rules_of, fits, printed}
-use Rattle.sudoers_rewrite.specs.declared.filter.Filter.{Filter}
-use Rattle.sudoers_rewrite.specs.declared.filter_text.FilterFault.{FilterFault}
-use Rattle.sudoers_rewrite.specs.FilterText.{filter_of}
-use Rattle.sudoers_rewrite.specs.Count.{member_limit}
-use Rattle.sudoers_rewrite.specs.Rewrite.{Changes, has_round, member_count, rewritten, used_rules}
-use Rattle.sudoers_json.specs.Value.{json_text, rules_value}
-use Rattle.sudoers_json.specs.Unicode.{is_unicode}
+use Rattle.sudoers_cvt_rewrite.specs.declared.filter.Filter.{Filter}
+use Rattle.sudoers_cvt_rewrite.specs.declared.filter_text.FilterFault.{FilterFault}
+use Rattle.sudoers_cvt_rewrite.specs.FilterText.{filter_of}
+use Rattle.sudoers_cvt_rewrite.specs.Count.{member_limit}
+use Rattle.sudoers_cvt_rewrite.specs.Rewrite.{Changes, has_round, member_count, rewritten, used_rules}
+use Rattle.sudoers_cvt_json.specs.Value.{json_text, rules_value}
+use Rattle.sudoers_cvt_json.specs.Unicode.{is_unicode}
 use Rattle.sudoers_run.specs.declared.form.Form.{Form}
 use Rattle.sudoers_run.specs.declared.form.Form.TheVariants as form
 use Rattle.sudoers_run.specs.declared.fault.LayerFault.{LayerFault}

@@ -5,17 +5,17 @@ use Rattle.std.specs.Option.{option_map, option_or}
 use Rattle.sudoers_text.specs.Fault.{text_limit}
 use Rattle.sudoers_tree.specs.Line.{Line}
 use Rattle.sudoers_tree.specs.declared.fault.ReadFault.{ReadFault}
-use Rattle.sudoers_hits.specs.declared.asked.Who.{Who}
-use Rattle.sudoers_verdict.specs.declared.verdict.AskFault.TheVariants.{Cycle}
-use Rattle.sudoers_hits.specs.declared.request.Request.{Request}
-use Rattle.sudoers_people.specs.declared.fault.PeopleFile.TheVariants.{Passwd, Group}
-use Rattle.sudoers_people.specs.declared.fault.PeopleFault.{PeopleFault}
-use Rattle.sudoers_people.specs.declared.fault.PeopleFault.TheVariants as people
-use Rattle.sudoers_people.specs.declared.fault.WhoFault.{WhoFault}
-use Rattle.sudoers_people.specs.Rows.{account_in, group_in, is_bad}
-use Rattle.sudoers_people.specs.Person.{who_told}
-use Rattle.sudoers_people.specs.Asked.{request_told}
-use Rattle.sudoers_people.specs.People.{People, bad_row, people_of, people_told, rows, unless}
+use Rattle.sudoers_match_member.specs.declared.asked.Who.{Who}
+use Rattle.sudoers_match_list.specs.declared.verdict.AskFault.TheVariants.{Cycle}
+use Rattle.sudoers_match_member.specs.declared.request.Request.{Request}
+use Rattle.sudoers_list_people.specs.declared.fault.PeopleFile.TheVariants.{Passwd, Group}
+use Rattle.sudoers_list_people.specs.declared.fault.PeopleFault.{PeopleFault}
+use Rattle.sudoers_list_people.specs.declared.fault.PeopleFault.TheVariants as people
+use Rattle.sudoers_list_people.specs.declared.fault.WhoFault.{WhoFault}
+use Rattle.sudoers_list_people.specs.Rows.{account_in, group_in, is_bad}
+use Rattle.sudoers_list_people.specs.Person.{who_told}
+use Rattle.sudoers_list_people.specs.Asked.{request_told}
+use Rattle.sudoers_list_people.specs.People.{People, bad_row, people_of, people_told, rows, unless}
 use Rattle.sudoers_run.specs.declared.fault.LayerFault.{LayerFault}
 use Rattle.sudoers_run.specs.declared.fault.LayerFault.TheVariants as layer
 use Rattle.sudoers_run.specs.declared.fault.ToolFault.{ToolFault}

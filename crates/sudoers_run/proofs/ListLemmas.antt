@@ -7,30 +7,30 @@ use Rattle.sudoers_text.specs.Fault.{text_limit}
 use Rattle.sudoers_tree.specs.Line.{Line}
 use Rattle.sudoers_tree.specs.declared.fault.ReadFault.{ReadFault}
 use Rattle.sudoers_check.specs.Chains.{HasReachableCycle}
-use Rattle.sudoers_hits.specs.declared.asked.Who.{Who}
-use Rattle.sudoers_hits.specs.declared.request.Request.{Request}
-use Rattle.sudoers_verdict.specs.declared.verdict.AskFault.{AskFault}
-use Rattle.sudoers_verdict.specs.declared.verdict.AskFault.TheVariants as ask
+use Rattle.sudoers_match_member.specs.declared.asked.Who.{Who}
+use Rattle.sudoers_match_member.specs.declared.request.Request.{Request}
+use Rattle.sudoers_match_list.specs.declared.verdict.AskFault.{AskFault}
+use Rattle.sudoers_match_list.specs.declared.verdict.AskFault.TheVariants as ask
 use Rattle.sudoers_match.specs.Answer.{argument_limit, joined}
 use Rattle.sudoers_match.specs.Default.{IsRunasDefault}
-use Rattle.sudoers_people.specs.declared.fault.PeopleFile.{PeopleFile}
-use Rattle.sudoers_people.specs.declared.fault.PeopleFile.TheVariants.{Passwd, Group}
-use Rattle.sudoers_people.specs.declared.fault.PeopleFault.{PeopleFault}
-use Rattle.sudoers_people.specs.declared.fault.PeopleFault.TheVariants as people
-use Rattle.sudoers_people.specs.declared.fault.WhoFault.{WhoFault}
-use Rattle.sudoers_people.specs.Rows.{account_in, group_in}
-use Rattle.sudoers_people.specs.Person.{account_named, who_told}
-use Rattle.sudoers_hits.specs.declared.asked.Group.{Group as GroupOf}
-use Rattle.sudoers_people.specs.declared.account.Account.{Account}
-use Rattle.sudoers_people.specs.Asked.{group_asked, moment_in, request_from, request_told}
-use Rattle.sudoers_people.specs.People.{People, file_fault, people_of, people_told, unless}
+use Rattle.sudoers_list_people.specs.declared.fault.PeopleFile.{PeopleFile}
+use Rattle.sudoers_list_people.specs.declared.fault.PeopleFile.TheVariants.{Passwd, Group}
+use Rattle.sudoers_list_people.specs.declared.fault.PeopleFault.{PeopleFault}
+use Rattle.sudoers_list_people.specs.declared.fault.PeopleFault.TheVariants as people
+use Rattle.sudoers_list_people.specs.declared.fault.WhoFault.{WhoFault}
+use Rattle.sudoers_list_people.specs.Rows.{account_in, group_in}
+use Rattle.sudoers_list_people.specs.Person.{account_named, who_told}
+use Rattle.sudoers_match_member.specs.declared.asked.Group.{Group as GroupOf}
+use Rattle.sudoers_list_people.specs.declared.account.Account.{Account}
+use Rattle.sudoers_list_people.specs.Asked.{group_asked, moment_in, request_from, request_told}
+use Rattle.sudoers_list_people.specs.People.{People, file_fault, people_of, people_told, unless}
 use Rattle.sudoers_run.specs.declared.fault.LayerFault.{LayerFault}
 use Rattle.sudoers_run.specs.declared.fault.LayerFault.TheVariants as layer
 use Rattle.sudoers_run.specs.declared.fault.ToolFault.{ToolFault}
 use Rattle.sudoers_run.specs.declared.fault.ToolFault.TheVariants as tool
 use Rattle.sudoers_run.specs.declared.output.Output.{Output}
 use Rattle.sudoers_run.specs.declared.words.ListWords.{ListWords}
-use Rattle.sudoers_run.specs.LayerOf.{layer_of_ask}
+use Rattle.sudoers_run.specs.internal.LayerOf.{layer_of_ask}
 use Rattle.sudoers_run.specs.Device.{Meter}
 use Rattle.sudoers_run.specs.Policy.{IsOfReader, policy_of}
 use Rattle.sudoers_run.specs.Reading.{IsFrontFault}

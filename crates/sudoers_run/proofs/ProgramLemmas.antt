@@ -2,7 +2,7 @@
 use Rattle.std.proofs.Common.{◌≡◌, ℕ, true, false, List, [], ◌∷◌, ◌++◌, Option, Some, None, refl, ap, ◌∙◌, append_assoc, append-nil}
 use Rattle.std.specs.Option.{option_map}
 use Rattle.sudoers_text.specs.Line.{join}
-use Rattle.sudoers_script.specs.Physical.{physical_lines}
+use Rattle.sudoers_edit_script.specs.Physical.{physical_lines}
 use Rattle.sudoers_run.specs.Program.{is_mark, split_lines}
 
 split_map : (front line : List ℕ) (o : Option (List (List ℕ) × List (List ℕ))) → option_map {U = List ℕ × List ℕ} (λ p. ((front ++ line) ++ join p.0, join p.1)) o ≡ option_map {U = List ℕ × List ℕ} (λ p. (front ++ join p.0, join p.1)) (option_map {U = List (List ℕ) × List (List ℕ)} (λ p. (line ∷ p.0, p.1)) o)

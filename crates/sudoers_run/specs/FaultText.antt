@@ -11,20 +11,20 @@ use Rattle.sudoers_tree.specs.declared.fault.ReadFault.TheVariants as read
 use Rattle.sudoers_line.specs.Kind.{kind_name}
 use Rattle.sudoers_edit.specs.declared.fault.EditFault.{EditFault}
 use Rattle.sudoers_edit.specs.declared.fault.EditFault.TheVariants as edit
-use Rattle.sudoers_script.specs.declared.script.ScriptFault.{ScriptFault}
-use Rattle.sudoers_script.specs.declared.script.ScriptFault.TheVariants as script
+use Rattle.sudoers_edit_script.specs.declared.script.ScriptFault.{ScriptFault}
+use Rattle.sudoers_edit_script.specs.declared.script.ScriptFault.TheVariants as script
 use Rattle.sudoers_cvt.specs.declared.fault.CvtFault.{CvtFault}
 use Rattle.sudoers_cvt.specs.declared.fault.CvtFault.TheVariants as cvt
-use Rattle.sudoers_rewrite.specs.declared.filter_text.FilterFault.{FilterFault}
-use Rattle.sudoers_rewrite.specs.declared.filter_text.FilterFault.TheVariants as filter
-use Rattle.sudoers_people.specs.declared.fault.PeopleFile.{PeopleFile}
-use Rattle.sudoers_people.specs.declared.fault.PeopleFile.TheVariants as file
-use Rattle.sudoers_people.specs.declared.fault.PeopleFault.{PeopleFault}
-use Rattle.sudoers_people.specs.declared.fault.PeopleFault.TheVariants as people
-use Rattle.sudoers_people.specs.declared.fault.WhoFault.{WhoFault}
-use Rattle.sudoers_people.specs.declared.fault.WhoFault.TheVariants as who
-use Rattle.sudoers_verdict.specs.declared.verdict.AskFault.{AskFault}
-use Rattle.sudoers_verdict.specs.declared.verdict.AskFault.TheVariants as ask
+use Rattle.sudoers_cvt_rewrite.specs.declared.filter_text.FilterFault.{FilterFault}
+use Rattle.sudoers_cvt_rewrite.specs.declared.filter_text.FilterFault.TheVariants as filter
+use Rattle.sudoers_list_people.specs.declared.fault.PeopleFile.{PeopleFile}
+use Rattle.sudoers_list_people.specs.declared.fault.PeopleFile.TheVariants as file
+use Rattle.sudoers_list_people.specs.declared.fault.PeopleFault.{PeopleFault}
+use Rattle.sudoers_list_people.specs.declared.fault.PeopleFault.TheVariants as people
+use Rattle.sudoers_list_people.specs.declared.fault.WhoFault.{WhoFault}
+use Rattle.sudoers_list_people.specs.declared.fault.WhoFault.TheVariants as who
+use Rattle.sudoers_match_list.specs.declared.verdict.AskFault.{AskFault}
+use Rattle.sudoers_match_list.specs.declared.verdict.AskFault.TheVariants as ask
 use Rattle.sudoers_run.specs.declared.fault.LayerFault.{LayerFault}
 use Rattle.sudoers_run.specs.declared.fault.LayerFault.TheVariants as layer
 use Rattle.sudoers_run.specs.declared.fault.ToolFault.{ToolFault}

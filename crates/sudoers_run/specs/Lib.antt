@@ -3,10 +3,10 @@ pub mod Reading
 pub mod Policy
 pub mod FaultText
 pub mod Shown
-pub mod LayerOf
 pub mod Program
 pub mod Faults
 pub mod Show
 pub mod Check
 pub mod Convert
 pub mod List
+pub mod internal

@@ -6,18 +6,18 @@ use Rattle.sudoers_text.specs.Fault.{text_limit}
 use Rattle.sudoers_tree.specs.Line.{Line}
 use Rattle.sudoers_tree.specs.declared.fault.ReadFault.{ReadFault}
 use Rattle.sudoers_check.specs.Chains.{HasReachableCycle}
-use Rattle.sudoers_hits.specs.declared.asked.Who.{Who}
-use Rattle.sudoers_verdict.specs.declared.verdict.AskFault.TheVariants.{Cycle, TooLong}
-use Rattle.sudoers_hits.specs.declared.request.Request.{Request}
+use Rattle.sudoers_match_member.specs.declared.asked.Who.{Who}
+use Rattle.sudoers_match_list.specs.declared.verdict.AskFault.TheVariants.{Cycle, TooLong}
+use Rattle.sudoers_match_member.specs.declared.request.Request.{Request}
 use Rattle.sudoers_match.specs.Answer.{Answer, IsAnswer, argument_limit, joined}
 use Rattle.sudoers_match.specs.Default.{IsRunasDefault}
-use Rattle.sudoers_people.specs.People.{People, people_told}
-use Rattle.sudoers_people.specs.Person.{who_told}
-use Rattle.sudoers_people.specs.Asked.{request_told}
-use Rattle.sudoers_people.specs.declared.fault.PeopleFile.TheVariants.{Passwd}
-use Rattle.sudoers_people.specs.declared.fault.PeopleFault.{PeopleFault}
-use Rattle.sudoers_people.specs.declared.fault.PeopleFault.TheVariants as people
-use Rattle.sudoers_people.specs.declared.fault.WhoFault.{WhoFault}
+use Rattle.sudoers_list_people.specs.People.{People, people_told}
+use Rattle.sudoers_list_people.specs.Person.{who_told}
+use Rattle.sudoers_list_people.specs.Asked.{request_told}
+use Rattle.sudoers_list_people.specs.declared.fault.PeopleFile.TheVariants.{Passwd}
+use Rattle.sudoers_list_people.specs.declared.fault.PeopleFault.{PeopleFault}
+use Rattle.sudoers_list_people.specs.declared.fault.PeopleFault.TheVariants as people
+use Rattle.sudoers_list_people.specs.declared.fault.WhoFault.{WhoFault}
 use Rattle.sudoers_list.specs.Listing.{IsListing}
 use Rattle.sudoers_list.specs.Reason.{IsReason}
 use Rattle.sudoers_run.specs.Device.{Meter}

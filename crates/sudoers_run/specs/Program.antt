@@ -4,10 +4,10 @@ use Rattle.std.specs.Option.{option_map}
 use Rattle.sudoers_text.specs.Line.{join}
 use Rattle.sudoers_tree.specs.declared.fault.ReadFault.{ReadFault}
 use Rattle.sudoers_tree.specs.Policy.{texts}
-use Rattle.sudoers_script.specs.declared.edit.Edit.{Edit}
+use Rattle.sudoers_edit_script.specs.declared.edit.Edit.{Edit}
 use Rattle.sudoers_edit.specs.declared.fault.EditFault.{EditFault}
-use Rattle.sudoers_script.specs.declared.script.ScriptFault.{ScriptFault}
-use Rattle.sudoers_script.specs.declared.script.ScriptFault.TheVariants as script
+use Rattle.sudoers_edit_script.specs.declared.script.ScriptFault.{ScriptFault}
+use Rattle.sudoers_edit_script.specs.declared.script.ScriptFault.TheVariants as script
 use Rattle.sudoers_run.specs.declared.fault.LayerFault.{LayerFault}
 use Rattle.sudoers_run.specs.declared.fault.LayerFault.TheVariants as layer
 use Rattle.sudoers_run.specs.declared.fault.ToolFault.{ToolFault}
@@ -15,10 +15,10 @@ use Rattle.sudoers_run.specs.declared.fault.ToolFault.TheVariants as tool
 use Rattle.sudoers_run.specs.Policy.{policy_of}
 use Rattle.sudoers_edit.specs.Memory.{IsOfText}
 use Rattle.sudoers_run.specs.Faults.{IsScriptFault, IsRefusal}
-use Rattle.sudoers_script.specs.Physical.{physical_lines}
+use Rattle.sudoers_edit_script.specs.Physical.{physical_lines}
 use Rattle.sudoers_edit.specs.Editing.{run_all, inv_run}
-use Rattle.sudoers_script.specs.Script.{edit_limit, spelling}
-use Rattle.sudoers_script.specs.ScriptReading.{reading}
+use Rattle.sudoers_edit_script.specs.Script.{edit_limit, spelling}
+use Rattle.sudoers_edit_script.specs.ScriptReading.{reading}
 
 -- how many bytes `edit` reads
 abbrev pub input_limit : ℕ

@@ -3,9 +3,8 @@ use Rattle.std.specs.Prelude.{ℕ, ◌+◌, List, [], ◌∷◌, ◌++◌, lengt
 use Rattle.std.specs.Fmt.{decimal}
 use Rattle.sudoers_text.specs.Fault.{lf_count}
 use Rattle.sudoers_line.specs.declared.node.Kind.{Kind}
-use Rattle.sudoers_line.specs.declared.node.Def.{Def}
-use Rattle.sudoers_line.specs.declared.node.Node.{Node}
-use Rattle.sudoers_line.specs.declared.node.Node.TheVariants as node
+use Rattle.sudoers_line.specs.Node.{Def, Node}
+use Rattle.sudoers_line.specs.Node as node
 use Rattle.sudoers_tree.specs.declared.kind.LineKind.{LineKind}
 use Rattle.sudoers_tree.specs.declared.kind.LineKind.TheVariants as kind
 use Rattle.sudoers_tree.specs.Line.{Line}

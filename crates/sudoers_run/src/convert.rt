@@ -9,7 +9,7 @@ ghost use Rattle.sudoers_run.specs.Policy.{file_end};
 ghost use Rattle.sudoers_run.specs.Program.{TellsLayer};
 ghost use Rattle.std.specs.Borrow.{Bor};
 ghost use Rattle.std.specs.Option.{option_map};
-ghost use Rattle.sudoers_rewrite.specs.Changed.{changes_shown};
+ghost use Rattle.sudoers_cvt_rewrite.specs.Changed.{changes_shown};
 ghost use Rattle.sudoers_run.specs.Convert.{convert_lines, convert_output, convert_read, converted, filter_in, form_fault, rewritten_rules, TellsConvert, IsConvertFault, IsFilterFault, IsRewriteFault, IsRulesFault};
 
 use crate::device::{Sink, Source};
@@ -20,8 +20,8 @@ use crate::output::write_all;
 use crate::words::ConvertWords;
 use std::alloc::Global;
 use sudoers_cvt::{Rules, print};
-use sudoers_json::json;
-use sudoers_rewrite::{Changes, Filter, read_filter, rewrite};
+use sudoers_cvt_json::json;
+use sudoers_cvt_rewrite::{Changes, Filter, read_filter, rewrite};
 use sudoers_tree::{Policy, ReadFault};
 
 /// Reads a policy file, and writes its rules as `words` ask for: as the text of a policy, all Defaults lines, then all definitions of

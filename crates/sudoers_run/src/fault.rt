@@ -2,11 +2,11 @@
 
 use std::alloc::AllocError;
 use sudoers_cvt::CvtFault;
+use sudoers_cvt_rewrite::FilterFault;
 use sudoers_edit::{EditFault, ScriptFault};
-use sudoers_people::{PeopleFault, WhoFault};
-use sudoers_rewrite::FilterFault;
+use sudoers_list_people::{PeopleFault, WhoFault};
+use sudoers_match_list::AskFault;
 use sudoers_tree::ReadFault;
-use sudoers_verdict::AskFault;
 use thiserror::Error;
 
 /// A fault of a layer below. Want of memory is `NoMemory` here, wherever it was met.
@@ -66,7 +66,7 @@ pub enum ToolFault {
 
 impl From<ReadFault> for LayerFault {
     ghost use Rattle.std.specs.Prelude.{◌≡◌};
-    ghost use Rattle.sudoers_run.specs.LayerOf.{layer_of_read};
+    ghost use Rattle.sudoers_run.specs.internal.LayerOf.{layer_of_read};
 
     ghost from_gives = { λ fault e. e ≡ layer_of_read fault };
 
@@ -80,7 +80,7 @@ impl From<ReadFault> for LayerFault {
 
 impl From<ScriptFault> for LayerFault {
     ghost use Rattle.std.specs.Prelude.{◌≡◌};
-    ghost use Rattle.sudoers_run.specs.LayerOf.{layer_of_script};
+    ghost use Rattle.sudoers_run.specs.internal.LayerOf.{layer_of_script};
 
     ghost from_gives = { λ fault e. e ≡ layer_of_script fault };
 
@@ -94,7 +94,7 @@ impl From<ScriptFault> for LayerFault {
 
 impl From<(usize, EditFault)> for LayerFault {
     ghost use Rattle.std.specs.Prelude.{◌≡◌};
-    ghost use Rattle.sudoers_run.specs.LayerOf.{layer_of_edit};
+    ghost use Rattle.sudoers_run.specs.internal.LayerOf.{layer_of_edit};
 
     ghost from_gives = { λ refused e. e ≡ layer_of_edit refused.0 refused.1 };
 
@@ -109,7 +109,7 @@ impl From<(usize, EditFault)> for LayerFault {
 
 impl From<CvtFault> for LayerFault {
     ghost use Rattle.std.specs.Prelude.{◌≡◌};
-    ghost use Rattle.sudoers_run.specs.LayerOf.{layer_of_cvt};
+    ghost use Rattle.sudoers_run.specs.internal.LayerOf.{layer_of_cvt};
 
     ghost from_gives = { λ fault e. e ≡ layer_of_cvt fault };
 
@@ -123,7 +123,7 @@ impl From<CvtFault> for LayerFault {
 
 impl From<FilterFault> for LayerFault {
     ghost use Rattle.std.specs.Prelude.{◌≡◌};
-    ghost use Rattle.sudoers_run.specs.LayerOf.{layer_of_filter};
+    ghost use Rattle.sudoers_run.specs.internal.LayerOf.{layer_of_filter};
 
     ghost from_gives = { λ fault e. e ≡ layer_of_filter fault };
 
@@ -137,7 +137,7 @@ impl From<FilterFault> for LayerFault {
 
 impl From<PeopleFault> for LayerFault {
     ghost use Rattle.std.specs.Prelude.{◌≡◌};
-    ghost use Rattle.sudoers_run.specs.LayerOf.{layer_of_people};
+    ghost use Rattle.sudoers_run.specs.internal.LayerOf.{layer_of_people};
 
     ghost from_gives = { λ fault e. e ≡ layer_of_people fault };
 
@@ -151,7 +151,7 @@ impl From<PeopleFault> for LayerFault {
 
 impl From<WhoFault> for LayerFault {
     ghost use Rattle.std.specs.Prelude.{◌≡◌};
-    ghost use Rattle.sudoers_run.specs.LayerOf.{layer_of_who};
+    ghost use Rattle.sudoers_run.specs.internal.LayerOf.{layer_of_who};
 
     ghost from_gives = { λ fault e. e ≡ layer_of_who fault };
 
@@ -165,7 +165,7 @@ impl From<WhoFault> for LayerFault {
 
 impl From<AskFault> for LayerFault {
     ghost use Rattle.std.specs.Prelude.{◌≡◌};
-    ghost use Rattle.sudoers_run.specs.LayerOf.{layer_of_ask};
+    ghost use Rattle.sudoers_run.specs.internal.LayerOf.{layer_of_ask};
 
     ghost from_gives = { λ fault e. e ≡ layer_of_ask fault };
 

@@ -6,14 +6,13 @@ ghost use Rattle.sudoers_run.specs.FaultText.{ask_name, cvt_name, file_name, fil
 use crate::fault::{LayerFault, ToolFault};
 use std::alloc::{AllocError, Global};
 use sudoers_cvt::CvtFault;
+use sudoers_cvt_rewrite::FilterFault;
 use sudoers_edit::{EditFault, ScriptFault};
 use sudoers_line::{Kind, Why, kind_name};
-use sudoers_people::{PeopleFault, PeopleFile, WhoFault};
-use sudoers_print::append_number;
-use sudoers_rewrite::FilterFault;
-use sudoers_text::TextFault;
+use sudoers_list_people::{PeopleFault, PeopleFile, WhoFault};
+use sudoers_match_list::AskFault;
+use sudoers_text::{TextFault, append_number};
 use sudoers_tree::ReadFault;
-use sudoers_verdict::AskFault;
 
 /// The text that is shown for a fault, without LF. `file` is the policy's name in it.
 ///

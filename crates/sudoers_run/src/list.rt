@@ -7,9 +7,9 @@ ghost use Rattle.sudoers_check.specs.Chains.{HasReachableCycle};
 ghost use Rattle.sudoers_match.specs.Answer.{IsAnswer};
 ghost use Rattle.sudoers_match.specs.Default.{IsRunasDefault};
 ghost use Rattle.sudoers_match.specs.Found.{found_answer};
-ghost use Rattle.sudoers_people.specs.People.{people_told};
-ghost use Rattle.sudoers_people.specs.Person.{who_told};
-ghost use Rattle.sudoers_people.specs.Asked.{request_told};
+ghost use Rattle.sudoers_list_people.specs.People.{people_told};
+ghost use Rattle.sudoers_list_people.specs.Person.{who_told};
+ghost use Rattle.sudoers_list_people.specs.Asked.{request_told};
 ghost use Rattle.sudoers_run.specs.Device.{Writes, AppendsFront};
 ghost use Rattle.sudoers_run.specs.List.{OfPolicy, OfTexts, IsAnswered, IsAnswerText, IsAsked, IsListOutcome, IsListFault, IsAskFault, Outcome, ReadsFiles, TellsList, TellsWho, allowed_status, allowed_text, text_shown};
 
@@ -19,14 +19,14 @@ use crate::input::{load_policy, read_front};
 use crate::output::{Output, write_all};
 use crate::words::ListWords;
 use std::alloc::{AllocError, Global};
-use sudoers_hits::Who;
 use sudoers_line::Items;
 use sudoers_list::{explain_answer, list};
+use sudoers_list_people::{People, request_for, who_for};
 use sudoers_match::{Found, Request, find_answer, find_default, join_words};
-use sudoers_people::{People, request_for, who_for};
+use sudoers_match_list::Acyclic;
+use sudoers_match_member::Who;
 use sudoers_text::TEXT_LIMIT;
 use sudoers_tree::{Policy, ReadFault};
-use sudoers_verdict::Acyclic;
 
 /// Reads a policy and the files passwd and group, and writes what the user of `words` may run on his host (sudo(8), the option `-l`).
 /// If `words` hold a command, it writes the command if he may run it, or the rule that decides, in which the policy has the name `file`.
@@ -118,7 +118,7 @@ fn command_text(
 {
     let named = words.target.unwrap_or(words.user);
     let first = request_as(alloc, people, who, named, words)?;
-    let policy = Acyclic::new(alloc, policy)?;
+    let policy = Acyclic::new(alloc, policy.walk())?;
     let default = find_default(alloc, &policy, &first.who)?;
     if words.target.is_some() || words.group.is_some() {
         return answer_text(alloc, &policy, file, &first, default, words);

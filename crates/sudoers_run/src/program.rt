@@ -13,10 +13,9 @@ use crate::fault::{LayerFault, ToolFault};
 use crate::input::read_all;
 use crate::output::write_all;
 use std::alloc::Global;
-use sudoers_edit::{
-    Edit, Editor, Edits, first_line_len, named_are_written, physical_lines_join, read_script,
-    write_script,
-};
+use sudoers_edit::laws::named_are_written;
+use sudoers_edit::{Edit, Editor, Edits, first_line_len, read_script, write_script};
+use sudoers_edit_script::laws::physical_lines_join;
 use sudoers_tree::Policy;
 
 /// How many bytes `edit` reads at most.

@@ -7,7 +7,7 @@ ghost use Rattle.sudoers_run.specs.Device.{Writes, AppendsFront};
 ghost use Rattle.sudoers_run.specs.Reading.{ReadsFile};
 ghost use Rattle.sudoers_run.specs.Policy.{file_end};
 ghost use Rattle.sudoers_run.specs.Program.{TellsLayer};
-ghost use Rattle.sudoers_rows.specs.View.{def_shown, defs_shown, node_shown};
+ghost use Rattle.sudoers_line_rows.specs.View.{def_shown, defs_shown, node_shown};
 ghost use Rattle.sudoers_run.specs.Shown.{kind_word as word_of_kind, shown as shown_policy, shown_def, shown_defs, shown_line};
 ghost use Rattle.sudoers_run.specs.Show.{show_output, show_read, TellsShow, IsFileFault, IsShowFault};
 
@@ -17,7 +17,7 @@ use crate::input::load_policy;
 use crate::output::write_all;
 use std::alloc::{AllocError, Global};
 use sudoers_line::kind_name;
-use sudoers_print::append_number;
+use sudoers_text::append_number;
 use sudoers_tree::{Def, DefRow, Kind, Line, LineKind, Node, Policy, ReadFault, Rows, lf_count};
 
 /// Reads a policy file, and writes for each of its lines its number, its kind and the number of its first physical line, and

@@ -5,9 +5,9 @@ use Rattle.std.proofs.lemmas.List.{length-append, length-drop, length-take-le, a
 use Rattle.std.proofs.lemmas.Bool.{eqb-true}
 use Rattle.sudoers_text.specs.declared.unit.Left.{Left}
 use Rattle.sudoers_text.specs.Unit.{LineUnit, Byte, text_of, escaped}
-use Rattle.sudoers_text.specs.Left.{Knows, StandsAt}
+use Rattle.sudoers_text.specs.internal.Left.{Knows, StandsAt}
 use Rattle.sudoers_text.specs.Token.{plain_unit, passed, passed_from}
-use Rattle.sudoers_text.specs.Run.{is_plain, plain_part}
+use Rattle.sudoers_text.specs.internal.Run.{is_plain, plain_part}
 use Rattle.sudoers_text.proofs.Reading.{unit_at-front, unit_size}
 use Rattle.sudoers_text.proofs.Runs.{IsNoSign, Passes, Carried, carried_passed, knows_byte, knows_none}
 

@@ -7,7 +7,7 @@ use Rattle.sudoers_text.specs.declared.token.TokenKind.{TokenKind}
 use Rattle.std.proofs.lemmas.List.{length-append}
 use Rattle.sudoers_text.specs.declared.unit.Left.{Left}
 use Rattle.sudoers_text.specs.Unit.{LineUnit, text_of, begins_lf, begins_item, begun, is_empty, escaped}
-use Rattle.sudoers_text.specs.Left.{Knows, ends_apart, begins_sign}
+use Rattle.sudoers_text.specs.internal.Left.{Knows, ends_apart, begins_sign}
 use Rattle.sudoers_text.specs.Piece.{Form, Mark, Operator, Number, NonUnixGroup, Run, CommandPath, QuotedPart, CommentPart, IncludeWord, FirstWord, Argument, QuotedRest, kind_of}
 use Rattle.sudoers_text.specs.Token.{plain_unit, passed, passed_from, units_left}
 use Rattle.sudoers_text.specs.Found.{hash_number_size, number_size, comment_at, include_at, size_of, found, found_behind}

@@ -6,7 +6,7 @@ use Rattle.std.proofs.lemmas.Bool.Decides.{eqb_tells}
 use Rattle.std.specs.Prelude.{slice_range, ◌==◌, if◌then◌else◌}
 use Rattle.sudoers_text.specs.declared.unit.Left.{Left}
 use Rattle.sudoers_text.specs.Unit.{LineUnit, text_of, Continuation, Pair, Quoted, Comment, Byte, spelled, AreUnits, unit_at, begins_line_end, line_end_size, up_to_line_end, quoted_part, begins_lf, escaped, begins_comment, begun}
-use Rattle.sudoers_text.specs.Left.{Knows, StandsAt, Agrees}
+use Rattle.sudoers_text.specs.internal.Left.{Knows, StandsAt, Agrees}
 use Rattle.sudoers_text.specs.Line.{IsLine, IsOpen, Ends, at_end}
 use Rattle.sudoers_text.proofs.Units.{is_empty-length, HasEnd, has_end}
 

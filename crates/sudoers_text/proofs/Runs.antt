@@ -7,8 +7,8 @@ use Rattle.std.proofs.lemmas.Bool.Decides.{eqb_tells}
 use Rattle.sudoers_text.specs.declared.unit.Left.{Left}
 use Rattle.std.specs.Str.{bytes_eq}
 use Rattle.sudoers_text.specs.Unit.{LineUnit, Byte, unit_at, begins_item, begun, defaults_word, is_separator, is_empty, is_gap}
-use Rattle.sudoers_text.specs.Left.{Knows, StandsAt}
-use Rattle.sudoers_text.specs.Run.{is_plain, plain_part, keeps_item, item_behind}
+use Rattle.sudoers_text.specs.internal.Left.{Knows, StandsAt}
+use Rattle.sudoers_text.specs.internal.Run.{is_plain, plain_part, keeps_item, item_behind}
 use Rattle.sudoers_text.proofs.Units.{LastBytes, begun_more}
 use Rattle.sudoers_text.proofs.Reading.{Reading, stands_at, reading_more}
 

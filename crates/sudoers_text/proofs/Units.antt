@@ -7,7 +7,7 @@ use Rattle.sudoers_text.specs.Ended.{ends_in_lf}
 use Rattle.std.proofs.lemmas.List.{length-append, length-drop, length-take-le, drop-drop, take-append-drop, append_assoc, take_at}
 use Rattle.sudoers_text.specs.Unit.{LineUnit, text_of, begins_lf, begins_line_end, line_end_size, up_to_line_end, begun, is_empty, is_gap}
 use Rattle.sudoers_text.specs.Line.{Ends, by_lf, by_crlf}
-use Rattle.sudoers_text.specs.Left.{StandsAt}
+use Rattle.sudoers_text.specs.internal.Left.{StandsAt}
 
 -- a byte passes no test for LF
 bool_false : (b : Bool) → (b ≡ true → ⊥) → b ≡ false

@@ -1,12 +1,9 @@
 pub mod Unit
 pub mod Ended
-pub mod Left
-pub mod Reached
 pub mod Line
 pub mod Span
 pub mod Fault
 pub mod Cut
-pub mod Run
 pub mod Part
 pub mod Word
 pub mod Piece
@@ -17,3 +14,4 @@ pub mod LineMode
 pub mod Found
 pub mod Value
 pub mod Whole
+pub mod internal

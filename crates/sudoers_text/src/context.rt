@@ -2,7 +2,7 @@
 
 ghost use Rattle.std.specs.Prelude.{◌≡◌, ◌≤◌, List, length};
 ghost use Rattle.sudoers_text.specs.Unit.{LineUnit};
-ghost use Rattle.sudoers_text.specs.Left.{Agrees};
+ghost use Rattle.sudoers_text.specs.internal.Left.{Agrees};
 ghost use Rattle.sudoers_text.specs.Context.{is_scope_sign, is_parameter_mark, word_forms, command_forms, parameter_forms, first_forms, scope_forms, forms, is_mark, is_word, behind_mark, behind_word, behind_command, behind_option_value, behind_argument, behind_quoted_argument, behind_parameter, is_member, begins, behind_first, behind};
 
 use crate::part::{Rule, begins_with, is_whole_argument, run_len};

@@ -2,7 +2,7 @@
 
 ghost use Rattle.std.specs.Prelude.{◌≡◌, ◌+◌, ◌<◌, ◌^◌, ◌==◌, ◌&&◌, [], length, if◌then◌else◌};
 ghost use Rattle.sudoers_text.specs.Unit.{is_empty};
-ghost use Rattle.sudoers_text.specs.Run.{is_plain, plain_part, keeps_item, item_behind};
+ghost use Rattle.sudoers_text.specs.internal.Run.{is_plain, plain_part, keeps_item, item_behind};
 
 use crate::unit::{Left, is_blank, is_separator, is_sign};
 

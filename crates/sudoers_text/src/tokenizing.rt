@@ -3,8 +3,8 @@
 ghost use Rattle.std.specs.Prelude.{◌≡◌, ◌≤◌, ◌<◌, ◌+◌, ◌∷◌, ◌-◌, ◌==◌, ◌||◌, not, ℕ, List, [], length, drop, take, slice_range, true, false, IfOk, IfErr, IfSome, IfNone, All};
 ghost use Rattle.sudoers_text.specs.declared.token.Token.{Token as TokenOf};
 ghost use Rattle.sudoers_text.specs.Unit.{LineUnit, line_end_size};
-ghost use Rattle.sudoers_text.specs.Left.{Knows, unit_of, ends_apart, begins_sign};
-ghost use Rattle.sudoers_text.specs.Reached.{Reaches};
+ghost use Rattle.sudoers_text.specs.internal.Left.{Knows, unit_of, ends_apart, begins_sign};
+ghost use Rattle.sudoers_text.specs.internal.Reached.{Reaches};
 ghost use Rattle.sudoers_text.specs.Piece.{Form};
 ghost use Rattle.sudoers_text.specs.Token.{plain_unit, passed, units_left, next_start, is_end, HasTokens, IsWithin};
 ghost use Rattle.sudoers_text.specs.Found.{found, found_behind, tokens_of};

@@ -4,7 +4,7 @@ ghost use Rattle.std.specs.Prelude.{◌≡◌, ℕ, ◌+◌, ◌≤◌, List, []
 ghost use Rattle.sudoers_text.specs.Unit.{LineUnit, text_of, up_to_line_end, quoted_part, begins_lf, line_end_size, escaped, unit_at, is_gap, begins_item, is_blank, begins_line_end, begins_path, has_path, names_include, begins_digit, is_sign, is_separator};
 ghost use Rattle.sudoers_text.specs.Ended.{ends_in_lf};
 ghost use Rattle.sudoers_text.specs.Line.{is_open, ends_behind_backslash};
-ghost use Rattle.sudoers_text.specs.Left.{Agrees, Knows, StandsAt, unit_of, unit_option};
+ghost use Rattle.sudoers_text.specs.internal.Left.{Agrees, Knows, StandsAt, unit_of, unit_option};
 
 use memchr::memchr;
 

@@ -2,14 +2,13 @@
 use Rattle.std.proofs.Common.{◌≡◌, ℕ, suc, ◌+◌, Bool, true, false, if◌then◌else◌, List, [], ◌∷◌, ◌++◌, slice_get, Option, Some, None, option_map, refl, sym, ap, subst, ◌∙◌, arith}
 use Rattle.std.specs.List.{AllByRecursion}
 use Rattle.sudoers_line.specs.declared.node.Kind.{Kind}
-use Rattle.sudoers_line.specs.declared.node.Def.{Def}
-use Rattle.sudoers_line.specs.declared.node.Node.{Node}
-use Rattle.sudoers_line.specs.declared.node.Node.TheVariants as node
-use Rattle.sudoers_rows.specs.declared.list.Rows.{Rows}
-use Rattle.sudoers_rows.specs.declared.rows.DefRow.{DefRow}
-use Rattle.sudoers_rows.specs.declared.view.Node.{Node as NodeView}
-use Rattle.sudoers_rows.specs.declared.view.Node.TheVariants as view
-use Rattle.sudoers_rows.specs.View.{defs_shown, node_shown}
+use Rattle.sudoers_line.specs.Node.{Def, Node}
+use Rattle.sudoers_line.specs.Node as node
+use Rattle.sudoers_line_rows.specs.declared.list.Rows.{Rows}
+use Rattle.sudoers_line_rows.specs.declared.rows.DefRow.{DefRow}
+use Rattle.sudoers_line_rows.specs.declared.view.Node.{Node as NodeView}
+use Rattle.sudoers_line_rows.specs.declared.view.Node.TheVariants as view
+use Rattle.sudoers_line_rows.specs.View.{defs_shown, node_shown}
 use Rattle.sudoers_tree.specs.Line.{Line}
 use Rattle.sudoers_tree.specs.declared.place.Place.{Place}
 use Rattle.sudoers_tree.specs.Definition.{Definition, definitions_from, definitions_in, definitions_since, definitions, defines, defined, place_of, members_of}

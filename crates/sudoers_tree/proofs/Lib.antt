@@ -1,3 +1,4 @@
+pub mod Folders
 pub mod Columns
 pub mod LineEnds
 pub mod Entries

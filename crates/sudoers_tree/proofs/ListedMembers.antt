@@ -5,13 +5,8 @@ use Rattle.sudoers_line.specs.declared.node.Kind.{Kind}
 use Rattle.sudoers_line.specs.declared.node.Kind.TheVariants.{User, Runas, Host, Cmnd}
 use Rattle.sudoers_line.specs.declared.node.Atom.{Atom}
 use Rattle.sudoers_line.specs.declared.node.Atom.TheVariants as atom
-use Rattle.sudoers_line.specs.declared.node.Member.{Member}
-use Rattle.sudoers_line.specs.declared.node.Def.{Def}
-use Rattle.sudoers_line.specs.declared.node.RunasSpec.{RunasSpec}
-use Rattle.sudoers_line.specs.declared.node.CmdSpec.{CmdSpec}
-use Rattle.sudoers_line.specs.declared.node.HostGroup.{HostGroup}
-use Rattle.sudoers_line.specs.declared.node.Node.{Node}
-use Rattle.sudoers_line.specs.declared.node.Node.TheVariants as node
+use Rattle.sudoers_line.specs.Node.{Member, Def, RunasSpec, CmdSpec, HostGroup, Node}
+use Rattle.sudoers_line.specs.Node as node
 use Rattle.sudoers_line.specs.Listed.{Listed, listed_as, listed_runas, listed_command, listed_group, listed, alias_of, aliases_among, aliases_in}
 use Rattle.sudoers_tree.specs.Definition.{is_kind}
 use Rattle.sudoers_tree.specs.Mention.{of_runas, in_group, members_in, span_of, spans_of, mentions_in, of_kind, place_if}

@@ -8,10 +8,10 @@ use Rattle.sudoers_text.specs.Cut.{cut_of}
 use Rattle.sudoers_line.specs.declared.fault.Why.{Why}
 use Rattle.sudoers_line.specs.declared.fault.LineFault.{LineFault}
 use Rattle.sudoers_line.specs.declared.fault.LineFault.TheVariants as line_fault
-use Rattle.sudoers_line.specs.declared.node.Node.{Node}
+use Rattle.sudoers_line.specs.Node.{Node}
 use Rattle.sudoers_line.specs.Line.{ReadsLine, IsFault}
-use Rattle.sudoers_reader.specs.Outcome.{outcome_of}
-use Rattle.sudoers_reader.specs.Outcome.{IsOutcome as IsLineOutcome}
+use Rattle.sudoers_line_reader.specs.Outcome.{outcome_of}
+use Rattle.sudoers_line_reader.specs.Outcome.{IsOutcome as IsLineOutcome}
 use Rattle.sudoers_tree.specs.Line.{Line}
 use Rattle.sudoers_tree.specs.declared.fault.ReadFault.{ReadFault}
 use Rattle.sudoers_tree.specs.declared.fault.ReadFault.TheVariants.{Text, Syntax, Reserved, Duplicate, TooMany, NoMemory}
@@ -111,7 +111,8 @@ read_policy : CutsAre → OneCut → OneLine → (lines : List Line) → IsPolic
 read_policy cuts one_cut one lines is =
     cut_to cuts one_cut (join (texts lines)) (Ok (texts lines)) is.cut
     ∙ ap (read_behind []) (sym (append-nil (texts lines)))
-    ∙ read_past one [] lines [] is.says (none_of_sound (definitions lines) (sound_of_policy (definitions lines) is.free is.once is.few))
+    ∙ read_past one [] lines [] is.walk.says
+    (none_of_sound (definitions lines) (sound_of_policy (definitions lines) is.walk.free is.walk.once is.walk.few))
 
 read_fault : CutsAre → OneCut → OneLine → (text : List ℕ) (fault : ReadFault) → IsLineFault text fault → read_of text ≡ Err fault
 read_fault cuts one_cut one text fault is =

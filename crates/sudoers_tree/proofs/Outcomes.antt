@@ -8,10 +8,10 @@ use Rattle.sudoers_text.specs.Fault.{IsOutcome as IsCutOutcome}
 use Rattle.sudoers_text.specs.Cut.{cut_of}
 use Rattle.sudoers_line.specs.declared.fault.LineFault.{LineFault}
 use Rattle.sudoers_line.specs.declared.fault.LineFault.TheVariants as line_fault
-use Rattle.sudoers_line.specs.declared.node.Node.{Node}
+use Rattle.sudoers_line.specs.Node.{Node}
 use Rattle.sudoers_line.specs.Line.{ReadsLine}
-use Rattle.sudoers_reader.specs.Outcome.{outcome_of}
-use Rattle.sudoers_reader.specs.Outcome.{IsOutcome as IsLineOutcome}
+use Rattle.sudoers_line_reader.specs.Outcome.{outcome_of}
+use Rattle.sudoers_line_reader.specs.Outcome.{IsOutcome as IsLineOutcome}
 use Rattle.sudoers_tree.specs.Line.{Line}
 use Rattle.sudoers_tree.specs.declared.fault.ReadFault.{ReadFault}
 use Rattle.sudoers_tree.specs.declared.fault.ReadFault.TheVariants.{Text, Syntax, Reserved, Duplicate, TooMany, NoMemory}
@@ -110,10 +110,13 @@ policy_is text before read =
     let cut = subst (IsCut text) (append-nil (texts before)) read.cut in (
       record {
         cut = subst (λ bytes. IsCut bytes (texts before)) (sym cut.cuts.joined) cut;
-        says = read.says;
-        free = free_of_none (definitions before) read.none;
-        once = once_of_none (definitions before) read.none;
-        few = few_of_none (definitions before) read.none;
+        walk =
+            record {
+              says = read.says;
+              free = free_of_none (definitions before) read.none;
+              once = once_of_none (definitions before) read.none;
+              few = few_of_none (definitions before) read.none;
+            };
       },
       cut.cuts.joined,
     )

@@ -6,7 +6,7 @@ use Rattle.sudoers_text.specs.Cut.{cut_of, CutGives}
 use Rattle.sudoers_tree.specs.Line.{Line}
 use Rattle.sudoers_tree.specs.declared.fault.ReadFault.{ReadFault}
 use Rattle.sudoers_tree.specs.declared.fault.ReadFault.TheVariants.{Text, Syntax, Reserved, Duplicate, TooMany, NoMemory}
-use Rattle.sudoers_tree.specs.Wrapped.{fault_of_text}
+use Rattle.sudoers_tree.specs.internal.Wrapped.{fault_of_text}
 use Rattle.sudoers_tree.specs.Fault.{IsFaultOf}
 use Rattle.sudoers_tree.specs.Reading.{read_behind, read_cut, read_of, IsOutcome, ReadGives}
 use Rattle.sudoers_tree.specs.Index.{ReadsAll}

@@ -6,9 +6,9 @@ use Rattle.sudoers_text.specs.Cut.{cut_of, StandAlone}
 use Rattle.sudoers_text.specs.Whole.{is_logical_line}
 use Rattle.sudoers_line.specs.declared.fault.LineFault.{LineFault}
 use Rattle.sudoers_line.specs.declared.fault.LineFault.TheVariants.{Syntax, NoMemory}
-use Rattle.sudoers_line.specs.declared.node.Node.{Node}
+use Rattle.sudoers_line.specs.Node.{Node}
 use Rattle.sudoers_line.specs.Line.{ReadsLine}
-use Rattle.sudoers_reader.specs.Outcome.{outcome_of, IsOutcome}
+use Rattle.sudoers_line_reader.specs.Outcome.{outcome_of, IsOutcome}
 use Rattle.sudoers_tree.specs.Line.{Line}
 use Rattle.sudoers_tree.specs.Policy.{texts, SaysSo}
 use Rattle.sudoers_tree.specs.Single.{said}

@@ -7,8 +7,8 @@ use Rattle.sudoers_line.specs.declared.fault.Why.{Why}
 use Rattle.sudoers_line.specs.declared.fault.LineFault.{LineFault}
 use Rattle.sudoers_line.specs.declared.fault.LineFault.TheVariants.{Syntax as syntax, NoMemory as no_memory}
 use Rattle.sudoers_line.specs.declared.fault.LineFault.TheVariants as line_fault
-use Rattle.sudoers_line.specs.declared.node.Node.{Node}
-use Rattle.sudoers_reader.specs.Outcome.{outcome_of, LineGives}
+use Rattle.sudoers_line.specs.Node.{Node}
+use Rattle.sudoers_line_reader.specs.Outcome.{outcome_of, LineGives}
 use Rattle.sudoers_tree.specs.Line.{Line}
 use Rattle.sudoers_tree.specs.declared.index.Index.{Index}
 use Rattle.sudoers_tree.specs.declared.fault.ReadFault.{ReadFault}

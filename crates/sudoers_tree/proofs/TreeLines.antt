@@ -3,15 +3,15 @@ use Rattle.std.proofs.Common.{◌≡◌, ℕ, List, [], ◌∷◌, ◌++◌, len
 use Rattle.std.proofs.lemmas.List.{append-nil, map-append}
 use Rattle.std.proofs.lemmas.List.Elements.{All-head, All-tail, All-weaker}
 use Rattle.std.specs.List.{All}
-use Rattle.sudoers_line.specs.declared.node.Node.{Node}
-use Rattle.sudoers_rows.specs.declared.rows.NodeRow.{NodeRow}
-use Rattle.sudoers_rows.specs.declared.rows.Tables.{Tables}
-use Rattle.sudoers_rows.specs.declared.rows.Text.{Text}
-use Rattle.sudoers_reader.specs.Outcome.{outcome_of}
-use Rattle.sudoers_rows.specs.Tables.{Grown, Grows, Lasts, Keeps, node_in, text_in}
+use Rattle.sudoers_line.specs.Node.{Node}
+use Rattle.sudoers_line_rows.specs.declared.rows.NodeRow.{NodeRow}
+use Rattle.sudoers_line_rows.specs.declared.rows.Tables.{Tables}
+use Rattle.sudoers_line_rows.specs.declared.rows.Text.{Text}
+use Rattle.sudoers_line_reader.specs.Outcome.{outcome_of}
+use Rattle.sudoers_line_rows.specs.Tables.{Grown, Grows, Lasts, Keeps, node_in, text_in}
 use Rattle.sudoers_tree.specs.declared.line.LineRow.{LineRow}
 use Rattle.sudoers_tree.specs.Line.{Line, line_in}
-use Rattle.sudoers_tree.specs.Tree.{Stands}
+use Rattle.sudoers_tree.specs.internal.Tree.{Stands}
 
 abbrev pub GrowOn : Type 0
 GrowOn = (t u v : Tables) → Grown t u → Grown u v → Grown t v

@@ -9,7 +9,7 @@ use Rattle.sudoers_text.specs.Fault.{lf_count}
 use Rattle.sudoers_line.specs.declared.fault.Why.{Why}
 use Rattle.sudoers_line.specs.declared.fault.LineFault.{LineFault}
 use Rattle.sudoers_line.specs.declared.fault.LineFault.TheVariants as line_fault
-use Rattle.sudoers_line.specs.declared.node.Node.{Node}
+use Rattle.sudoers_line.specs.Node.{Node}
 use Rattle.sudoers_line.specs.Line.{ReadsLine, IsFault}
 use Rattle.sudoers_tree.specs.Line.{Line}
 use Rattle.sudoers_tree.specs.declared.fault.ReadFault.{ReadFault}

@@ -1,6 +1,6 @@
 -- The kinds of lines.
-use Rattle.sudoers_line.specs.declared.node.Node.{Node}
-use Rattle.sudoers_line.specs.declared.node.Node.TheVariants as node
+use Rattle.sudoers_line.specs.Node.{Node}
+use Rattle.sudoers_line.specs.Node as node
 use Rattle.sudoers_tree.specs.declared.kind.LineKind.{LineKind}
 use Rattle.sudoers_tree.specs.declared.kind.LineKind.TheVariants.{Blank, Comment, Include, Defaults, Alias, Spec}
 

@@ -1,6 +1,6 @@
+pub mod Lead
 pub mod Physical
 pub mod Kind
-pub mod Wrapped
 pub mod Definition
 pub mod Mention
 pub mod Policy
@@ -10,4 +10,4 @@ pub mod Single
 pub mod Index
 pub mod Changed
 pub mod Line
-pub mod Tree
+pub mod internal

@@ -1,10 +1,10 @@
 -- Lines with what they say, and the rows in which they are held.
 use Rattle.std.specs.Prelude.{ℕ, List, map}
-use Rattle.sudoers_line.specs.declared.node.Node.{Node}
-use Rattle.sudoers_rows.specs.declared.list.Rows.{Rows}
-use Rattle.sudoers_rows.specs.declared.rows.Tables.{Tables}
-use Rattle.sudoers_rows.specs.Tables.{node_in, text_in}
-use Rattle.sudoers_rows.specs.View.{node_shown}
+use Rattle.sudoers_line.specs.Node.{Node}
+use Rattle.sudoers_line_rows.specs.declared.list.Rows.{Rows}
+use Rattle.sudoers_line_rows.specs.declared.rows.Tables.{Tables}
+use Rattle.sudoers_line_rows.specs.Tables.{node_in, text_in}
+use Rattle.sudoers_line_rows.specs.View.{node_shown}
 use Rattle.sudoers_tree.specs.declared.line.LineRow.{LineRow}
 use Rattle.sudoers_tree.specs.declared.line.Line.{Line as LineView}
 

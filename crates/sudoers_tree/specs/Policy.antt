@@ -32,11 +32,15 @@ IsFree d = is_reserved d.def.name ≡ false
 abbrev pub AreOnce : List Definition → Type 0
 AreOnce ds = (before after : List Definition) (d : Definition) → ds ≡ before ++ d ∷ after → defined d.kind d.def.name before ≡ None
 
--- The lines are those of a text, each with what it says; no reserved word is defined, no name twice in a kind, and there are
--- not too many of a kind.
-pub record IsPolicy (lines : List Line) : Type 0 where
-  pub cut : IsCut (join (texts lines)) (texts lines)
+-- Lines in file order, each with what it says: no reserved word is defined, no name twice in a kind, and there are not too many of a
+-- kind.
+pub record IsWalk (lines : List Line) : Type 0 where
   pub says : AllByRecursion SaysSo lines
   pub free : AllByRecursion IsFree (definitions lines)
   pub once : AreOnce (definitions lines)
   pub few : (k : Kind) → count_of k (definitions lines) ≤ alias_limit
+
+-- The lines are those of a text, in its order.
+pub record IsPolicy (lines : List Line) : Type 0 where
+  pub cut : IsCut (join (texts lines)) (texts lines)
+  pub walk : IsWalk lines

@@ -2,9 +2,9 @@
 use Rattle.std.specs.Prelude.{ℕ, List, Option, Some, None, if◌then◌else◌}
 use Rattle.std.specs.Result.{result_ok}
 use Rattle.sudoers_text.specs.Whole.{IsLogicalLine, is_logical_line}
-use Rattle.sudoers_line.specs.declared.node.Node.{Node}
+use Rattle.sudoers_line.specs.Node.{Node}
 use Rattle.sudoers_line.specs.Line.{ReadsLine}
-use Rattle.sudoers_reader.specs.Outcome.{outcome_of}
+use Rattle.sudoers_line_reader.specs.Outcome.{outcome_of}
 
 -- The bytes are one logical line that says this; or they are none that says something.
 abbrev pub IsSaid : List ℕ → Option Node → Type 0

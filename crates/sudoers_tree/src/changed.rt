@@ -1,22 +1,13 @@
 //! The texts of policies of which a line is changed.
-ghost use Rattle.std.specs.Prelude.{◌≡◌, ◌<◌, ◌≤◌, ◌++◌, List, ℕ, length, map, take, insert, remove, false, Ok, IfOk, OnOk};
-ghost use Rattle.std.specs.List.{AllByRecursion};
-ghost use Rattle.sudoers_text.specs.Ended.{has_unended_inside};
+ghost use Rattle.std.specs.Prelude.{◌≡◌, ◌<◌, ◌≤◌, ◌++◌, length, map, take, insert, remove, Ok, IfOk, OnOk};
 ghost use Rattle.sudoers_text.specs.Line.{join};
-ghost use Rattle.sudoers_text.specs.Whole.{IsLogicalLine};
-ghost use Rattle.sudoers_tree.specs.Line.{Line as LineOf, line_in, lines_shown};
+ghost use Rattle.sudoers_tree.specs.Line.{line_in, lines_shown};
 ghost use Rattle.sudoers_tree.specs.Changed.{replaced};
 ghost use Rattle.sudoers_tree.specs.Policy.{texts};
-ghost use Rattle.sudoers_tree.specs.Reading.{read_of};
 
-use crate::laws::policy_is_cut;
 use crate::line::LineRow;
-use crate::policy::Policy;
 use std::alloc::{AllocError, Global};
-use sudoers_rows::{Rows, Tables};
-use sudoers_text::{
-    cut_is, line_alone_is_whole, lines_stand_alone, one_list, whole_line_is, whole_lines_of_join,
-};
+use sudoers_line_rows::{Rows, Tables};
 
 /// The text of lines with one more, before the line `at` or behind the last.
 ///
@@ -98,26 +89,4 @@ pub fn append_texts(tables: &Tables, rows: &[LineRow], text: &mut Vec<u8>) -> Re
         text.extend_from_slice(tables.text(row.text))?;
     }
     Ok(())
-}
-
-/// A law: each line of a policy is one logical line.
-pub fn lines_are_whole(policy: &Policy)
-    ensures { AllByRecursion IsLogicalLine (texts policy.now) }
-{
-    policy.is_policy();
-    policy_is_cut();
-    lines_stand_alone();
-    line_alone_is_whole();
-    whole_line_is();
-}
-
-/// A law: lines that are each one logical line, all but the last ending in LF, are those of the policy that their join is.
-pub fn whole_lines_are_read()
-    ensures { (lines : List (List ℕ)) (policy : List LineOf) → AllByRecursion IsLogicalLine lines → has_unended_inside lines ≡ false
-        → read_of (join lines) ≡ Ok policy → texts policy ≡ lines }
-{
-    policy_is_cut();
-    cut_is();
-    one_list();
-    whole_lines_of_join();
 }

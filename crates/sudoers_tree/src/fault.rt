@@ -2,7 +2,7 @@
 
 ghost use Rattle.std.specs.Prelude.{◌≡◌};
 ghost use Rattle.sudoers_tree.specs.declared.fault.ReadFault.TheVariants.{NoMemory};
-ghost use Rattle.sudoers_tree.specs.Wrapped.{fault_of_text};
+ghost use Rattle.sudoers_tree.specs.internal.Wrapped.{fault_of_text};
 
 use std::alloc::{AllocError, AllocFailed};
 use sudoers_line::{Items, Kind, Why};

@@ -1,7 +1,7 @@
 //! The index of the names of aliases.
 
 ghost use Rattle.std.specs.Prelude.{◌≡◌, [], ◌∷◌, ◌++◌, List, Ok, length, IfOk, IfErr, drop};
-ghost use Rattle.sudoers_rows.specs.View.{defs_shown, node_shown};
+ghost use Rattle.sudoers_line_rows.specs.View.{defs_shown, node_shown};
 ghost use Rattle.sudoers_tree.specs.Definition.{Definition, definitions_in};
 ghost use Rattle.sudoers_tree.specs.Index.{names_of, Indexes, entry_fault, entered, Comes, Enters};
 
@@ -10,7 +10,7 @@ use crate::names::Names;
 use crate::place::Place;
 use std::alloc::Global;
 use sudoers_line::{Items, Kind};
-use sudoers_rows::{DefRow, Node, Rows};
+use sudoers_line_rows::{DefRow, Node, Rows};
 use sudoers_text::is_reserved;
 
 /// How many definitions of one kind a policy may have.

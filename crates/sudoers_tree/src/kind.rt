@@ -1,10 +1,10 @@
 //! The kinds of lines.
 
 ghost use Rattle.std.specs.Prelude.{◌≡◌};
-ghost use Rattle.sudoers_rows.specs.View.{node_shown};
+ghost use Rattle.sudoers_line_rows.specs.View.{node_shown};
 ghost use Rattle.sudoers_tree.specs.Kind.{line_kind};
 
-use sudoers_rows::Node;
+use sudoers_line_rows::Node;
 
 /// What sort of line it is (sudoers(5), SUDOERS FILE FORMAT).
 #[derive(Clone, Copy, Debug, PartialEq, Eq)]

@@ -2,14 +2,15 @@
 
 ghost use Rattle.std.specs.Prelude.{◌≡◌, IfOk, IfSome};
 ghost use Rattle.std.specs.List.{All, Contains};
-ghost use Rattle.sudoers_rows.specs.Tables.{Grown, text_in};
-ghost use Rattle.sudoers_tree.specs.Tree.{GivesLine, Stands};
+ghost use Rattle.sudoers_line_rows.specs.Tables.{Grown, text_in};
+ghost use Rattle.sudoers_tree.specs.internal.Tree.{GivesLine, Stands};
 
 use crate::line::LineRow;
 use std::alloc::{AllocError, Global};
 use sudoers_line::LineFault;
-use sudoers_reader::read_line;
-use sudoers_rows::{Tables, growth_goes_on, keep_text};
+use sudoers_line_reader::read_line;
+use sudoers_line_rows::laws::growth_goes_on;
+use sudoers_line_rows::{Tables, keep_text};
 
 /// How many rows more a copy of a table has room for, beside a sixteenth of its rows.
 const ROOM: usize = 256;

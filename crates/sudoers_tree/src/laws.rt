@@ -1,21 +1,28 @@
 //! Laws of policies. Each is the contract of a function that does nothing.
 
-ghost use Rattle.std.specs.Prelude.{◌≡◌, ℕ, List, Result, Ok, Some};
+ghost use Rattle.std.specs.Prelude.{◌≡◌, List, ℕ, false, Ok, Result, Some};
+ghost use Rattle.sudoers_text.specs.Ended.{has_unended_inside};
+ghost use Rattle.sudoers_text.specs.Line.{join};
+ghost use Rattle.sudoers_text.specs.Whole.{IsLogicalLine};
+ghost use Rattle.sudoers_tree.specs.Line.{Line as LineOf};
+ghost use Rattle.sudoers_tree.specs.Reading.{read_of, IsOutcome};
 ghost use Rattle.std.specs.List.{AllByRecursion};
 ghost use Rattle.sudoers_text.specs.Cut.{cut_of};
-ghost use Rattle.sudoers_tree.specs.Line.{Line as LineOf};
 ghost use Rattle.sudoers_tree.specs.declared.fault.ReadFault.{ReadFault as FaultOf};
 ghost use Rattle.sudoers_line.specs.declared.node.Kind.{Kind as KindOf};
-ghost use Rattle.sudoers_line.specs.declared.node.Node.{Node as NodeOf};
+ghost use Rattle.sudoers_line.specs.Node.{Node as NodeOf};
 ghost use Rattle.sudoers_line.specs.Listed.{listed};
 ghost use Rattle.sudoers_tree.specs.Mention.{members_in, of_kind};
 ghost use Rattle.sudoers_tree.specs.Policy.{texts};
-ghost use Rattle.sudoers_tree.specs.Reading.{read_of, IsOutcome};
 ghost use Rattle.sudoers_tree.specs.Single.{said};
 
-use sudoers_line::{no_fault, one_fault};
-use sudoers_reader::{one_reading, outcome_is};
-use sudoers_text::{cut_is, line_alone_is_whole, lines_stand_alone, one_outcome as one_cut};
+use crate::policy::Policy;
+use sudoers_line::laws::{no_fault, one_fault};
+use sudoers_line_reader::laws::{one_reading, outcome_is};
+use sudoers_text::laws::{
+    cut_is, line_alone_is_whole, lines_stand_alone, one_list, one_outcome as one_cut,
+    whole_line_is, whole_lines_of_join,
+};
 
 /// A text has an outcome: the policy that it is, or its first fault.
 pub fn read_is()
@@ -65,3 +72,25 @@ pub fn lines_are_said()
 pub fn members_are_listed()
     ensures { (kind : KindOf) (says : NodeOf) → members_in kind says ≡ of_kind kind (listed says) }
 {}
+
+/// A law: each line of a policy is one logical line.
+pub fn lines_are_whole(policy: &Policy)
+    ensures { AllByRecursion IsLogicalLine (texts policy.now) }
+{
+    policy.is_policy();
+    policy_is_cut();
+    lines_stand_alone();
+    line_alone_is_whole();
+    whole_line_is();
+}
+
+/// A law: lines that are each one logical line, all but the last ending in LF, are those of the policy that their join is.
+pub fn whole_lines_are_read()
+    ensures { (lines : List (List ℕ)) (policy : List LineOf) → AllByRecursion IsLogicalLine lines → has_unended_inside lines ≡ false
+        → read_of (join lines) ≡ Ok policy → texts policy ≡ lines }
+{
+    policy_is_cut();
+    cut_is();
+    one_list();
+    whole_lines_of_join();
+}

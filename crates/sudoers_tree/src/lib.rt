@@ -6,7 +6,8 @@ mod fault;
 mod index;
 mod kind;
 mod known;
-mod laws;
+pub mod laws;
+mod lead;
 mod line;
 mod mention;
 mod names;
@@ -16,14 +17,13 @@ mod position;
 mod reading;
 mod single;
 mod tree;
+mod walk;
 
-pub use changed::{
-    append_texts, lines_are_whole, text_replaced, text_with, text_without, whole_lines_are_read,
-};
+pub use changed::{append_texts, text_replaced, text_with, text_without};
 pub use fault::ReadFault;
 pub use index::ALIAS_LIMIT;
 pub use kind::LineKind;
-pub use laws::{lines_are_said, members_are_listed, one_outcome, policy_is_cut, read_is};
+pub use lead::{Lead, lead_of, leads};
 pub use line::{Line, LineRow};
 pub use mention::is_kind;
 pub use place::{Place, Span};
@@ -32,11 +32,11 @@ pub use position::{column_behind, lf_count};
 pub use single::read_line;
 pub use sudoers_line::{
     Address, AliasMember, DigestKind, Items, Kind, LineFault, Mask, Operator, OptionName, Tag, Why,
-    definitions_ascend,
 };
-pub use sudoers_reader::Reading;
-pub use sudoers_rows::{
+pub use sudoers_line_reader::Reading;
+pub use sudoers_line_rows::{
     Args, Atom, CmdSpec, CommandRow, Def, DefRow, Digest, DigestRow, GroupRow, HostGroup, Member,
     MemberRow, Node, NodeRow, OptionRow, Param, ParamRow, Rows, RunasSpec, Scope, Setting, Tables,
     TagRow, alias_members, list_aliases,
 };
+pub use walk::Walk;

@@ -3,7 +3,7 @@
 ghost use Rattle.std.specs.Prelude.{◌≡◌};
 ghost use Rattle.sudoers_tree.specs.Line.{line_in, line_shown};
 
-use sudoers_rows::{Node, NodeRow, Tables, Text};
+use sudoers_line_rows::{Node, NodeRow, Tables, Text};
 
 /// A row of the table of lines: where the line's text stands in the tables, and what it says.
 #[derive(Clone, Copy)]

@@ -2,14 +2,14 @@
 
 ghost use Rattle.std.specs.Prelude.{◌≡◌, ◌++◌, OnOk};
 ghost use Rattle.std.specs.List.{flat_map};
-ghost use Rattle.sudoers_rows.specs.View.{node_shown};
+ghost use Rattle.sudoers_line_rows.specs.View.{node_shown};
 ghost use Rattle.sudoers_tree.specs.Definition.{is_kind as same_kind};
 ghost use Rattle.sudoers_tree.specs.Mention.{mentions_in, place_if};
 
 use crate::place::Span;
 use std::alloc::{AllocError, Global};
 use sudoers_line::{AliasMember, Kind};
-use sudoers_rows::{Node, alias_members};
+use sudoers_line_rows::{Node, alias_members};
 
 /// Appends where the name is mentioned in a list of this kind in what the line with this number, from 0, says.
 ///

@@ -7,9 +7,9 @@ ghost use Rattle.sudoers_tree.specs.Changed.{replaced as with_another};
 ghost use Rattle.std.specs.Option.{option_map, option_copied};
 ghost use Rattle.sudoers_text.specs.Line.{join};
 ghost use Rattle.sudoers_text.specs.Fault.{text_limit};
-ghost use Rattle.sudoers_line.specs.declared.node.Def.{Def as DefOf};
+ghost use Rattle.sudoers_line.specs.Node.{Def as DefOf};
 ghost use Rattle.sudoers_line.specs.declared.node.Kind.{Kind as KindOf};
-ghost use Rattle.sudoers_rows.specs.View.{defs_shown, members_shown, node_shown};
+ghost use Rattle.sudoers_line_rows.specs.View.{defs_shown, members_shown, node_shown};
 ghost use Rattle.sudoers_tree.specs.Line.{Line as LineOf, lines_shown};
 ghost use Rattle.sudoers_tree.specs.Kind.{line_kind};
 ghost use Rattle.sudoers_tree.specs.Definition.{place_of, members_of};
@@ -18,28 +18,27 @@ ghost use Rattle.sudoers_tree.specs.Policy.{IsPolicy, texts};
 ghost use Rattle.sudoers_tree.specs.Fault.{IsFaultOf};
 ghost use Rattle.sudoers_tree.specs.Reading.{read_of, ReadGives};
 
-use crate::changed::{
-    append_texts, lines_are_whole, text_replaced, text_with, text_without, whole_lines_are_read,
-};
+use crate::changed::{append_texts, text_replaced, text_with, text_without};
 use crate::fault::ReadFault;
 use crate::kind::LineKind;
-use crate::laws::read_is;
+use crate::laws::{lines_are_whole, read_is, whole_lines_are_read};
 use crate::line::{Line, LineRow};
 use crate::mention::append_mentions;
 use crate::place::{Place, Span};
-use crate::reading::{Reading, read_lines};
+use crate::reading::read_lines;
 use crate::tree::Tree;
+use crate::walk::Walk;
 use std::alloc::{AllocError, Global};
 use std::boxed::Box;
 use std::marker::Model;
 use sudoers_line::Kind;
-use sudoers_rows::{DefRow, MemberRow, Node, Rows};
+use sudoers_line_rows::{MemberRow, Node, Rows};
 use sudoers_text::cut;
 
 /// A sudoers policy. Contracts see the list of its lines with what they say.
 #[derive(Drop)]
 pub struct Policy {
-    reading: Box<Reading>,
+    walk: Box<Walk>,
     size: usize,
     alloc: Global,
 }
@@ -48,18 +47,15 @@ impl Model for Policy {
     ghost use Rattle.std.specs.Prelude.{◌≡◌, List, length, Ok};
     ghost use Rattle.sudoers_text.specs.Line.{join};
     ghost use Rattle.sudoers_tree.specs.Line.{Line};
-    ghost use Rattle.sudoers_tree.specs.Definition.{definitions};
     ghost use Rattle.sudoers_tree.specs.Policy.{texts};
     ghost use Rattle.sudoers_tree.specs.Reading.{read_of};
-    ghost use Rattle.sudoers_tree.specs.Index.{Indexes};
 
     ghost Value = { List Line };
 
-    ghost view = { λ policy. policy.reading.value.tree };
+    ghost view = { λ policy. policy.walk.value };
 
-    ghost invariant = { λ policy. (read_of (join (texts policy.reading.value.tree)) ≡ Ok policy.reading.value.tree)
-        × Indexes policy.reading.value.index (definitions policy.reading.value.tree)
-        × (policy.size ≡ length (join (texts policy.reading.value.tree))) };
+    ghost invariant = { λ policy. (read_of (join (texts policy.walk.value)) ≡ Ok policy.walk.value)
+        × (policy.size ≡ length (join (texts policy.walk.value))) };
 }
 
 impl Policy {
@@ -94,7 +90,7 @@ impl Policy {
         // In one word: the text's outcome, of which there is exactly one.
         ensures outcome { ReadGives result (read_of text.now) }
     {
-        let tree = &self.reading.tree;
+        let tree = self.walk.tree();
         if tree.is_mostly_unused(self.size) {
             return Policy::read(self.alloc, text);
         }
@@ -107,14 +103,21 @@ impl Policy {
         ensures read { read_of (join (texts self.now)) ≡ Ok self.now }
     {
         read_is();
-        let _ = &self.reading;
+        let _ = &self.walk;
+    }
+
+    /// Returns the lines in file order, with the names that they define.
+    pub fn walk(&self) -> &Walk
+        ensures { result.now ≡ self.now }
+    {
+        &self.walk
     }
 
     /// A law: the text is within the limit.
     pub fn text_is_within_limit(&self)
         ensures { length (join (texts self.now)) ≤ text_limit }
     {
-        self.is_policy();
+        self.walk.is_within_limit();
     }
 
     /// The text, byte for byte.
@@ -126,7 +129,7 @@ impl Policy {
         ensures { IfOk result (λ text. text.items ≡ join (texts self.now)) }
     {
         let mut text = Vec::with_capacity(self.alloc, self.size)?;
-        let lines = self.reading.tree.lines();
+        let lines = self.walk.lines();
         append_texts(lines.tables, lines.rows, &mut text)?;
         Ok(text)
     }
@@ -195,14 +198,14 @@ impl Policy {
     pub fn len(&self) -> usize
         ensures { result ≡ length self.now }
     {
-        self.reading.tree.len()
+        self.walk.tree().len()
     }
 
     /// The lines with what they say.
     pub fn lines(&self) -> Rows<'_, LineRow>
         ensures { lines_shown result ≡ self.now }
     {
-        self.reading.tree.lines()
+        self.walk.lines()
     }
 
     /// The allocator of its lines.
@@ -214,7 +217,7 @@ impl Policy {
     pub fn line(&self, i: usize) -> Option<&[u8]>
         ensures { option_copied result ≡ option_map (λ (line : LineOf). line.text) (slice_get self.now i) }
     {
-        Some(self.reading.tree.line(i)?.text)
+        Some(self.walk.tree().line(i)?.text)
     }
 
     /// The kind of a line.
@@ -228,25 +231,21 @@ impl Policy {
     pub fn node(&self, i: usize) -> Option<Node<'_>>
         ensures { option_map node_shown result ≡ option_map (λ (line : LineOf). line.node) (slice_get self.now i) }
     {
-        Some(self.reading.tree.line(i)?.node)
+        self.walk.node(i)
     }
 
     /// Where the name is defined as an alias of this kind.
     pub fn definition(&self, kind: Kind, name: &[u8]) -> Option<Place>
         ensures { result ≡ place_of kind name.now self.now }
     {
-        self.reading.index.of(kind).get(name)
+        self.walk.definition(kind, name)
     }
 
     /// The members of the alias.
     pub fn members(&self, kind: Kind, name: &[u8]) -> Option<Rows<'_, MemberRow>>
         ensures { option_map members_shown result ≡ members_of kind name.now self.now }
     {
-        let place = self.definition(kind, name)?;
-        let Node::Alias { defs, .. } = self.node(place.line)? else {
-            return None;
-        };
-        members_at(&defs, place.def)
+        self.walk.members(kind, name)
     }
 
     /// Where the name stands as a member of a list of this kind, in file order.
@@ -258,7 +257,7 @@ impl Policy {
         ensures { IfOk result (λ spans. spans.items ≡ mentions kind name.now self.now) }
     {
         let mut spans = Vec::new(self.alloc);
-        let lines = self.reading.tree.lines();
+        let lines = self.walk.lines();
         for (number, row) in lines.rows.iter().enumerate() {
             let line = Line::of(lines.tables, row);
             append_mentions(self.alloc, kind, name, number, &line.node, &mut spans)?;
@@ -278,18 +277,8 @@ fn read_knowing(alloc: Global, known: Option<&Tree>, text: &[u8]) -> Result<Poli
     let tree = Tree::new(alloc, known, lines.len())?;
     let reading = read_lines(alloc, tree, &lines)?;
     Ok(Policy {
-        reading: Box::new(alloc, reading)?,
+        walk: Box::new(alloc, Walk::of(reading))?,
         size: text.len(),
         alloc,
     })
-}
-
-/// Returns the members of the definition at a place, from 0.
-fn members_at<'a>(defs: &Rows<'a, DefRow>, at: usize) -> Option<Rows<'a, MemberRow>>
-    ensures { option_map members_shown result ≡ option_map (λ (d : DefOf). d.members) (slice_get (defs_shown defs.now) at) }
-{
-    match defs.rows.get(at) {
-        Some(row) => Some(defs.tables.members(row.members)),
-        None => None,
-    }
 }

@@ -5,8 +5,9 @@ ghost use Rattle.sudoers_tree.specs.Single.{said, IsSaid};
 
 use std::alloc::{AllocError, Global};
 use sudoers_line::LineFault;
-use sudoers_reader::{Reading, parse};
-use sudoers_text::{is_logical_line, whole_line_is};
+use sudoers_line_reader::{Reading, parse};
+use sudoers_text::is_logical_line;
+use sudoers_text::laws::whole_line_is;
 
 /// What the bytes say, where they are one logical line that says something. How long they are is no matter here.
 ///

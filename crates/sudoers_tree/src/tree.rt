@@ -1,16 +1,17 @@
 //! Lines that are read into tables.
 
 ghost use Rattle.std.specs.Prelude.{◌≡◌, [], length, option_map, slice_get, IfOk};
-ghost use Rattle.sudoers_reader.specs.Outcome.{outcome_of};
+ghost use Rattle.sudoers_line_reader.specs.Outcome.{outcome_of};
 ghost use Rattle.sudoers_tree.specs.Line.{line_shown, lines_shown};
-ghost use Rattle.sudoers_tree.specs.Tree.{ReadsOne};
+ghost use Rattle.sudoers_tree.specs.internal.Tree.{ReadsOne};
 
 use crate::known::{copy_tables, row_of};
 use crate::line::{Line, LineRow};
 use std::alloc::{AllocError, Global};
 use std::marker::Model;
 use sudoers_line::LineFault;
-use sudoers_rows::{Rows, Tables, growth_goes_on};
+use sudoers_line_rows::laws::growth_goes_on;
+use sudoers_line_rows::{Rows, Tables};
 
 /// Lines, and the tables in which they say something. Contracts see the list of the lines with what they say. `known` holds
 /// rows of an earlier reading, which the list leaves out. A line that stands there is not read again.
@@ -25,7 +26,7 @@ impl Model for Tree {
     ghost use Rattle.std.specs.Prelude.{List, map};
     ghost use Rattle.std.specs.List.{All};
     ghost use Rattle.sudoers_tree.specs.Line.{Line, line_in};
-    ghost use Rattle.sudoers_tree.specs.Tree.{Stands};
+    ghost use Rattle.sudoers_tree.specs.internal.Tree.{Stands};
 
     ghost Value = { List Line };
 

@@ -7,19 +7,19 @@ ghost use Rattle.sudoers_match.specs.Answer.{IsAnswer, answer_shown, argument_li
 ghost use Rattle.sudoers_match.specs.Default.{IsRunasDefault};
 ghost use Rattle.sudoers_match.specs.Found.{IsFound, found_answer};
 ghost use Rattle.sudoers_match.specs.Groups.{AreHostGroups};
-ghost use Rattle.sudoers_rows.specs.View.{members_shown};
-ghost use Rattle.sudoers_verdict.specs.declared.verdict.AskFault.TheVariants.{Cycle, TooLong, NoMemory};
-ghost use Rattle.sudoers_verdict.specs.Cycle.{LeadsToCycle};
-ghost use Rattle.sudoers_verdict.specs.Flat.{IsVerdict};
+ghost use Rattle.sudoers_line_rows.specs.View.{members_shown};
+ghost use Rattle.sudoers_match_list.specs.declared.verdict.AskFault.TheVariants.{Cycle, TooLong, NoMemory};
+ghost use Rattle.sudoers_match_list.specs.Cycle.{LeadsToCycle};
+ghost use Rattle.sudoers_match_list.specs.Flat.{IsVerdict};
 
 use std::alloc::{AllocError, Global};
+use sudoers_line_rows::{MemberRow, Rows};
 use sudoers_match::{
     Answer, AskFault, Found, GroupPlace, Request, Who, answer, find_answer, host_groups,
     runas_default,
 };
-use sudoers_rows::{MemberRow, Rows};
+use sudoers_match_list::{Acyclic, MemberKind, Verdict, decide, reachable_cycle};
 use sudoers_tree::{Kind, Policy};
-use sudoers_verdict::{Acyclic, MemberKind, Verdict, decide, reachable_cycle};
 
 /// Returns what a list of members says of what is asked.
 ///

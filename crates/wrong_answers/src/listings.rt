@@ -6,7 +6,7 @@ ghost use Rattle.sudoers_check.specs.Chains.{HasReachableCycle};
 ghost use Rattle.sudoers_list.specs.Listing.{IsListing};
 ghost use Rattle.sudoers_list.specs.Reason.{IsReason};
 ghost use Rattle.sudoers_match.specs.Answer.{IsAnswer, answer_shown};
-ghost use Rattle.sudoers_verdict.specs.declared.verdict.AskFault.TheVariants.{Cycle, NoMemory};
+ghost use Rattle.sudoers_match_list.specs.declared.verdict.AskFault.TheVariants.{Cycle, NoMemory};
 
 use std::alloc::Global;
 use sudoers_list::{explain, list};

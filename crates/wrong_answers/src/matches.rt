@@ -1,17 +1,17 @@
 //! What matches one member of a list.
 
 ghost use Rattle.std.specs.Prelude.{◌≡◌};
-ghost use Rattle.sudoers_hits.specs.Hits.{command_hits, group_hits, host_hits, user_hits};
-ghost use Rattle.sudoers_hits.specs.Network.{hits_network as network};
-ghost use Rattle.sudoers_hits.specs.Wildcard.{matches};
-ghost use Rattle.sudoers_rows.specs.View.{atom_shown};
+ghost use Rattle.sudoers_match_member.specs.Hits.{command_hits, group_hits, host_hits, user_hits};
+ghost use Rattle.sudoers_match_member.specs.Network.{hits_network as network};
+ghost use Rattle.sudoers_match_member.specs.Wildcard.{matches};
+ghost use Rattle.sudoers_line_rows.specs.View.{atom_shown};
 
-use sudoers_hits::{
+use sudoers_line::{Address, Mask};
+use sudoers_line_rows::Atom;
+use sudoers_match_member::{
     CommandLine, GlobMode, Group, Interface, Person, Who, command_hits, glob, group_hits,
     host_hits, network_hits, user_hits,
 };
-use sudoers_line::{Address, Mask};
-use sudoers_rows::Atom;
 
 /// Returns whether `text` matches `pattern`.
 pub fn matches_pattern(pattern: &[u8], text: &[u8], mode: GlobMode) -> bool

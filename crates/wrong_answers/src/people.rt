@@ -1,16 +1,16 @@
 //! Users and groups, who asks, and what is asked.
 
 ghost use Rattle.std.specs.Prelude.{◌≡◌, ◌⊎◌, None, Ok, Err, IfOk, IfErr};
-ghost use Rattle.sudoers_people.specs.declared.fault.PeopleFault.TheVariants as PeopleFault;
-ghost use Rattle.sudoers_people.specs.declared.fault.WhoFault.TheVariants as WhoFault;
-ghost use Rattle.sudoers_people.specs.Asked.{request_told};
-ghost use Rattle.sudoers_people.specs.People.{people_told};
-ghost use Rattle.sudoers_people.specs.Person.{who_told};
+ghost use Rattle.sudoers_list_people.specs.declared.fault.PeopleFault.TheVariants as PeopleFault;
+ghost use Rattle.sudoers_list_people.specs.declared.fault.WhoFault.TheVariants as WhoFault;
+ghost use Rattle.sudoers_list_people.specs.Asked.{request_told};
+ghost use Rattle.sudoers_list_people.specs.People.{people_told};
+ghost use Rattle.sudoers_list_people.specs.Person.{who_told};
 
 use std::alloc::Global;
-use sudoers_hits::{Request, Who};
 use sudoers_line::Items;
-use sudoers_people::{People, PeopleFault, WhoFault, request_for, who_for};
+use sudoers_list_people::{People, PeopleFault, WhoFault, request_for, who_for};
+use sudoers_match_member::{Request, Who};
 
 /// Returns the users and groups of the texts `passwd` and `group`.
 ///

@@ -1,14 +1,14 @@
 //! How parts of a policy are spelled.
 
 ghost use Rattle.std.specs.Prelude.{◌≡◌, ◌++◌, OnErr, OnOk, option_map};
-ghost use Rattle.sudoers_print.specs.Members.{printed_list};
-ghost use Rattle.sudoers_print.specs.Parameters.{printed_defaults};
-ghost use Rattle.sudoers_rows.specs.View.{members_shown, params_shown, scope_shown};
+ghost use Rattle.sudoers_cvt_spell.specs.Members.{printed_list};
+ghost use Rattle.sudoers_cvt_spell.specs.Parameters.{printed_defaults};
+ghost use Rattle.sudoers_line_rows.specs.View.{members_shown, params_shown, scope_shown};
 
 use std::alloc::{AllocError, Global};
+use sudoers_cvt_spell::{append_defaults, append_list};
 use sudoers_line::Kind;
-use sudoers_print::{append_defaults, append_list};
-use sudoers_rows::{MemberRow, ParamRow, Rows, Scope};
+use sudoers_line_rows::{MemberRow, ParamRow, Rows, Scope};
 
 /// Appends a list of members of `kind` to `out`. With `first`, a line begins with it.
 ///

@@ -4,18 +4,18 @@ ghost use Rattle.std.specs.Prelude.{◌≡◌, ◌⊎◌, false, true, IfOk, OnO
 ghost use Rattle.sudoers_cvt.specs.declared.fault.CvtFault.TheVariants.{TooLarge, NotUtf8, NoMemory};
 ghost use Rattle.sudoers_cvt.specs.Effective.{effective_command};
 ghost use Rattle.sudoers_cvt.specs.Rules.{fits, printed};
-ghost use Rattle.sudoers_json.specs.Unicode.{is_unicode};
-ghost use Rattle.sudoers_json.specs.Value.{rules_value, json_text};
+ghost use Rattle.sudoers_cvt_json.specs.Unicode.{is_unicode};
+ghost use Rattle.sudoers_cvt_json.specs.Value.{rules_value, json_text};
 ghost use Rattle.sudoers_match.specs.Heads.{Head as HeadOf};
 ghost use Rattle.sudoers_match.specs.IsHead.{IsHead};
-ghost use Rattle.sudoers_print.specs.Commands.{printed_command};
-ghost use Rattle.sudoers_rows.specs.View.{member_shown};
+ghost use Rattle.sudoers_cvt_spell.specs.Commands.{printed_command};
+ghost use Rattle.sudoers_line_rows.specs.View.{member_shown};
 
 use std::alloc::{AllocError, Global};
 use sudoers_cvt::{CvtFault, Rules, print, print_command};
-use sudoers_json::json;
+use sudoers_cvt_json::json;
+use sudoers_line_rows::Member;
 use sudoers_match::Head;
-use sudoers_rows::Member;
 
 /// Returns the text of `rules` as a policy.
 ///

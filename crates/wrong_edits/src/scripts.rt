@@ -1,11 +1,11 @@
 //! Scripts as text.
 
 ghost use Rattle.std.specs.Prelude.{◌≡◌, ◌≤◌, length, Ok, IfOk, MatchResult};
-ghost use Rattle.sudoers_script.specs.Script.{spelling, edit_limit, writing};
-ghost use Rattle.sudoers_script.specs.ScriptReading.{reading, Reads, Tells};
+ghost use Rattle.sudoers_edit_script.specs.Script.{spelling, edit_limit, writing};
+ghost use Rattle.sudoers_edit_script.specs.ScriptReading.{reading, Reads, Tells};
 
 use std::alloc::Global;
-use sudoers_script::{Edit, Edits, ScriptFault, read_script, write_script};
+use sudoers_edit_script::{Edit, Edits, ScriptFault, read_script, write_script};
 
 /// Returns the edits of the script `text`.
 ///

@@ -1,10 +1,10 @@
 //! What one line says.
 
-ghost use Rattle.sudoers_reader.specs.Outcome.{LineGives, outcome_of};
+ghost use Rattle.sudoers_line_reader.specs.Outcome.{LineGives, outcome_of};
 
 use std::alloc::Global;
 use sudoers_line::LineFault;
-use sudoers_reader::{Reading, parse};
+use sudoers_line_reader::{Reading, parse};
 
 /// Returns what `line` says.
 ///

@@ -1,5 +1,5 @@
 use Rattle.std.proofs.Common.{◌≡◌, ◌++◌, drop}
-use Rattle.sudoers_check.specs.Noting.{places_from}
+use Rattle.sudoers_check.specs.internal.Noting.{places_from}
 use Rattle.sudoers_check.proofs.checking.append_places.Given as goal
 
 abbrev pub invariant-loop-def : goal.invariant-loop-def

@@ -12,9 +12,9 @@ returns c =
     let lines : List Line = c.args.policy.now in
     let noted = map (note_of_definition lines) in
     let cyclic_marks : c.as_slice.result.now ≡ map (is_cyclic lines) (definitions lines) =
-    c.as_slice.ensures.value ∙ c.in_ok-cyclic.ensures ∙ ap (λ ls. map (is_cyclic ls) (definitions ls)) c.in_ok-numbers.ensures in
+    c.as_slice.ensures.value ∙ c.in_ok-cyclic.ensures ∙ ap (λ ls. map (is_cyclic ls) (definitions ls)) (c.in_ok-numbers.ensures ∙ c.walk.ensures) in
     let used_marks : c.as_slice-2.result.now ≡ map (is_used lines) (definitions lines) =
-    c.as_slice-2.ensures.value ∙ c.in_ok-reached.ensures ∙ ap (λ ls. map (is_used ls) (definitions ls)) c.lines.ensures in
+    c.as_slice-2.ensures.value ∙ c.in_ok-reached.ensures ∙ ap (λ ls. map (is_used ls) (definitions ls)) c.lines-lines.ensures in
     let undefined = c.in_ok-undefined_notes.ensures in
     let cyclic : c.in_ok-marked_notes.field-0 ≡ noted (cyclic_of lines) =
     c.in_ok-marked_notes.ensures ∙ ap (λ ms. noted (picked true ms (definitions lines))) cyclic_marks ∙ ap noted (picked_marked (is_cyclic lines) (definitions lines)) in

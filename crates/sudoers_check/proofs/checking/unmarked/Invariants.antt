@@ -1,6 +1,6 @@
 use Rattle.std.proofs.Common.{◌≡◌, ◌++◌, drop, length, map}
 use Rattle.sudoers_tree.specs.Line.{line_in}
-use Rattle.sudoers_check.specs.Noting.{places_since}
+use Rattle.sudoers_check.specs.internal.Noting.{places_since}
 use Rattle.sudoers_check.proofs.Located.{total}
 use Rattle.sudoers_check.proofs.checking.unmarked.Given as goal
 

@@ -1,6 +1,6 @@
 use Rattle.std.proofs.Common.{◌≡◌, ◌∙◌, ◌≤◌, ◌-◌, ◌++◌, ◌∷◌, [], List, ℕ, length, slice_get, Some, sym, ap, subst, inl, inr, arith}
 use Rattle.sudoers_check.specs.Chain.{Has}
-use Rattle.sudoers_check.specs.Search.{Ascends}
+use Rattle.sudoers_check.specs.internal.Search.{Ascends}
 use Rattle.sudoers_check.proofs.Lists.{Has_front, Has_push, popped}
 use Rattle.sudoers_check.proofs.Ascending.{ascends_front, ascends_end}
 use Rattle.sudoers_check.proofs.cycles.join.Goals as goal

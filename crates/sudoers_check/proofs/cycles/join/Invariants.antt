@@ -1,6 +1,6 @@
 use Rattle.std.proofs.Common.{ℕ, ◌≤◌, length}
 use Rattle.sudoers_check.specs.Chain.{Has}
-use Rattle.sudoers_check.specs.Search.{Ascends}
+use Rattle.sudoers_check.specs.internal.Search.{Ascends}
 use Rattle.sudoers_check.proofs.cycles.join.Given as goal
 
 abbrev pub invariant-loop-start : goal.invariant-loop-start

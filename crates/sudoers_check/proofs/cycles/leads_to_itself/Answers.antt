@@ -1,6 +1,6 @@
 use Rattle.std.proofs.Common.{◌≡◌, ◌∙◌, sym, ap, eqb}
 use Rattle.std.specs.List.{list_any}
-use Rattle.sudoers_check.specs.Graph.{edges_of}
+use Rattle.sudoers_check.specs.internal.Graph.{edges_of}
 use Rattle.sudoers_check.proofs.Lists.{Has_any, any_Has}
 use Rattle.sudoers_check.proofs.cycles.leads_to_itself.Goals as goal
 

@@ -1,5 +1,5 @@
 use Rattle.std.proofs.Common.{None, subst, arith}
-use Rattle.sudoers_check.specs.Search.{IsSearch}
+use Rattle.sudoers_check.specs.internal.Search.{IsSearch}
 use Rattle.sudoers_check.proofs.Whole.{all_marked}
 use Rattle.sudoers_check.proofs.cycles.on_cycles.Goals as goal
 

@@ -1,5 +1,5 @@
 use Rattle.std.proofs.Common.{◌≡◌, ◌<◌, ℕ, []}
-use Rattle.sudoers_check.specs.Search.{IsMet, Searches}
+use Rattle.sudoers_check.specs.internal.Search.{IsMet, Searches}
 use Rattle.sudoers_check.proofs.cycles.on_cycles.Given as goal
 
 abbrev pub invariant-loop-node : goal.invariant-loop-node

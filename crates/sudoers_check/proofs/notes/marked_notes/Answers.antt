@@ -3,7 +3,7 @@ use Rattle.std.proofs.Math.ListN.{drop_of_length-le}
 use Rattle.sudoers_text.specs.Line.{join}
 use Rattle.sudoers_tree.specs.Line.{Line, line_in, lines_shown}
 use Rattle.sudoers_tree.specs.Policy.{texts}
-use Rattle.sudoers_check.specs.Noting.{noted_from}
+use Rattle.sudoers_check.specs.internal.Noting.{noted_from}
 use Rattle.sudoers_check.proofs.Located.{total, since_length}
 use Rattle.sudoers_check.proofs.Noted.{noted_all}
 use Rattle.sudoers_check.proofs.notes.marked_notes.Goals as goal

@@ -2,7 +2,7 @@ use Rattle.std.proofs.Common.{◌≡◌, ◌≤◌, ◌++◌, ◌+◌, drop, len
 use Rattle.sudoers_text.specs.Line.{join}
 use Rattle.sudoers_tree.specs.Line.{line_in}
 use Rattle.sudoers_tree.specs.Policy.{texts}
-use Rattle.sudoers_check.specs.Noting.{noted_from}
+use Rattle.sudoers_check.specs.internal.Noting.{noted_from}
 use Rattle.sudoers_check.proofs.Located.{total}
 use Rattle.sudoers_check.proofs.notes.marked_notes.Given as goal
 

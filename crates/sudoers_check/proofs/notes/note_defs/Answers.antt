@@ -1,7 +1,7 @@
 use Rattle.std.proofs.Common.{◌∙◌, ◌++◌, sym, ap, append-nil, map}
 use Rattle.std.proofs.Math.ListN.{drop_of_length-le}
-use Rattle.sudoers_rows.specs.Tables.{def_in}
-use Rattle.sudoers_check.specs.Noting.{noted_defs}
+use Rattle.sudoers_line_rows.specs.Tables.{def_in}
+use Rattle.sudoers_check.specs.internal.Noting.{noted_defs}
 use Rattle.sudoers_check.proofs.Noted.{noted_none}
 use Rattle.sudoers_check.proofs.notes.note_defs.Goals as goal
 

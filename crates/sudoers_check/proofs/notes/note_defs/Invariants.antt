@@ -1,6 +1,6 @@
 use Rattle.std.proofs.Common.{◌≡◌, ◌++◌, drop, map}
-use Rattle.sudoers_rows.specs.Tables.{def_in}
-use Rattle.sudoers_check.specs.Noting.{noted_defs}
+use Rattle.sudoers_line_rows.specs.Tables.{def_in}
+use Rattle.sudoers_check.specs.internal.Noting.{noted_defs}
 use Rattle.sudoers_check.proofs.notes.note_defs.Given as goal
 
 abbrev pub invariant-loop-row : goal.invariant-loop-row

@@ -3,7 +3,7 @@ use Rattle.std.proofs.Math.ListN.{drop_of_length-le}
 use Rattle.sudoers_tree.specs.Definition.{definitions}
 use Rattle.sudoers_check.specs.declared.report.Note.{Note}
 use Rattle.sudoers_check.specs.Mentioned.{Mention}
-use Rattle.sudoers_check.specs.Noting.{note_in, noted_mentions, Agrees}
+use Rattle.sudoers_check.specs.internal.Noting.{note_in, noted_mentions, Agrees}
 use Rattle.sudoers_check.specs.Report.{undefined_behind}
 use Rattle.sudoers_check.proofs.Noted.{drop_at, noted_first, noted_other}
 use Rattle.sudoers_check.proofs.notes.note_undefined.Goals.{then-branch+in_ok-note_at+in_ok-push, else-branch}

@@ -2,7 +2,7 @@ use Rattle.std.proofs.Common.{◌≡◌, ◌++◌, List, drop}
 use Rattle.sudoers_tree.specs.Definition.{definitions}
 use Rattle.sudoers_check.specs.Mentioned.{Mention}
 use Rattle.sudoers_check.specs.Report.{undefined_behind}
-use Rattle.sudoers_check.specs.Noting.{noted_mentions, Agrees}
+use Rattle.sudoers_check.specs.internal.Noting.{noted_mentions, Agrees}
 use Rattle.sudoers_check.proofs.notes.note_undefined.Given as goal
 
 abbrev pub invariant-loop-mention : goal.invariant-loop-mention

@@ -8,7 +8,7 @@ use Rattle.sudoers_tree.specs.Definition.{definitions}
 use Rattle.sudoers_tree.specs.Policy.{texts}
 use Rattle.sudoers_check.specs.declared.report.Note.{Note}
 use Rattle.sudoers_check.specs.Mentioned.{Mention, mentioned_in}
-use Rattle.sudoers_check.specs.Noting.{undefined_from, noted_mentions, Agrees}
+use Rattle.sudoers_check.specs.internal.Noting.{undefined_from, noted_mentions, Agrees}
 use Rattle.sudoers_check.specs.Report.{undefined_behind}
 use Rattle.sudoers_check.proofs.Noted.{undefined_all}
 use Rattle.sudoers_check.proofs.notes.undefined_notes.Goals as goal

@@ -4,7 +4,7 @@ use Rattle.sudoers_tree.specs.Definition.{definitions}
 use Rattle.sudoers_tree.specs.Line.{line_in}
 use Rattle.sudoers_tree.specs.Policy.{texts}
 use Rattle.sudoers_check.specs.Mentioned.{Mention}
-use Rattle.sudoers_check.specs.Noting.{undefined_from, Agrees}
+use Rattle.sudoers_check.specs.internal.Noting.{undefined_from, Agrees}
 use Rattle.sudoers_check.proofs.notes.undefined_notes.Given as goal
 
 abbrev pub invariant-loop-number : goal.invariant-loop-number

@@ -1,13 +1,13 @@
 use Rattle.std.proofs.Common.{◌≡◌, List, ℕ, ◌++◌, false, Result, Ok, Err, OnOk, ap, ◌∙◌, append_assoc}
 use Rattle.std.specs.Option.{option_map}
 use Rattle.sudoers_line.specs.declared.node.Kind.TheVariants.{Cmnd}
-use Rattle.sudoers_rows.specs.View.{member_shown, runas_shown}
+use Rattle.sudoers_line_rows.specs.View.{member_shown, runas_shown}
 use Rattle.sudoers_match.specs.Heads.{listed, option_of, tag_of}
 use Rattle.sudoers_match.specs.Values.{values_shown}
-use Rattle.sudoers_print.specs.Members.{printed_member}
-use Rattle.sudoers_print.specs.Commands.{printed_front, printed_options, printed_tags}
+use Rattle.sudoers_cvt_spell.specs.Members.{printed_member}
+use Rattle.sudoers_cvt_spell.specs.Commands.{printed_front, printed_options, printed_tags}
 use Rattle.sudoers_cvt.specs.Effective.{listed_tags}
-use Rattle.sudoers_cvt.specs.Said.{printed_values, printed_tags_said}
+use Rattle.sudoers_cvt.specs.internal.Said.{printed_values, printed_tags_said}
 use Rattle.sudoers_cvt.proofs.SaidWhole.{values_printed, tags_printed}
 use Rattle.sudoers_cvt.proofs.heads.append_command.Goals as goal
 

@@ -1,10 +1,10 @@
 use Rattle.std.proofs.Common.{rules, ◌≡◌, ◌+◌, ◌∷◌, ◌++◌, drop, map, codes, sym, ap, subst, ◌∙◌}
 use Rattle.std.specs.List.{join_by}
-use Rattle.sudoers_line.specs.declared.node.CmdSpec.{CmdSpec}
-use Rattle.sudoers_rows.specs.Tables.{command_in}
-use Rattle.sudoers_rows.specs.View.{command_shown}
+use Rattle.sudoers_line.specs.Node.{CmdSpec}
+use Rattle.sudoers_line_rows.specs.Tables.{command_in}
+use Rattle.sudoers_line_rows.specs.View.{command_shown}
 use Rattle.sudoers_match.specs.Heads.{no_head, inherit}
-use Rattle.sudoers_print.specs.Commands.{printed_command}
+use Rattle.sudoers_cvt_spell.specs.Commands.{printed_command}
 use Rattle.sudoers_cvt.specs.Effective.{effective_command, effective_commands}
 use Rattle.sudoers_cvt.proofs.Limits.{next_at}
 use Rattle.sudoers_cvt.proofs.Passing.{IsSoFar, first_passed, more_passed}

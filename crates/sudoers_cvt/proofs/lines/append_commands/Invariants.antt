@@ -1,7 +1,7 @@
 use Rattle.std.proofs.Common.{◌++◌, drop, map, codes}
 use Rattle.std.specs.List.{join_by}
-use Rattle.sudoers_rows.specs.Tables.{command_in}
-use Rattle.sudoers_print.specs.Commands.{printed_command}
+use Rattle.sudoers_line_rows.specs.Tables.{command_in}
+use Rattle.sudoers_cvt_spell.specs.Commands.{printed_command}
 use Rattle.sudoers_cvt.specs.Effective.{effective_commands}
 use Rattle.sudoers_cvt.proofs.Passing.{IsSoFar}
 use Rattle.sudoers_cvt.proofs.lines.append_commands.Given as goal

@@ -1,12 +1,12 @@
 use Rattle.std.proofs.Common.{rules, ◌≡◌, List, ◌+◌, ◌∷◌, ◌++◌, drop, map, flat_map, codes, Err, IfErr, sym, ap, subst, ◌∙◌}
 use Rattle.std.specs.List.{join_by}
-use Rattle.sudoers_line.specs.declared.node.HostGroup.{HostGroup}
-use Rattle.sudoers_rows.specs.Tables.{group_in}
-use Rattle.sudoers_rows.specs.View.{group_shown, groups_shown}
-use Rattle.sudoers_print.specs.Lines.{printed_group}
+use Rattle.sudoers_line.specs.Node.{HostGroup}
+use Rattle.sudoers_line_rows.specs.Tables.{group_in}
+use Rattle.sudoers_line_rows.specs.View.{group_shown, groups_shown}
+use Rattle.sudoers_cvt_spell.specs.Lines.{printed_group}
 use Rattle.sudoers_cvt.specs.declared.fault.CvtFault.{CvtFault}
 use Rattle.sudoers_cvt.specs.Effective.{effective_group}
-use Rattle.sudoers_cvt.specs.Long.{IsLong}
+use Rattle.sudoers_cvt.specs.internal.Long.{IsLong}
 use Rattle.sudoers_cvt.proofs.Limits.{next_at, longer, within}
 use Rattle.sudoers_cvt.proofs.lines.append_groups.Goals as goal
 

@@ -1,8 +1,8 @@
 use Rattle.std.proofs.Common.{◌≡◌, ◌++◌, drop, map, flat_map, codes}
 use Rattle.std.specs.List.{join_by}
-use Rattle.sudoers_line.specs.declared.node.HostGroup.{HostGroup}
-use Rattle.sudoers_rows.specs.Tables.{group_in}
-use Rattle.sudoers_print.specs.Lines.{printed_group}
+use Rattle.sudoers_line.specs.Node.{HostGroup}
+use Rattle.sudoers_line_rows.specs.Tables.{group_in}
+use Rattle.sudoers_cvt_spell.specs.Lines.{printed_group}
 use Rattle.sudoers_cvt.specs.Effective.{effective_group}
 use Rattle.sudoers_cvt.proofs.lines.append_groups.Given as goal
 

@@ -3,7 +3,7 @@ use Rattle.std.proofs.lemmas.Option.{slice_get-get_or, slice_get-map}
 use Rattle.std.specs.Option.{option_map}
 use Rattle.sudoers_cvt.specs.declared.fault.CvtFault.{CvtFault}
 use Rattle.sudoers_cvt.specs.Rule.{rule_shown}
-use Rattle.sudoers_cvt.specs.Long.{PassesLimit}
+use Rattle.sudoers_cvt.specs.internal.Long.{PassesLimit}
 use Rattle.sudoers_cvt.proofs.Limits.{one_passes}
 use Rattle.sudoers_cvt.proofs.printing.append_rules.Goals as goal
 

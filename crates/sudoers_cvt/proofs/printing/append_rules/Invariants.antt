@@ -1,7 +1,7 @@
 use Rattle.std.proofs.Common.{◌≡◌, ◌≤◌, ◌++◌, length, drop, take, map}
 use Rattle.std.specs.List.{AllByRecursion}
 use Rattle.sudoers_text.specs.Fault.{text_limit, line_limit}
-use Rattle.sudoers_print.specs.Lines.{printed_line, printed_lines}
+use Rattle.sudoers_cvt_spell.specs.Lines.{printed_line, printed_lines}
 use Rattle.sudoers_cvt.specs.Rule.{rule_shown}
 use Rattle.sudoers_cvt.proofs.printing.append_rules.Given as goal
 

@@ -1,11 +1,11 @@
 use Rattle.std.proofs.Common.{rules, ◌≡◌, List, ℕ, [], ◌++◌, map, Err, IfErr, refl, sym, ap, subst, ◌∙◌, append_assoc, append-nil}
-use Rattle.sudoers_line.specs.declared.node.Node.{Node}
+use Rattle.sudoers_line.specs.Node.{Node}
 use Rattle.std.proofs.lemmas.Grind.{flat_map-append}
-use Rattle.sudoers_print.specs.Lines.{printed_line, printed_lines}
+use Rattle.sudoers_cvt_spell.specs.Lines.{printed_line, printed_lines}
 use Rattle.sudoers_cvt.specs.declared.fault.CvtFault.{CvtFault}
 use Rattle.sudoers_cvt.specs.Rule.{rule_shown}
 use Rattle.sudoers_cvt.specs.Rules.{lines_of}
-use Rattle.sudoers_cvt.specs.Long.{IsPrintFault, PassesLimit}
+use Rattle.sudoers_cvt.specs.internal.Long.{IsPrintFault, PassesLimit}
 use Rattle.sudoers_cvt.proofs.Limits.{some_pass}
 use Rattle.sudoers_cvt.proofs.printing.print_lines.Goals as goal
 

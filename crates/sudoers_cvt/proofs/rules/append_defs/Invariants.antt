@@ -1,5 +1,5 @@
 use Rattle.std.proofs.Common.{◌≡◌, ◌++◌, drop, map}
-use Rattle.sudoers_rows.specs.Tables.{def_in}
+use Rattle.sudoers_line_rows.specs.Tables.{def_in}
 use Rattle.sudoers_cvt.specs.Rule.{rule_shown}
 use Rattle.sudoers_cvt.specs.Rules.{one_def}
 use Rattle.sudoers_cvt.proofs.rules.append_defs.Given as goal

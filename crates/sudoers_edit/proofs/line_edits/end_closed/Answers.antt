@@ -4,8 +4,8 @@ use Rattle.sudoers_text.specs.Line.{join}
 use Rattle.sudoers_text.specs.Ended.{ends_in_lf}
 use Rattle.sudoers_tree.specs.Line.{Line}
 use Rattle.sudoers_tree.specs.Policy.{texts}
-use Rattle.sudoers_script.specs.declared.edit.Edit.TheVariants.{EndLine}
-use Rattle.sudoers_edit.specs.Leading.{Leads}
+use Rattle.sudoers_edit_script.specs.declared.edit.Edit.TheVariants.{EndLine}
+use Rattle.sudoers_edit.specs.internal.Leading.{Leads}
 use Rattle.sudoers_edit.proofs.LastLemmas.{no_end, end_as_is, end_too_long, end_leads}
 use Rattle.sudoers_edit.proofs.line_edits.end_closed.Goals as goal
 

@@ -4,8 +4,8 @@ use Rattle.sudoers_text.specs.Line.{join}
 use Rattle.sudoers_text.specs.Ended.{ends_in_lf}
 use Rattle.sudoers_tree.specs.Line.{Line}
 use Rattle.sudoers_tree.specs.Policy.{texts}
-use Rattle.sudoers_script.specs.declared.edit.Edit.TheVariants.{OpenEnd}
-use Rattle.sudoers_edit.specs.Leading.{Leads}
+use Rattle.sudoers_edit_script.specs.declared.edit.Edit.TheVariants.{OpenEnd}
+use Rattle.sudoers_edit.specs.internal.Leading.{Leads}
 use Rattle.sudoers_edit.proofs.LastLemmas.{no_end, open_short, open_lacks, open_leads}
 use Rattle.sudoers_edit.proofs.line_edits.end_opened.Goals as goal
 use Rattle.sudoers_edit.proofs.line_edits.end_opened.Goals.{then-last-lt2-via-then-last-lt2, then-last-lt2-via-else-last-lt2+then-not-ends_in_lf}

@@ -4,8 +4,8 @@ use Rattle.std.specs.Prelude.{slice_get}
 use Rattle.sudoers_text.specs.Line.{join}
 use Rattle.sudoers_tree.specs.Line.{Line}
 use Rattle.sudoers_tree.specs.Policy.{texts}
-use Rattle.sudoers_script.specs.declared.edit.Edit.TheVariants.{Insert, Delete}
-use Rattle.sudoers_edit.specs.Leading.{Leads}
+use Rattle.sudoers_edit_script.specs.declared.edit.Edit.TheVariants.{Insert, Delete}
+use Rattle.sudoers_edit.specs.internal.Leading.{Leads}
 use Rattle.sudoers_edit.proofs.EditLemmas.{delete_leads}
 use Rattle.sudoers_edit.proofs.PolicyLemmas.{text_at, at_get}
 use Rattle.sudoers_edit.proofs.line_edits.line_deleted.Goals as goal

@@ -4,8 +4,8 @@ use Rattle.sudoers_text.specs.Ended.{has_unended_inside}
 use Rattle.sudoers_tree.specs.Line.{Line}
 use Rattle.sudoers_tree.specs.Policy.{texts}
 use Rattle.sudoers_edit.specs.OneLine.{is_one_line, IsAlone}
-use Rattle.sudoers_script.specs.declared.edit.Edit.TheVariants.{Insert}
-use Rattle.sudoers_edit.specs.Leading.{Leads}
+use Rattle.sudoers_edit_script.specs.declared.edit.Edit.TheVariants.{Insert}
+use Rattle.sudoers_edit.specs.internal.Leading.{Leads}
 use Rattle.sudoers_edit.proofs.EditLemmas.{insert_leads}
 use Rattle.sudoers_edit.proofs.PolicyLemmas.{count_texts}
 use Rattle.sudoers_edit.proofs.line_edits.line_inserted.Goals as goal

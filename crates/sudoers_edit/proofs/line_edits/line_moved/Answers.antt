@@ -3,9 +3,9 @@ use Rattle.sudoers_text.specs.Line.{join}
 use Rattle.sudoers_text.specs.Ended.{has_unended_inside}
 use Rattle.sudoers_tree.specs.Line.{Line}
 use Rattle.sudoers_tree.specs.Policy.{texts}
-use Rattle.sudoers_script.specs.declared.edit.Edit.TheVariants.{Move}
+use Rattle.sudoers_edit_script.specs.declared.edit.Edit.TheVariants.{Move}
 use Rattle.sudoers_edit.specs.LineEdits.{moved}
-use Rattle.sudoers_edit.specs.Leading.{Leads}
+use Rattle.sudoers_edit.specs.internal.Leading.{Leads}
 use Rattle.sudoers_edit.proofs.EditLemmas.{move_leads}
 use Rattle.sudoers_edit.proofs.PolicyLemmas.{count_texts}
 use Rattle.sudoers_edit.proofs.line_edits.line_moved.Goals as goal

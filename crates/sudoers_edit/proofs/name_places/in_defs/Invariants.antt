@@ -1,5 +1,5 @@
 use Rattle.std.proofs.Common.{◌≡◌, ◌++◌, drop, flat_map, map}
-use Rattle.sudoers_rows.specs.Tables.{def_in}
+use Rattle.sudoers_line_rows.specs.Tables.{def_in}
 use Rattle.sudoers_edit.specs.Renaming.{starts_in_def}
 use Rattle.sudoers_edit.proofs.name_places.in_defs.Given as goal
 

@@ -4,7 +4,7 @@ use Rattle.sudoers_line.specs.declared.node.Kind.{Kind}
 use Rattle.sudoers_tree.specs.declared.place.Place.{Place}
 use Rattle.sudoers_edit.specs.declared.pruning.Removal.{Removal}
 use Rattle.sudoers_edit.specs.declared.pruning.Removal.TheVariants as removal
-use Rattle.sudoers_edit.specs.PruneOrder.{removals_at}
+use Rattle.sudoers_edit.specs.internal.PruneOrder.{removals_at}
 use Rattle.sudoers_edit.proofs.pruning.append_removals.Goals as goal
 
 -- of some definitions all go: the line goes

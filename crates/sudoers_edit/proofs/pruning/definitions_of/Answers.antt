@@ -1,8 +1,8 @@
 use Rattle.std.proofs.Common.{◌∙◌, length, sym, ap}
 use Rattle.std.proofs.lemmas.List.{length-map}
-use Rattle.sudoers_rows.specs.Tables.{def_in}
-use Rattle.sudoers_rows.specs.View.{defs_shown, node_shown}
-use Rattle.sudoers_rows.specs.declared.view.Node.{Node}
+use Rattle.sudoers_line_rows.specs.Tables.{def_in}
+use Rattle.sudoers_line_rows.specs.View.{defs_shown, node_shown}
+use Rattle.sudoers_line_rows.specs.declared.view.Node.{Node}
 use Rattle.sudoers_tree.specs.Definition.{definitions_in}
 use Rattle.sudoers_edit.proofs.PruneLemmas.{from_length}
 use Rattle.sudoers_edit.proofs.pruning.definitions_of.Goals as goal

@@ -11,4 +11,4 @@ returns-clause-lines c = omega (arith, lines_few c.line_alone_size.ensures c.arg
 pub returns-clause-defs : goal.returns-clause-defs
 returns-clause-defs c =
     All-from_recursion (λ (d : Definition). d.place.def < alias_limit) (definitions c.args.policy.now)
-    (def_since alias_limit 0 c.args.policy.now c.is_policy.ensures.policy.few)
+    (def_since alias_limit 0 c.args.policy.now c.is_policy.ensures.policy.walk.few)

@@ -2,13 +2,13 @@ use Rattle.std.proofs.Common.{◌≡◌, ◌∙◌, ◌++◌, ◌∷◌, ◌+◌
 use Rattle.std.proofs.lemmas.List.{drop_more, drop_all}
 use Rattle.std.proofs.lemmas.Result.{err_from_is_err_and}
 use Rattle.sudoers_tree.specs.Policy.{texts}
-use Rattle.sudoers_script.specs.declared.edit.Edit.{Edit}
-use Rattle.sudoers_script.specs.declared.edit.Edit.TheVariants.{Prune}
+use Rattle.sudoers_edit_script.specs.declared.edit.Edit.{Edit}
+use Rattle.sudoers_edit_script.specs.declared.edit.Edit.TheVariants.{Prune}
 use Rattle.sudoers_edit.specs.declared.fault.EditFault.{EditFault}
 use Rattle.sudoers_edit.specs.declared.pruning.Removal.{Removal}
 use Rattle.sudoers_edit.specs.declared.pruning.Removal.TheVariants as removal
 use Rattle.sudoers_edit.specs.Editing.{removed_all, put_all_back, step, inv, run, Refuses}
-use Rattle.sudoers_edit.specs.Leading.{IsLanded}
+use Rattle.sudoers_edit.specs.internal.Leading.{IsLanded}
 use Rattle.sudoers_edit.specs.Pruning.{edit_of, removals}
 use Rattle.sudoers_edit.proofs.PruneLemmas.{forth_more, refuse_more, back_more, reversed_more, again_more, prune_step, prune_inv}
 use Rattle.sudoers_edit.proofs.pruning.pruned.Goals as goal

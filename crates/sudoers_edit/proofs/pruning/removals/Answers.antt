@@ -3,15 +3,15 @@ use Rattle.std.proofs.lemmas.List.{drop_more, drop_all}
 use Rattle.std.proofs.lemmas.List.Elements.{All-map, All-filter, All-weaker, All-same, All-drop}
 use Rattle.std.specs.Prelude.{◌^◌}
 use Rattle.sudoers_line.specs.declared.node.Kind.{Kind}
-use Rattle.sudoers_line.specs.declared.node.Node.{Node}
-use Rattle.sudoers_rows.specs.declared.rows.NodeRow.TheVariants as node_row
+use Rattle.sudoers_line.specs.Node.{Node}
+use Rattle.sudoers_line_rows.specs.declared.rows.NodeRow.TheVariants as node_row
 use Rattle.sudoers_tree.specs.Line.{Line, line_in, lines_shown}
 use Rattle.sudoers_tree.specs.declared.line.LineRow.{LineRow}
 use Rattle.sudoers_tree.specs.declared.place.Place.{Place}
 use Rattle.sudoers_tree.specs.Definition.{Definition, definitions, definitions_in}
 use Rattle.sudoers_tree.specs.Policy.{alias_limit}
 use Rattle.sudoers_check.specs.Led.{is_unused, unused_of}
-use Rattle.sudoers_edit.specs.PruneOrder.{removals_along}
+use Rattle.sudoers_edit.specs.internal.PruneOrder.{removals_along}
 use Rattle.sudoers_edit.proofs.PruneLemmas.{place_in, removals_are, along_more}
 use Rattle.sudoers_edit.proofs.pruning.removals.Goals as goal
 

@@ -1,8 +1,8 @@
 use Rattle.std.proofs.Common.{◌∙◌, Err, inr, ap, sym, subst}
 use Rattle.std.proofs.lemmas.Result.{err_from_is_err_and}
 use Rattle.sudoers_tree.specs.Policy.{texts}
-use Rattle.sudoers_script.specs.declared.edit.Edit.TheVariants.{Rename}
-use Rattle.sudoers_edit.specs.Leading.{IsLanded}
+use Rattle.sudoers_edit_script.specs.declared.edit.Edit.TheVariants.{Rename}
+use Rattle.sudoers_edit.specs.internal.Leading.{IsLanded}
 use Rattle.sudoers_edit.proofs.RenameLemmas.{rename_refused, not_restored, rename_lands}
 use Rattle.sudoers_edit.proofs.renaming.alias_renamed.Goals as goal
 

@@ -1,11 +1,11 @@
 use Rattle.std.proofs.Common.{◌∙◌, ◌∷◌, [], inr, ap, sym, subst, List, ℕ}
 use Rattle.std.proofs.lemmas.Option.{slice_get_within}
-use Rattle.sudoers_rows.specs.View.{defs_shown}
+use Rattle.sudoers_line_rows.specs.View.{defs_shown}
 use Rattle.sudoers_tree.specs.Line.{Line, line_shown}
 use Rattle.sudoers_tree.specs.Policy.{texts}
-use Rattle.sudoers_script.specs.declared.edit.Edit.TheVariants.{AddDef, DropDef}
+use Rattle.sudoers_edit_script.specs.declared.edit.Edit.TheVariants.{AddDef, DropDef}
 use Rattle.sudoers_edit.specs.Editing.{Refuses}
-use Rattle.sudoers_edit.specs.Leading.{Replaces}
+use Rattle.sudoers_edit.specs.internal.Leading.{Replaces}
 use Rattle.sudoers_edit.specs.SpliceEdits.{put_in, add_def}
 use Rattle.sudoers_edit.specs.declared.one_more.Among.TheVariants as among
 use Rattle.sudoers_edit.proofs.BackLemmas.{def_of_policy, add_unfound, add_found}

@@ -2,11 +2,11 @@ use Rattle.std.proofs.Common.{◌≡◌, ◌∙◌, List, ℕ, length, map, None
 use Rattle.std.proofs.lemmas.List.{length-map}
 use Rattle.std.proofs.lemmas.Option.{slice_get-map, slice_get_read, slice_get_past}
 use Rattle.std.specs.Prelude.{slice_get}
-use Rattle.sudoers_line.specs.declared.node.Def.{Def}
-use Rattle.sudoers_rows.specs.declared.rows.DefRow.{DefRow}
-use Rattle.sudoers_rows.specs.declared.view.Node.{Node}
-use Rattle.sudoers_rows.specs.Tables.{def_in}
-use Rattle.sudoers_rows.specs.View.{defs_shown, node_shown}
+use Rattle.sudoers_line.specs.Node.{Def}
+use Rattle.sudoers_line_rows.specs.declared.rows.DefRow.{DefRow}
+use Rattle.sudoers_line_rows.specs.declared.view.Node.{Node}
+use Rattle.sudoers_line_rows.specs.Tables.{def_in}
+use Rattle.sudoers_line_rows.specs.View.{defs_shown, node_shown}
 use Rattle.sudoers_tree.specs.Line.{Line, line_shown}
 use Rattle.sudoers_tree.specs.declared.place.Place.{Place}
 use Rattle.sudoers_edit.specs.declared.fault.EditFault.{EditFault}

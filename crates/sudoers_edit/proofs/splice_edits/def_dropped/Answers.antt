@@ -1,12 +1,12 @@
 use Rattle.std.proofs.Common.{◌≡◌, ◌∙◌, ◌∷◌, [], inr, ap, sym, subst, List, ℕ}
 use Rattle.std.proofs.lemmas.Option.{slice_get_within}
-use Rattle.sudoers_line.specs.declared.node.Def.{Def}
-use Rattle.sudoers_rows.specs.View.{defs_shown}
+use Rattle.sudoers_line.specs.Node.{Def}
+use Rattle.sudoers_line_rows.specs.View.{defs_shown}
 use Rattle.sudoers_tree.specs.Line.{Line, line_shown}
 use Rattle.sudoers_tree.specs.Policy.{texts}
-use Rattle.sudoers_script.specs.declared.edit.Edit.TheVariants.{AddDef, DropDef}
+use Rattle.sudoers_edit_script.specs.declared.edit.Edit.TheVariants.{AddDef, DropDef}
 use Rattle.sudoers_edit.specs.Editing.{Refuses}
-use Rattle.sudoers_edit.specs.Leading.{Replaces}
+use Rattle.sudoers_edit.specs.internal.Leading.{Replaces}
 use Rattle.sudoers_edit.specs.Splice.{slice}
 use Rattle.sudoers_edit.specs.SpliceEdits.{cut_out, drop_def}
 use Rattle.sudoers_edit.specs.declared.one_more.Among.TheVariants as among

@@ -1,14 +1,14 @@
 use Rattle.std.proofs.Common.{◌≡◌, ◌∙◌, ◌∷◌, [], inr, ap, sym, subst, List, ℕ, Result, Some, refl}
 use Rattle.std.proofs.lemmas.Option.{slice_get_within}
-use Rattle.sudoers_line.specs.declared.node.Def.{Def}
+use Rattle.sudoers_line.specs.Node.{Def}
 use Rattle.sudoers_line.specs.declared.node.Kind.{Kind}
-use Rattle.sudoers_rows.specs.View.{def_shown}
+use Rattle.sudoers_line_rows.specs.View.{def_shown}
 use Rattle.sudoers_tree.specs.Line.{Line, line_shown}
 use Rattle.sudoers_tree.specs.declared.place.Place.{Place}
 use Rattle.sudoers_tree.specs.Policy.{texts}
-use Rattle.sudoers_script.specs.declared.edit.Edit.TheVariants.{AddMember, DropMember}
+use Rattle.sudoers_edit_script.specs.declared.edit.Edit.TheVariants.{AddMember, DropMember}
 use Rattle.sudoers_edit.specs.Editing.{Refuses}
-use Rattle.sudoers_edit.specs.Leading.{Replaces}
+use Rattle.sudoers_edit.specs.internal.Leading.{Replaces}
 use Rattle.sudoers_edit.specs.declared.fault.EditFault.{EditFault}
 use Rattle.sudoers_edit.specs.Splice.{member_extents, seam, owned_stop, slice}
 use Rattle.sudoers_edit.specs.SpliceEdits.{Lines, cut_out, drop_member}

@@ -1,6 +1,6 @@
 use Rattle.std.proofs.Common.{◌≡◌, ◌++◌, drop, map}
 use Rattle.std.specs.List.{filter_map}
-use Rattle.sudoers_rows.specs.View.{group_shown}
+use Rattle.sudoers_line_rows.specs.View.{group_shown}
 use Rattle.sudoers_list.specs.Listing.{group_at, groups_in, groups_at}
 use Rattle.sudoers_list.proofs.groups.groups_at.Given as goal
 

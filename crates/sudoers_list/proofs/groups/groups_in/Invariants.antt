@@ -1,5 +1,5 @@
 use Rattle.std.proofs.Common.{◌≡◌, ◌++◌, drop, map}
-use Rattle.sudoers_rows.specs.View.{groups_shown}
+use Rattle.sudoers_line_rows.specs.View.{groups_shown}
 use Rattle.sudoers_tree.specs.Line.{line_in}
 use Rattle.sudoers_list.specs.Listing.{groups_in}
 use Rattle.sudoers_list.proofs.groups.groups_in.Given as goal

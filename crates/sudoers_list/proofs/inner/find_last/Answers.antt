@@ -1,12 +1,12 @@
 use Rattle.std.proofs.Common.{◌≡◌, ◌+◌, List, ◌∷◌, [], ◌++◌, map, take, sym, ap, subst, ◌∙◌}
 use Rattle.std.specs.Option.{option_map}
 use Rattle.std.proofs.lemmas.Bool.{false≢true}
-use Rattle.sudoers_line.specs.declared.node.Member.{Member}
-use Rattle.sudoers_rows.specs.Tables.{member_in}
-use Rattle.sudoers_rows.specs.View.{member_shown}
-use Rattle.sudoers_hits.specs.Hits.{command_hits}
+use Rattle.sudoers_line.specs.Node.{Member}
+use Rattle.sudoers_line_rows.specs.Tables.{member_in}
+use Rattle.sudoers_line_rows.specs.View.{member_shown}
+use Rattle.sudoers_match_member.specs.Hits.{command_hits}
 use Rattle.sudoers_match.specs.Last.{IsLast}
-use Rattle.sudoers_list.specs.Going.{HasFlat}
+use Rattle.sudoers_list.specs.internal.Going.{HasFlat}
 use Rattle.sudoers_list.specs.Inner.{Speaks}
 use Rattle.sudoers_list.proofs.Speaking.{flat_each, last_no, last_yes, row_among, row_next}
 use Rattle.sudoers_list.proofs.inner.find_last.Goals as goal

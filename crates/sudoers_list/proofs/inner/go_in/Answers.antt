@@ -2,14 +2,14 @@ use Rattle.std.proofs.Common.{◌≡◌, ◌-◌, suc, List, length, Some, refl,
 use Rattle.std.specs.Option.{option_map}
 use Rattle.sudoers_line.specs.declared.node.Atom.TheVariants.{Alias}
 use Rattle.sudoers_line.specs.declared.node.Kind.TheVariants.{Cmnd}
-use Rattle.sudoers_line.specs.declared.node.Member.{Member}
-use Rattle.sudoers_rows.specs.View.{member_shown, members_shown}
+use Rattle.sudoers_line.specs.Node.{Member}
+use Rattle.sudoers_line_rows.specs.View.{member_shown, members_shown}
 use Rattle.sudoers_tree.specs.Definition.{definitions}
 use Rattle.sudoers_check.specs.Chain.{here, onward}
-use Rattle.sudoers_hits.specs.Hits.{command_hits}
-use Rattle.sudoers_verdict.specs.Flat.{alias_of}
+use Rattle.sudoers_match_member.specs.Hits.{command_hits}
+use Rattle.sudoers_match_list.specs.Flat.{alias_of}
 use Rattle.sudoers_match.specs.Last.{IsLast}
-use Rattle.sudoers_list.specs.Going.{IsWithin}
+use Rattle.sudoers_list.specs.internal.Going.{IsWithin}
 use Rattle.sudoers_list.specs.Inner.{Speaks}
 use Rattle.sudoers_list.proofs.Going.{at_end, one_in}
 use Rattle.sudoers_list.proofs.Speaking.{last_has, members_say, some_last}

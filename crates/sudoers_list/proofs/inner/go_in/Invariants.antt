@@ -1,11 +1,11 @@
 use Rattle.std.proofs.Common.{◌≡◌, Some}
 use Rattle.sudoers_line.specs.declared.node.Kind.TheVariants.{Cmnd}
-use Rattle.sudoers_rows.specs.View.{members_shown}
+use Rattle.sudoers_line_rows.specs.View.{members_shown}
 use Rattle.sudoers_tree.specs.Definition.{members_of}
 use Rattle.sudoers_check.specs.Chain.{Chain}
-use Rattle.sudoers_hits.specs.Hits.{command_hits}
-use Rattle.sudoers_verdict.specs.Search.{Remembers}
-use Rattle.sudoers_list.specs.Going.{IsWithin}
+use Rattle.sudoers_match_member.specs.Hits.{command_hits}
+use Rattle.sudoers_match_list.specs.Search.{Remembers}
+use Rattle.sudoers_list.specs.internal.Going.{IsWithin}
 use Rattle.sudoers_list.specs.Inner.{LeadsInto, Says}
 use Rattle.sudoers_list.proofs.inner.go_in.Given as goal
 

@@ -1,13 +1,13 @@
 use Rattle.std.proofs.Common.{List, ◌∷◌, [], length, sym, subst}
 use Rattle.sudoers_line.specs.declared.node.Kind.TheVariants.{Cmnd}
-use Rattle.sudoers_line.specs.declared.node.Member.{Member}
-use Rattle.sudoers_rows.specs.View.{member_shown, members_shown}
+use Rattle.sudoers_line.specs.Node.{Member}
+use Rattle.sudoers_line_rows.specs.View.{member_shown, members_shown}
 use Rattle.sudoers_tree.specs.Definition.{definitions}
-use Rattle.sudoers_hits.specs.declared.asked.CommandLine.{CommandLine}
-use Rattle.sudoers_hits.specs.Hits.{command_hits}
+use Rattle.sudoers_match_member.specs.declared.asked.CommandLine.{CommandLine}
+use Rattle.sudoers_match_member.specs.Hits.{command_hits}
 use Rattle.sudoers_match.specs.Answer.{command_line}
 use Rattle.sudoers_list.specs.Inner.{IsInnermost, Says}
-use Rattle.sudoers_list.specs.Inside.{inner_shown}
+use Rattle.sudoers_list.specs.internal.Inside.{inner_shown}
 use Rattle.sudoers_list.proofs.Going.{begins}
 use Rattle.sudoers_list.proofs.Speaking.{members_say}
 use Rattle.sudoers_list.proofs.inner.innermost.Goals as goal
@@ -30,7 +30,7 @@ go_in-requires-clause-within c =
     let m : Member = member_shown c.args.member.now in
     let latest = c.requires.1 in
     begins lines (length (definitions lines)) m c.in-Some.outer.name.now latest.flat c.in-Some.ensures.name latest.is_flat
-    (c.flattened_is_flat.ensures Cmnd lines c.is_acyclic.ensures.policy (m ∷ []) latest.flat latest.is_flat)
+    (c.flattened_is_flat.ensures Cmnd lines c.is_acyclic.ensures.walk (m ∷ []) latest.flat latest.is_flat)
 
 pub returns : goal.returns
 returns c =

@@ -1,12 +1,12 @@
 use Rattle.std.proofs.Common.{◌≡◌, List, ◌∷◌, [], map, sym, ap, subst}
 use Rattle.sudoers_line.specs.declared.node.Kind.TheVariants.{Cmnd}
-use Rattle.sudoers_line.specs.declared.node.Member.{Member}
-use Rattle.sudoers_rows.specs.Tables.{member_in}
+use Rattle.sudoers_line.specs.Node.{Member}
+use Rattle.sudoers_line_rows.specs.Tables.{member_in}
 use Rattle.sudoers_tree.specs.Line.{Line}
-use Rattle.sudoers_hits.specs.Hits.{command_hits}
-use Rattle.sudoers_verdict.specs.declared.verdict.Decision.{Decision}
-use Rattle.sudoers_verdict.specs.Flat.{IsLatest}
-use Rattle.sudoers_verdict.specs.Search.{Judges, Remembers}
+use Rattle.sudoers_match_member.specs.Hits.{command_hits}
+use Rattle.sudoers_match_list.specs.declared.verdict.Decision.{Decision}
+use Rattle.sudoers_match_list.specs.Flat.{IsLatest}
+use Rattle.sudoers_match_list.specs.Search.{Judges, Remembers}
 use Rattle.sudoers_list.proofs.Speaking.{speaks_if}
 use Rattle.sudoers_list.proofs.inner.speaks.Goals as goal
 

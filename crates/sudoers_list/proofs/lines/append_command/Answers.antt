@@ -1,10 +1,10 @@
 use Rattle.std.proofs.Common.{◌≡◌, List, ℕ, ◌++◌, false, codes, Option, None, refl, ap, ◌∙◌}
 use Rattle.sudoers_line.specs.declared.node.Kind.TheVariants.{Cmnd}
-use Rattle.sudoers_line.specs.declared.node.RunasSpec.{RunasSpec}
-use Rattle.sudoers_rows.specs.View.{member_shown}
+use Rattle.sudoers_line.specs.Node.{RunasSpec}
+use Rattle.sudoers_line_rows.specs.View.{member_shown}
 use Rattle.sudoers_match.specs.Heads.{Head, listed, option_of, tag_of}
-use Rattle.sudoers_print.specs.Members.{printed_member}
-use Rattle.sudoers_print.specs.Commands.{printed_options, printed_runas, printed_tags}
+use Rattle.sudoers_cvt_spell.specs.Members.{printed_member}
+use Rattle.sudoers_cvt_spell.specs.Commands.{printed_options, printed_runas, printed_tags}
 use Rattle.sudoers_cvt.specs.Effective.{listed_tags}
 use Rattle.sudoers_list.specs.Listing.{listed_runas}
 use Rattle.sudoers_list.proofs.Passing.{on_ok, parts, when_ok}

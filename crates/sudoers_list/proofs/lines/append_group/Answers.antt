@@ -1,7 +1,7 @@
 use Rattle.std.proofs.Common.{◌+◌, drop, map}
-use Rattle.sudoers_line.specs.declared.node.CmdSpec.{CmdSpec}
-use Rattle.sudoers_rows.specs.Tables.{command_in}
-use Rattle.sudoers_rows.specs.View.{command_shown}
+use Rattle.sudoers_line.specs.Node.{CmdSpec}
+use Rattle.sudoers_line_rows.specs.Tables.{command_in}
+use Rattle.sudoers_line_rows.specs.View.{command_shown}
 use Rattle.sudoers_match.specs.Heads.{inherit}
 use Rattle.sudoers_list.specs.Listing.{command_line}
 use Rattle.sudoers_list.proofs.Passing.{more_passed, next_at}

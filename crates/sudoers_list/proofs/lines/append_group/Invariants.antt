@@ -1,6 +1,6 @@
 use Rattle.std.proofs.Common.{◌++◌, drop, map, flat_map}
-use Rattle.sudoers_rows.specs.Tables.{command_in}
-use Rattle.sudoers_rows.specs.View.{commands_shown}
+use Rattle.sudoers_line_rows.specs.Tables.{command_in}
+use Rattle.sudoers_line_rows.specs.View.{commands_shown}
 use Rattle.sudoers_cvt.specs.Effective.{effective_commands}
 use Rattle.sudoers_list.specs.Listing.{command_line}
 use Rattle.sudoers_list.proofs.Passing.{IsSoFar}

@@ -1,5 +1,5 @@
 use Rattle.std.proofs.Common.{◌≡◌, ◌++◌, drop, map, flat_map}
-use Rattle.sudoers_rows.specs.View.{group_shown}
+use Rattle.sudoers_line_rows.specs.View.{group_shown}
 use Rattle.sudoers_list.specs.Listing.{group_lines}
 use Rattle.sudoers_list.proofs.lines.append_groups.Given as goal
 

@@ -1,11 +1,11 @@
 use Rattle.std.proofs.Common.{◌≡◌, ℕ, List, ◌++◌, codes, Option, Some, option_and_then, slice_get, sym, ap, ◌∙◌, false}
 use Rattle.sudoers_line.specs.declared.node.Kind.TheVariants.{Cmnd}
-use Rattle.sudoers_rows.specs.View.{member_shown}
+use Rattle.sudoers_line_rows.specs.View.{member_shown}
 use Rattle.sudoers_tree.specs.declared.place.Place.{Place}
 use Rattle.sudoers_tree.specs.Line.{Line}
-use Rattle.sudoers_print.specs.Members.{printed_member}
+use Rattle.sudoers_cvt_spell.specs.Members.{printed_member}
 use Rattle.sudoers_list.specs.declared.spot.Spot.{Spot}
-use Rattle.sudoers_list.specs.Inside.{inner_shown, numbered_shown}
+use Rattle.sudoers_list.specs.internal.Inside.{inner_shown, numbered_shown}
 use Rattle.sudoers_list.specs.Reason.{definition_on, inner_on, placed}
 use Rattle.sudoers_list.specs.Rule.{numbered}
 use Rattle.sudoers_list.proofs.Passing.{inner_parts, on_ok, when_ok}
@@ -14,7 +14,7 @@ use Rattle.sudoers_list.proofs.reason.append_inner.Goals as goal
 pub returns : goal.returns
 returns c =
     let o = c.args.out.now.items in
-    let lines = c.args.policy.now in
+    let lines = c.args.walk.now in
     let file = c.args.file.now in
     let name = c.args.inner.now.name.now in
     let p = placed file c.spot_in-spot.result in

@@ -7,5 +7,5 @@ use Rattle.sudoers_list.proofs.rule.find_line.Given as goal
 
 abbrev pub invariant-loop-line_row : goal.invariant-loop-line_row
 invariant-loop-line_row l =
-    (slice_get (numbered l.row (map (line_in l.lines.tables.now) (drop l.line_row-index l.line_row-items))) l.left ≡ slice_get (numbered 1 l.policy) l.number)
+    (slice_get (numbered l.row (map (line_in l.lines.tables.now) (drop l.line_row-index l.line_row-items))) l.left ≡ slice_get (numbered 1 l.walk) l.number)
     × (l.row + length (join (texts (map (line_in l.lines.tables.now) (drop l.line_row-index l.line_row-items)))) ≤ 1048577)

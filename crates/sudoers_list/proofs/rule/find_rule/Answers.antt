@@ -1,15 +1,14 @@
 use Rattle.std.proofs.Common.{◌≡◌, ℕ, Some, sym, ap, ap₂, ◌∙◌}
 use Rattle.std.proofs.lemmas.Option.{same_Some}
 use Rattle.std.specs.Option.{option_map}
-use Rattle.sudoers_line.specs.declared.node.CmdSpec.{CmdSpec}
-use Rattle.sudoers_line.specs.declared.node.Member.{Member}
-use Rattle.sudoers_rows.specs.View.{member_shown}
+use Rattle.sudoers_line.specs.Node.{CmdSpec, Member}
+use Rattle.sudoers_line_rows.specs.View.{member_shown}
 use Rattle.sudoers_tree.specs.Line.{Line}
 use Rattle.sudoers_match.specs.Answer.{Answer}
 use Rattle.sudoers_match.specs.Found.{found_answer}
 use Rattle.sudoers_match.specs.Heads.{Head}
 use Rattle.sudoers_list.specs.declared.spot.Spot.{Spot}
-use Rattle.sudoers_list.specs.Inside.{numbered_shown}
+use Rattle.sudoers_list.specs.internal.Inside.{numbered_shown}
 use Rattle.sudoers_list.specs.Rule.{spot_in}
 use Rattle.sudoers_list.proofs.Ruled.{found_rule, none_is_not_some}
 use Rattle.sudoers_list.proofs.TagsSaid.{answered_is, is_tagged, tagged}
@@ -17,12 +16,12 @@ use Rattle.sudoers_list.proofs.rule.find_rule.Goals as goal
 
 pub unreachable-requires : goal.unreachable-requires
 unreachable-requires c =
-    let on = found_rule c.args.policy.now c.args.found.now c.requires in
+    let on = found_rule c.args.walk.now c.args.found.now c.requires in
     none_is_not_some on.0 (ap (option_map numbered_shown) (sym c.in_default.is) ∙ c.find_line.ensures.line ∙ on.1)
 
 pub returns : goal.returns
 returns c =
-    let lines = c.args.policy.now in
+    let lines = c.args.walk.now in
     let found = c.args.found.now in
     let a : Answer = found_answer found in
     let m : Member = member_shown found.member in

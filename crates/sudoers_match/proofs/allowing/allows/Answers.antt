@@ -1,4 +1,4 @@
-use Rattle.sudoers_rows.specs.View.{members_shown}
+use Rattle.sudoers_line_rows.specs.View.{members_shown}
 use Rattle.sudoers_match.proofs.Said.{not_allowed}
 use Rattle.sudoers_match.proofs.allowing.allows.Goals as goal
 

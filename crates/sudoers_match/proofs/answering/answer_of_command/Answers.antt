@@ -1,14 +1,14 @@
 use Rattle.std.proofs.Common.{◌∷◌, [], true, false, None, Some, sym, subst, ap, ◌∙◌}
 use Rattle.std.specs.Option.{option_map}
 use Rattle.sudoers_line.specs.declared.node.Kind.TheVariants.{Cmnd}
-use Rattle.sudoers_rows.specs.View.{members_shown, runas_shown}
-use Rattle.sudoers_hits.specs.declared.asked.CommandLine.{CommandLine}
-use Rattle.sudoers_hits.specs.Hits.{command_hits}
-use Rattle.sudoers_verdict.specs.Flat.{IsLatest}
-use Rattle.sudoers_verdict.specs.Search.{Remembers}
+use Rattle.sudoers_line_rows.specs.View.{members_shown, runas_shown}
+use Rattle.sudoers_match_member.specs.declared.asked.CommandLine.{CommandLine}
+use Rattle.sudoers_match_member.specs.Hits.{command_hits}
+use Rattle.sudoers_match_list.specs.Flat.{IsLatest}
+use Rattle.sudoers_match_list.specs.Search.{Remembers}
 use Rattle.sudoers_match.specs.Answer.{Answers}
 use Rattle.sudoers_match.specs.Moment.{is_in_time}
-use Rattle.sudoers_match.specs.Question.{RunasPermits}
+use Rattle.sudoers_match.specs.internal.Question.{RunasPermits}
 use Rattle.sudoers_match.proofs.Rowed.{no_moment, no_runas, by_latest}
 use Rattle.sudoers_match.proofs.answering.answer_of_command.Goals as goal
 

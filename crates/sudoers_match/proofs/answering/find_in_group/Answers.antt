@@ -2,20 +2,20 @@ use Rattle.std.proofs.Common.{◌≡◌, ◌+◌, ◌∷◌, [], IfSome, true, f
 use Rattle.std.specs.Option.{option_map, option_or, is_some}
 use Rattle.std.proofs.lemmas.List.{length-map}
 use Rattle.sudoers_line.specs.declared.node.Kind.TheVariants.{Host, Cmnd}
-use Rattle.sudoers_line.specs.declared.node.CmdSpec.{CmdSpec}
-use Rattle.sudoers_rows.specs.Tables.{command_in, member_in}
-use Rattle.sudoers_rows.specs.View.{command_shown, commands_shown, group_shown, members_shown, runas_shown}
-use Rattle.sudoers_hits.specs.Hits.{host_hits}
+use Rattle.sudoers_line.specs.Node.{CmdSpec}
+use Rattle.sudoers_line_rows.specs.Tables.{command_in, member_in}
+use Rattle.sudoers_line_rows.specs.View.{command_shown, commands_shown, group_shown, members_shown, runas_shown}
+use Rattle.sudoers_match_member.specs.Hits.{host_hits}
 use Rattle.sudoers_match.specs.Allows.{Permits}
 use Rattle.sudoers_match.specs.Answer.{answer_shown}
 use Rattle.sudoers_match.specs.Found.{found_answer}
-use Rattle.sudoers_rows.specs.declared.view.RunasSpec.{RunasSpec as RunasView}
+use Rattle.sudoers_line_rows.specs.declared.view.RunasSpec.{RunasSpec as RunasView}
 use Rattle.sudoers_check.proofs.Lists.{Has_at}
 use Rattle.sudoers_match.specs.declared.head.Head.{Head as HeadHeld}
 use Rattle.sudoers_match.specs.Heads.{Head, filled, inherit, no_head}
 use Rattle.sudoers_match.specs.IsHead.{IsHead}
-use Rattle.sudoers_match.specs.Question.{IsListSoFar, IsOfGroup, PermittedIs, found_with}
-use Rattle.sudoers_match.specs.Straight.{RunasIsStraight, CommandIsStraight, IsStraight}
+use Rattle.sudoers_match.specs.internal.Question.{IsListSoFar, IsOfGroup, PermittedIs, found_with}
+use Rattle.sudoers_match.specs.internal.Straight.{RunasIsStraight, CommandIsStraight, IsStraight}
 use Rattle.sudoers_match.proofs.Founds.{answer_found, group_found, some_or}
 use Rattle.sudoers_match.proofs.Gathered.{at_drop, at_map, drop_at}
 use Rattle.sudoers_match.proofs.Lasts.{map_or}

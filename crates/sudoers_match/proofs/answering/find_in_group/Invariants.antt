@@ -1,9 +1,9 @@
 use Rattle.std.proofs.Common.{map, IfSome}
 use Rattle.std.specs.Option.{option_map}
-use Rattle.sudoers_rows.specs.View.{group_shown, members_shown, runas_shown}
-use Rattle.sudoers_rows.specs.Tables.{command_in}
+use Rattle.sudoers_line_rows.specs.View.{group_shown, members_shown, runas_shown}
+use Rattle.sudoers_line_rows.specs.Tables.{command_in}
 use Rattle.sudoers_match.specs.Found.{found_answer}
-use Rattle.sudoers_match.specs.Question.{IsOfGroup, IsQuestion, IsListSoFar, PermittedIs}
+use Rattle.sudoers_match.specs.internal.Question.{IsOfGroup, IsQuestion, IsListSoFar, PermittedIs}
 use Rattle.sudoers_match.proofs.answering.find_in_group.Given as goal
 
 abbrev pub invariant-loop-command : goal.invariant-loop-command

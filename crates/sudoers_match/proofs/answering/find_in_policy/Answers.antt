@@ -1,11 +1,11 @@
 use Rattle.std.proofs.Common.{◌≡◌, ◌+◌, IfSome, drop, map, slice_get, sym, subst, ap, ◌∙◌, arith}
 use Rattle.std.specs.Option.{option_map}
 use Rattle.std.proofs.lemmas.List.{drop_all}
-use Rattle.sudoers_rows.specs.View.{groups_shown, members_shown}
+use Rattle.sudoers_line_rows.specs.View.{groups_shown, members_shown}
 use Rattle.sudoers_tree.specs.Line.{line_in}
 use Rattle.sudoers_check.proofs.Lists.{Has_at}
 use Rattle.sudoers_match.specs.Found.{IsFound, found_answer, numbered_specs}
-use Rattle.sudoers_match.specs.Question.{IsQuestion, IsSoFar}
+use Rattle.sudoers_match.specs.internal.Question.{IsQuestion, IsSoFar}
 use Rattle.sudoers_match.specs.Rows.{SpecRows}
 use Rattle.sudoers_match.specs.Specs.{specs_of}
 use Rattle.sudoers_match.proofs.Existing.{some_rows}

@@ -2,7 +2,7 @@ use Rattle.std.proofs.Common.{◌≡◌, ◌≤◌, drop, map, IfSome}
 use Rattle.std.specs.Option.{option_map}
 use Rattle.sudoers_tree.specs.Line.{line_in}
 use Rattle.sudoers_match.specs.Found.{IsFound, found_answer, numbered_specs}
-use Rattle.sudoers_match.specs.Question.{IsQuestion, IsSoFar}
+use Rattle.sudoers_match.specs.internal.Question.{IsQuestion, IsSoFar}
 use Rattle.sudoers_match.specs.Rows.{SpecRows}
 use Rattle.sudoers_match.specs.Specs.{specs_of}
 use Rattle.sudoers_match.proofs.answering.find_in_policy.Given as goal

@@ -2,14 +2,14 @@ use Rattle.std.proofs.Common.{◌+◌, IfSome, true, drop, sym, subst, ap, ◌�
 use Rattle.std.specs.Option.{option_map}
 use Rattle.std.proofs.lemmas.List.{drop_all, length-map}
 use Rattle.sudoers_line.specs.declared.node.Kind.TheVariants.{User}
-use Rattle.sudoers_line.specs.declared.node.HostGroup.{HostGroup}
-use Rattle.sudoers_rows.specs.Tables.{group_in}
-use Rattle.sudoers_rows.specs.View.{group_shown, groups_shown, members_shown}
-use Rattle.sudoers_hits.specs.Hits.{user_hits}
+use Rattle.sudoers_line.specs.Node.{HostGroup}
+use Rattle.sudoers_line_rows.specs.Tables.{group_in}
+use Rattle.sudoers_line_rows.specs.View.{group_shown, groups_shown, members_shown}
+use Rattle.sudoers_match_member.specs.Hits.{user_hits}
 use Rattle.sudoers_check.proofs.Lists.{Has_at}
 use Rattle.sudoers_match.specs.Allows.{Permits}
 use Rattle.sudoers_match.specs.Found.{found_answer}
-use Rattle.sudoers_match.specs.Question.{IsOfSpec, IsSoFar}
+use Rattle.sudoers_match.specs.internal.Question.{IsOfSpec, IsSoFar}
 use Rattle.sudoers_match.specs.Rows.{GroupRows}
 use Rattle.sudoers_match.specs.Specs.{spec_of}
 use Rattle.sudoers_match.proofs.Founds.{in_spec, some_or, some_then}

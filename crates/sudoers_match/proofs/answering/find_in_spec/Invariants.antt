@@ -1,9 +1,9 @@
 use Rattle.std.proofs.Common.{drop, map, IfSome}
 use Rattle.std.specs.Option.{option_map}
-use Rattle.sudoers_rows.specs.View.{members_shown}
-use Rattle.sudoers_rows.specs.Tables.{group_in}
+use Rattle.sudoers_line_rows.specs.View.{members_shown}
+use Rattle.sudoers_line_rows.specs.Tables.{group_in}
 use Rattle.sudoers_match.specs.Found.{found_answer}
-use Rattle.sudoers_match.specs.Question.{IsOfSpec, IsQuestion, IsSoFar}
+use Rattle.sudoers_match.specs.internal.Question.{IsOfSpec, IsQuestion, IsSoFar}
 use Rattle.sudoers_match.specs.Rows.{GroupRows}
 use Rattle.sudoers_match.proofs.answering.find_in_spec.Given as goal
 

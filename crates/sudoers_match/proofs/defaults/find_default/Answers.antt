@@ -3,12 +3,12 @@ use Rattle.std.proofs.lemmas.List.{length-map}
 use Rattle.std.specs.Option.{option_map, option_or, unwrap_or}
 use Rattle.std.specs.Borrow.{Bor}
 use Rattle.sudoers_line.specs.declared.node.Kind.TheVariants.{User, Host}
-use Rattle.sudoers_hits.specs.Hits.{user_hits, host_hits}
-use Rattle.sudoers_rows.specs.View.{params_shown, scope_shown}
+use Rattle.sudoers_match_member.specs.Hits.{user_hits, host_hits}
+use Rattle.sudoers_line_rows.specs.View.{params_shown, scope_shown}
 use Rattle.sudoers_tree.specs.Line.{line_in}
 use Rattle.sudoers_check.proofs.Lists.{Has_at}
-use Rattle.sudoers_verdict.specs.Search.{Remembers}
-use Rattle.sudoers_match.specs.Asked.{IsNameSoFar}
+use Rattle.sudoers_match_list.specs.Search.{Remembers}
+use Rattle.sudoers_match.specs.internal.Asked.{IsNameSoFar}
 use Rattle.sudoers_match.proofs.Passed.{line, line_at, says_defaults, no_default_in}
 use Rattle.sudoers_match.proofs.Reached.{scope_straight}
 use Rattle.sudoers_match.proofs.Settings.{none_so_far, defaults_more, other_more, whole}

@@ -1,7 +1,7 @@
 use Rattle.std.proofs.Common.{◌≡◌, ℕ, List, drop, map}
 use Rattle.std.specs.Option.{option_map, option_or}
 use Rattle.std.specs.Borrow.{Bor}
-use Rattle.sudoers_rows.specs.Tables.{param_in}
+use Rattle.sudoers_line_rows.specs.Tables.{param_in}
 use Rattle.sudoers_match.specs.Last.{last_of}
 use Rattle.sudoers_match.specs.Default.{settings_in}
 use Rattle.sudoers_match.proofs.defaults.find_setting.Given as goal

@@ -1,8 +1,8 @@
 use Rattle.std.proofs.Common.{ℕ, List, ap, sym, subst, ◌∙◌}
 use Rattle.std.specs.Option.{option_map}
 use Rattle.std.specs.Borrow.{Bor}
-use Rattle.sudoers_rows.specs.View.{params_shown, scope_shown}
-use Rattle.sudoers_match.specs.Asked.{Counts}
+use Rattle.sudoers_line_rows.specs.View.{params_shown, scope_shown}
+use Rattle.sudoers_match.specs.internal.Asked.{Counts}
 use Rattle.sudoers_match.proofs.Settings.{no_setting, counted, not_counted}
 use Rattle.sudoers_match.proofs.defaults.find_setting_for.Goals as goal
 

@@ -1,9 +1,9 @@
 use Rattle.std.proofs.Common.{inl, inr, ◌∷◌, [], refl, sym, ap, subst, ◌∙◌, arith, append-nil, Vec, Global}
 use Rattle.std.proofs.lemmas.List.{length-map}
 use Rattle.sudoers_line.specs.declared.node.Kind.TheVariants.{Host}
-use Rattle.sudoers_hits.specs.Hits.{host_hits}
-use Rattle.sudoers_rows.specs.Tables.{group_in}
-use Rattle.sudoers_rows.specs.View.{groups_shown, group_shown}
+use Rattle.sudoers_match_member.specs.Hits.{host_hits}
+use Rattle.sudoers_line_rows.specs.Tables.{group_in}
+use Rattle.sudoers_line_rows.specs.View.{groups_shown, group_shown}
 use Rattle.sudoers_check.proofs.Lists.{Has_at}
 use Rattle.sudoers_match.specs.Allows.{Permits}
 use Rattle.sudoers_match.specs.declared.groups.GroupPlace.{GroupPlace}

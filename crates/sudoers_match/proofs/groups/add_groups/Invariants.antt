@@ -1,10 +1,10 @@
 use Rattle.std.proofs.Common.{map}
 use Rattle.sudoers_line.specs.declared.node.Kind.TheVariants.{Host}
-use Rattle.sudoers_rows.specs.Tables.{group_in}
-use Rattle.sudoers_hits.specs.Hits.{host_hits}
-use Rattle.sudoers_verdict.specs.Search.{Remembers}
+use Rattle.sudoers_line_rows.specs.Tables.{group_in}
+use Rattle.sudoers_match_member.specs.Hits.{host_hits}
+use Rattle.sudoers_match_list.specs.Search.{Remembers}
 use Rattle.sudoers_match.specs.Groups.{GroupPlaces}
-use Rattle.sudoers_match.specs.Asked.{IsAdded}
+use Rattle.sudoers_match.specs.internal.Asked.{IsAdded}
 use Rattle.sudoers_match.proofs.groups.add_groups.Given as goal
 
 abbrev pub invariant-loop-host_group : goal.invariant-loop-host_group

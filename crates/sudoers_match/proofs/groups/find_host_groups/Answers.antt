@@ -1,11 +1,11 @@
 use Rattle.std.proofs.Common.{inl, inr, ◌++◌, [], ◌+◌, List, map, drop, slice_get, refl, sym, ap, subst, ◌∙◌, arith, append-nil, Vec, Global}
 use Rattle.sudoers_line.specs.declared.node.Kind.TheVariants.{User, Host}
-use Rattle.sudoers_hits.specs.Hits.{user_hits, host_hits}
-use Rattle.sudoers_rows.specs.View.{members_shown, groups_shown}
+use Rattle.sudoers_match_member.specs.Hits.{user_hits, host_hits}
+use Rattle.sudoers_line_rows.specs.View.{members_shown, groups_shown}
 use Rattle.sudoers_tree.specs.Line.{line_in}
 use Rattle.sudoers_match.specs.Allows.{Permits}
 use Rattle.sudoers_check.proofs.Lists.{Has_at}
-use Rattle.sudoers_verdict.specs.Search.{Remembers}
+use Rattle.sudoers_match_list.specs.Search.{Remembers}
 use Rattle.sudoers_match.specs.declared.groups.GroupPlace.{GroupPlace}
 use Rattle.sudoers_match.specs.Specs.{specs_of, AreJoined}
 use Rattle.sudoers_match.specs.Groups.{SpecPlaces}

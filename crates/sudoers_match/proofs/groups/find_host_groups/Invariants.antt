@@ -1,8 +1,8 @@
 use Rattle.std.proofs.Common.{◌≤◌, ◌++◌, List, drop, map}
 use Rattle.sudoers_line.specs.declared.node.Kind.TheVariants.{User, Host}
-use Rattle.sudoers_hits.specs.Hits.{user_hits, host_hits}
+use Rattle.sudoers_match_member.specs.Hits.{user_hits, host_hits}
 use Rattle.sudoers_tree.specs.Line.{line_in}
-use Rattle.sudoers_verdict.specs.Search.{Remembers}
+use Rattle.sudoers_match_list.specs.Search.{Remembers}
 use Rattle.sudoers_match.specs.declared.groups.GroupPlace.{GroupPlace}
 use Rattle.sudoers_match.specs.Specs.{specs_of, AreJoined}
 use Rattle.sudoers_match.specs.Groups.{SpecPlaces}

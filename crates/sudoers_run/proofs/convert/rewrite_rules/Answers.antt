@@ -1,8 +1,8 @@
 use Rattle.std.proofs.Common.{◌≡◌, ◌∙◌, ◌≤◌, true, List, sym, ap, subst}
 use Rattle.sudoers_tree.specs.Line.{Line}
-use Rattle.sudoers_rewrite.specs.Changed.{changes_shown}
-use Rattle.sudoers_rewrite.specs.Count.{member_limit}
-use Rattle.sudoers_rewrite.specs.Rewrite.{Changes, member_count, rewritten, used_rules}
+use Rattle.sudoers_cvt_rewrite.specs.Changed.{changes_shown}
+use Rattle.sudoers_cvt_rewrite.specs.Count.{member_limit}
+use Rattle.sudoers_cvt_rewrite.specs.Rewrite.{Changes, member_count, rewritten, used_rules}
 use Rattle.sudoers_run.specs.Convert.{converted, rewritten_rules}
 use Rattle.sudoers_run.proofs.RewriteLemmas.{are_rules, told_alike}
 use Rattle.sudoers_run.proofs.convert.rewrite_rules.Goals as goal

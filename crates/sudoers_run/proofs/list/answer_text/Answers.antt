@@ -1,9 +1,9 @@
 use Rattle.std.proofs.Common.{◌≡◌, Err, MatchBool, rules, subst, sym}
 use Rattle.std.specs.Option.{option_map}
-use Rattle.sudoers_verdict.specs.declared.verdict.AskFault.{AskFault}
+use Rattle.sudoers_match_list.specs.declared.verdict.AskFault.{AskFault}
 use Rattle.sudoers_match.specs.Found.{found_answer}
 use Rattle.sudoers_list.specs.Reason.{IsReason}
-use Rattle.sudoers_run.specs.LayerOf.{layer_of_ask}
+use Rattle.sudoers_run.specs.internal.LayerOf.{layer_of_ask}
 use Rattle.sudoers_run.specs.List.{allowed_text}
 use Rattle.sudoers_run.proofs.ListLemmas.{Answered, answer_refused}
 use Rattle.sudoers_run.proofs.list.answer_text.Goals as goal

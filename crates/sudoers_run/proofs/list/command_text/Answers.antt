@@ -2,14 +2,19 @@ use Rattle.std.proofs.Common.{◌≡◌, ◌⊎◌, inl, inr, ℕ, true, List, O
 use Rattle.std.specs.Borrow.{Bor}
 use Rattle.std.specs.Option.{is_some}
 use Rattle.sudoers_tree.specs.Line.{Line}
-use Rattle.sudoers_hits.specs.declared.asked.Who.{Who}
+use Rattle.sudoers_check.specs.Chains.{HasReachableCycle}
+use Rattle.sudoers_match_member.specs.declared.asked.Who.{Who}
 use Rattle.sudoers_match.specs.Default.{IsRunasDefault}
-use Rattle.sudoers_people.specs.Asked.{request_told}
+use Rattle.sudoers_list_people.specs.Asked.{request_told}
 use Rattle.sudoers_run.specs.declared.fault.LayerFault.{LayerFault}
 use Rattle.sudoers_run.specs.List.{text_shown}
 use Rattle.sudoers_run.proofs.ListLemmas.{Answered, Told, default_answered, default_refused, first_told, named_answered, nobody_of, shown_some, who_kept}
 use Rattle.sudoers_run.proofs.list.command_text.Goals as goal
 use Rattle.sudoers_run.proofs.list.command_text.Goals.{then-is_some-via-then-is_some, then-is_some-via-else-is_some+then-is_some-2}
+
+-- what is known of a walk holds of its policy
+acyclic_of : (lines walk : List Line) → walk ≡ lines → (HasReachableCycle walk → ⊥) → HasReachableCycle lines → ⊥
+acyclic_of lines walk same straight = subst (λ ls. HasReachableCycle ls → ⊥) same straight
 
 pub returns-then-is_some-clause-asked : goal.returns-then-is_some-clause-asked
 returns-then-is_some-clause-asked c =
@@ -25,7 +30,7 @@ returns-then-is_some-clause-asked c =
       | then-is_some-via-else-is_some+then-is_some-2 v ↦ inr (shown_some w.group (sym v.is_some-else-is_some.ensures ∙ v.if-is_some-2.true))
     ] in
     named_answered w c.args.file.now c.args.policy.now people who one first told c.answer_text.result
-    (subst (λ (ls : List Line). Answered w c.args.file.now ls first c.answer_text.result) c.in_ok-policy.ensures.policy c.answer_text.ensures.answered)
+    (subst (λ (ls : List Line). Answered w c.args.file.now ls first c.answer_text.result) (c.in_ok-policy.ensures.walk ∙ c.walk.ensures) c.answer_text.ensures.answered)
 
 pub returns-in_err-request-clause-asked : goal.returns-in_err-request-clause-asked
 returns-in_err-request-clause-asked c =
@@ -41,7 +46,7 @@ returns-in_err-request-clause-asked c =
     let same : c.from_residual-in_err-request.result ≡ Err fault = search rules in
     subst (Told w c.args.file.now lines people who) (sym same)
     (default_refused w c.args.file.now lines people who (nobody_of w.target (sym c.is_some.ensures ∙ c.if-is_some.false)) (nobody_of w.group (sym c.is_some-else-is_some.ensures ∙ c.if-is_some-2.false))
-    first told c.in_ok-policy.ensures.straight user (subst (λ (ls : List Line). IsRunasDefault ls first.who user) c.in_ok-policy.ensures.policy c.in_ok-default.ensures)
+    first told (acyclic_of c.args.policy.now c.walk.result.now c.walk.ensures c.in_ok-policy.ensures.straight) user (subst (λ (ls : List Line). IsRunasDefault ls first.who user) (c.in_ok-policy.ensures.walk ∙ c.walk.ensures) c.in_ok-default.ensures)
     fault c.in_err-request.ensures.told)
 
 pub answer_text-requires-2 : goal.answer_text-requires-2
@@ -64,6 +69,6 @@ returns-clause-asked c =
     let told : first_told w people who w.target ≡ Ok first =
     ap (λ (n : Bor (List ℕ)). request_told people who n.now (text_shown w.group) w.words.now w.moment.now) (sym c.unwrap_or-named.ensures) ∙ c.in_ok-first.ensures.told in
     default_answered w c.args.file.now lines people who (nobody_of w.target (sym c.is_some.ensures ∙ c.if-is_some.false)) (nobody_of w.group (sym c.is_some-else-is_some.ensures ∙ c.if-is_some-2.false))
-    first told c.in_ok-policy.ensures.straight user (subst (λ (ls : List Line). IsRunasDefault ls first.who user) c.in_ok-policy.ensures.policy c.in_ok-default.ensures)
+    first told (acyclic_of c.args.policy.now c.walk.result.now c.walk.ensures c.in_ok-policy.ensures.straight) user (subst (λ (ls : List Line). IsRunasDefault ls first.who user) (c.in_ok-policy.ensures.walk ∙ c.walk.ensures) c.in_ok-default.ensures)
     request c.in_ok-request.ensures.told c.answer_text-2.result
-    (subst (λ (ls : List Line). Answered w c.args.file.now ls request c.answer_text-2.result) c.in_ok-policy.ensures.policy c.answer_text-2.ensures.answered)
+    (subst (λ (ls : List Line). Answered w c.args.file.now ls request c.answer_text-2.result) (c.in_ok-policy.ensures.walk ∙ c.walk.ensures) c.answer_text-2.ensures.answered)

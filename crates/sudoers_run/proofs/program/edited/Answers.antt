@@ -1,6 +1,6 @@
 use Rattle.std.proofs.Common.{◌≡◌, ◌∙◌, ◌++◌, List, ℕ, Result, Ok, reverse, ap, sym, subst, MatchResult}
 use Rattle.sudoers_tree.specs.Policy.{texts}
-use Rattle.sudoers_script.specs.declared.edit.Edit.{Edit}
+use Rattle.sudoers_edit_script.specs.declared.edit.Edit.{Edit}
 use Rattle.sudoers_run.specs.declared.fault.LayerFault.{LayerFault}
 use Rattle.sudoers_edit.specs.Editing.{run_all, inv_run, edits_of, first_of, first_lines}
 use Rattle.sudoers_run.specs.Program.{edited_output, output_text, by_edit, ◌>>=◌, TellsLayer}

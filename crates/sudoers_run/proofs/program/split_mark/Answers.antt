@@ -3,7 +3,7 @@ use Rattle.std.proofs.lemmas.List.{take_rest, drop-drop, length-drop}
 use Rattle.std.proofs.Math.Seq.{take-add}
 use Rattle.std.specs.Option.{option_map}
 use Rattle.sudoers_text.specs.Line.{join}
-use Rattle.sudoers_script.specs.Physical.{physical_lines}
+use Rattle.sudoers_edit_script.specs.Physical.{physical_lines}
 use Rattle.sudoers_run.specs.Program.{split_lines}
 use Rattle.sudoers_run.proofs.ProgramLemmas.{split_more, split_found}
 use Rattle.sudoers_run.proofs.program.split_mark.Goals as goal

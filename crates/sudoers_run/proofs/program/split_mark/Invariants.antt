@@ -1,7 +1,7 @@
 use Rattle.std.proofs.Common.{◌≡◌, ◌≤◌, ◌++◌, ◌-◌, length, take, drop}
 use Rattle.std.specs.Option.{option_map}
 use Rattle.sudoers_text.specs.Line.{join}
-use Rattle.sudoers_script.specs.Physical.{physical_lines}
+use Rattle.sudoers_edit_script.specs.Physical.{physical_lines}
 use Rattle.sudoers_run.specs.Program.{split_lines, split_text}
 use Rattle.sudoers_run.proofs.program.split_mark.Given as goal
 

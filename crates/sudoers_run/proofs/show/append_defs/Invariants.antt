@@ -1,5 +1,5 @@
 use Rattle.std.proofs.Common.{◌≡◌, ◌++◌, ◌+◌, drop, map}
-use Rattle.sudoers_rows.specs.Tables.{def_in}
+use Rattle.sudoers_line_rows.specs.Tables.{def_in}
 use Rattle.sudoers_run.specs.Shown.{shown_defs}
 use Rattle.sudoers_run.proofs.show.append_defs.Given as goal
 

@@ -3,7 +3,7 @@ use Rattle.std.specs.Prelude.{slice_range}
 use Rattle.std.proofs.lemmas.List.{take_rest}
 use Rattle.sudoers_text.specs.Unit.{line_end_size}
 use Rattle.sudoers_text.specs.Line.{IsLine, IsOpen}
-use Rattle.sudoers_text.specs.Left.{unit_of}
+use Rattle.sudoers_text.specs.internal.Left.{unit_of}
 use Rattle.sudoers_text.proofs.Reading.{Reading, agrees, stands_at, unit_here, unit_size, reading_first, reading_more, end_here, end_within, line_by_end, line_at_end, open_at_end}
 use Rattle.sudoers_text.proofs.Runs.{reading_passed}
 use Rattle.sudoers_text.proofs.Unique.{not_open_by_end, open_then_continues}

@@ -1,7 +1,7 @@
 use Rattle.std.proofs.Common.{◌≡◌, ◌-◌, ◌∙◌, ℕ, List, Bool, true, false, take, get_or, arith, sym, ap}
 use Rattle.std.specs.Prelude.{if◌then◌else◌}
 use Rattle.sudoers_text.specs.Unit.{is_separator}
-use Rattle.sudoers_text.specs.Run.{item_behind, keeps_item}
+use Rattle.sudoers_text.specs.internal.Run.{item_behind, keeps_item}
 use Rattle.sudoers_text.proofs.Runs.{item_more}
 use Rattle.sudoers_text.proofs.run.item_behind.Goals as goal
 

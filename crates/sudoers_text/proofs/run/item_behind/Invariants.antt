@@ -1,5 +1,5 @@
 use Rattle.std.proofs.Common.{◌≡◌, ◌≤◌, take, length}
-use Rattle.sudoers_text.specs.Run.{item_behind}
+use Rattle.sudoers_text.specs.internal.Run.{item_behind}
 use Rattle.sudoers_text.proofs.run.item_behind.Given as goal
 
 -- What has been passed from the end on decides nothing.

@@ -1,5 +1,5 @@
 use Rattle.std.proofs.Common.{◌≡◌, ◌++◌, take, drop}
-use Rattle.sudoers_text.specs.Run.{plain_part}
+use Rattle.sudoers_text.specs.internal.Run.{plain_part}
 use Rattle.sudoers_text.proofs.run.plain_part.Given as goal
 
 -- what has been passed and what is left of the part are the part

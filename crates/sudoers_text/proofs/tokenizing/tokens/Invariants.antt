@@ -1,5 +1,5 @@
 use Rattle.std.proofs.Common.{◌-◌, ◌≤◌, length}
-use Rattle.sudoers_text.specs.Reached.{Reaches}
+use Rattle.sudoers_text.specs.internal.Reached.{Reaches}
 use Rattle.sudoers_text.proofs.Standing.{Standing}
 use Rattle.sudoers_text.proofs.tokenizing.tokens.Given as goal
 

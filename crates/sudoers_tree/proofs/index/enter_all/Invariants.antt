@@ -1,5 +1,5 @@
 use Rattle.std.proofs.Common.{◌≡◌, drop, map}
-use Rattle.sudoers_rows.specs.Tables.{def_in}
+use Rattle.sudoers_line_rows.specs.Tables.{def_in}
 use Rattle.sudoers_tree.specs.Index.{entered}
 use Rattle.sudoers_tree.proofs.index.enter_all.Given as goal
 

@@ -1,5 +1,5 @@
 use Rattle.std.proofs.lemmas.List.Elements.{All-contains}
-use Rattle.sudoers_tree.specs.Tree.{Stands}
+use Rattle.sudoers_tree.specs.internal.Tree.{Stands}
 use Rattle.sudoers_tree.proofs.known.row_of.Goals as goal
 
 pub returns-in-Some-clause-gives : goal.returns-in-Some-clause-gives

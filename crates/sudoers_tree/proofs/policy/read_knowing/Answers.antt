@@ -2,12 +2,10 @@ use Rattle.std.proofs.Common.{◌≡◌, ◌∙◌, ◌⊎◌, IfErr, ℕ, List,
 use Rattle.sudoers_text.specs.declared.fault.TextFault.{TextFault}
 use Rattle.sudoers_tree.specs.declared.fault.ReadFault.{ReadFault}
 use Rattle.sudoers_tree.specs.declared.fault.ReadFault.TheVariants.{NoMemory}
-use Rattle.sudoers_tree.specs.declared.reading.Reading.{Reading}
-use Rattle.sudoers_tree.specs.Wrapped.{fault_of_text}
+use Rattle.sudoers_tree.specs.Line.{Line}
+use Rattle.sudoers_tree.specs.internal.Wrapped.{fault_of_text}
 use Rattle.sudoers_tree.specs.Fault.{IsFaultOf}
 use Rattle.sudoers_tree.specs.Reading.{read_of, IsOutcome, ReadGives}
-use Rattle.sudoers_tree.specs.Definition.{definitions}
-use Rattle.sudoers_tree.specs.Index.{Indexes}
 use Rattle.sudoers_tree.proofs.ReadText.{not_cut, is_cut, faulty, fault_given}
 use Rattle.sudoers_tree.proofs.policy.read_knowing.Goals as goal
 
@@ -33,26 +31,36 @@ returns-in_err-reading-clause-fault c =
     (fault_given text (read_of text) fault (c.read_is.ensures text)
     (faulty text c.in_ok-lines.lines fault c.in_ok-lines.ensures.outcome c.in_err-reading.ensures))
 
+-- The policy to which the text leads.
+is_read : (text : List ℕ) (walk : List Line) → IsOutcome text (read_of text) → read_of text ≡ Ok walk → IsOutcome text (Ok walk)
+is_read text walk is outcome = subst (IsOutcome text) outcome is
+
+pub of-requires-clause-walk : goal.of-requires-clause-walk
+of-requires-clause-walk c =
+    let outcome = is_cut c.args.text.now c.in_ok-lines.lines c.in_ok-lines.ensures.outcome ∙ c.in_ok-reading.ensures.0 in
+    (is_read c.args.text.now c.in_ok-reading.reading.tree (c.read_is.ensures c.args.text.now) outcome).0.walk
+
+pub of-requires-clause-within : goal.of-requires-clause-within
+of-requires-clause-within c =
+    let outcome = is_cut c.args.text.now c.in_ok-lines.lines c.in_ok-lines.ensures.outcome ∙ c.in_ok-reading.ensures.0 in
+    (is_read c.args.text.now c.in_ok-reading.reading.tree (c.read_is.ensures c.args.text.now) outcome).0.cut.fits
+
 pub returns-clause-outcome : goal.returns-clause-outcome
 returns-clause-outcome c =
     is_cut c.args.text.now c.in_ok-lines.lines c.in_ok-lines.ensures.outcome ∙ c.in_ok-reading.ensures.0
-    ∙ ap (λ (r : Reading). Ok r.tree) (sym c.in_ok-new.ensures.ok)
+    ∙ ap (λ lines. Ok lines) (sym c.of.ensures ∙ sym c.in_ok-new.ensures.ok)
 
 pub returns-clause-policy : goal.returns-clause-policy
 returns-clause-policy c =
-    let text : List ℕ = c.args.text.now in
-    let outcome : read_of text ≡ Ok c.in_ok-new.field-0.value.tree =
-    is_cut text c.in_ok-lines.lines c.in_ok-lines.ensures.outcome ∙ c.in_ok-reading.ensures.0
-    ∙ ap (λ (r : Reading). Ok r.tree) (sym c.in_ok-new.ensures.ok) in
-    subst (IsOutcome text) outcome (c.read_is.ensures text)
+    let outcome =
+    is_cut c.args.text.now c.in_ok-lines.lines c.in_ok-lines.ensures.outcome ∙ c.in_ok-reading.ensures.0
+    ∙ ap (λ lines. Ok lines) (sym c.of.ensures ∙ sym c.in_ok-new.ensures.ok) in
+    is_read c.args.text.now c.in_ok-new.field-0.value (c.read_is.ensures c.args.text.now) outcome
 
 pub invariant_of-result : goal.invariant_of-result
 invariant_of-result c =
-    let text : List ℕ = c.args.text.now in
-    let outcome : read_of text ≡ Ok c.in_ok-new.field-0.value.tree =
-    is_cut text c.in_ok-lines.lines c.in_ok-lines.ensures.outcome ∙ c.in_ok-reading.ensures.0
-    ∙ ap (λ (r : Reading). Ok r.tree) (sym c.in_ok-new.ensures.ok) in
-    let is : IsOutcome text (Ok c.in_ok-new.field-0.value.tree) = subst (IsOutcome text) outcome (c.read_is.ensures text) in
-    let kept : Indexes c.in_ok-new.field-0.value.index (definitions c.in_ok-new.field-0.value.tree) =
-    subst (λ (r : Reading). Indexes r.index (definitions r.tree)) (sym c.in_ok-new.ensures.ok) c.in_ok-reading.ensures.1 in
-    (ap read_of is.1 ∙ outcome, kept, ap length (sym is.1))
+    let outcome =
+    is_cut c.args.text.now c.in_ok-lines.lines c.in_ok-lines.ensures.outcome ∙ c.in_ok-reading.ensures.0
+    ∙ ap (λ lines. Ok lines) (sym c.of.ensures ∙ sym c.in_ok-new.ensures.ok) in
+    let is = is_read c.args.text.now c.in_ok-new.field-0.value (c.read_is.ensures c.args.text.now) outcome in
+    (ap read_of is.1 ∙ outcome, ap length (sym is.1))

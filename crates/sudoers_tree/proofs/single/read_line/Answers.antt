@@ -3,9 +3,9 @@ use Rattle.std.specs.Result.{result_ok}
 use Rattle.sudoers_text.specs.Whole.{is_logical_line}
 use Rattle.sudoers_line.specs.declared.fault.LineFault.{LineFault}
 use Rattle.sudoers_line.specs.declared.fault.LineFault.TheVariants.{Syntax}
-use Rattle.sudoers_line.specs.declared.node.Node.{Node}
+use Rattle.sudoers_line.specs.Node.{Node}
 use Rattle.sudoers_line.specs.Line.{Gives}
-use Rattle.sudoers_reader.specs.Outcome.{outcome_of, LineGives}
+use Rattle.sudoers_line_reader.specs.Outcome.{outcome_of, LineGives}
 use Rattle.sudoers_tree.specs.Single.{said}
 use Rattle.sudoers_tree.proofs.single.read_line.Goals as goal
 

@@ -1,6 +1,6 @@
 use Rattle.std.proofs.Common.{◌≡◌, ◌∙◌, ◌<◌, ◌+◌, Bool, true, false, nat_eq, length, sym, inr, arith}
 use Rattle.std.proofs.lemmas.Bool.{eq-eqb}
-use Rattle.sudoers_check.specs.Search.{IsMark}
+use Rattle.sudoers_check.specs.internal.Search.{IsMark}
 use Rattle.sudoers_check.proofs.Closing.{closed_more, next_within, long, not_alone}
 use Rattle.sudoers_check.proofs.cycles.Search.close.Goals as goal
 use Rattle.sudoers_check.proofs.cycles.Search.close.Goals.{In-Some, then-not-alone, else-not-alone}

@@ -1,5 +1,5 @@
 use Rattle.std.proofs.Common.{◌≡◌, ◌≤◌, length}
-use Rattle.sudoers_check.specs.Search.{IsClosed}
+use Rattle.sudoers_check.specs.internal.Search.{IsClosed}
 use Rattle.sudoers_check.proofs.cycles.Search.close.Given as goal
 
 abbrev pub invariant-loop-self : goal.invariant-loop-self

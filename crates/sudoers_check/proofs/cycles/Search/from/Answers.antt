@@ -1,7 +1,7 @@
 use Rattle.std.proofs.Common.{◌≡◌, ◌∙◌, [], ℕ, Some, None, slice_get, length, sym, ap, subst}
 use Rattle.std.proofs.lemmas.Option.{slice_get_read}
 use Rattle.sudoers_check.specs.declared.cycles.Standing.TheVariants.{New}
-use Rattle.sudoers_check.specs.Search.{HasMet, IsMet, IsSearch}
+use Rattle.sudoers_check.specs.internal.Search.{HasMet, IsMet, IsSearch}
 use Rattle.sudoers_check.proofs.Steps.{entered, entered_met, now_met}
 use Rattle.sudoers_check.proofs.Whole.{none_open}
 use Rattle.sudoers_check.proofs.cycles.Search.from.Goals as goal

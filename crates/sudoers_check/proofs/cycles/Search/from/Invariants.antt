@@ -1,4 +1,4 @@
-use Rattle.sudoers_check.specs.Search.{HasMet, fuel}
+use Rattle.sudoers_check.specs.internal.Search.{HasMet, fuel}
 use Rattle.sudoers_check.proofs.cycles.Search.from.Given as goal
 
 abbrev pub invariant-loop-step : goal.invariant-loop-step

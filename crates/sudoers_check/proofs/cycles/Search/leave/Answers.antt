@@ -1,7 +1,7 @@
 use Rattle.std.proofs.Common.{◌≡◌, ◌∙◌, ◌-◌, ◌++◌, ◌∷◌, [], List, ℕ, Some, None, slice_get, length, sym, ap, subst, arith}
 use Rattle.std.proofs.lemmas.Option.{slice_get_within}
 use Rattle.sudoers_check.specs.declared.cycles.Step.{Step}
-use Rattle.sudoers_check.specs.Search.{IsSearch, left}
+use Rattle.sudoers_check.specs.internal.Search.{IsSearch, left}
 use Rattle.sudoers_check.proofs.Closing.{closed_met, left_closed}
 use Rattle.sudoers_check.proofs.Fuel.{left_push}
 use Rattle.sudoers_check.proofs.Lists.{popped}

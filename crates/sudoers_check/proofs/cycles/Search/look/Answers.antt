@@ -2,7 +2,7 @@ use Rattle.std.proofs.Common.{◌≡◌, ◌∙◌, ◌<◌, Some, slice_get, ge
 use Rattle.std.proofs.lemmas.Option.{slice_get_within, slice_get_read}
 use Rattle.std.proofs.lemmas.Result.{on_ok_weaker}
 use Rattle.sudoers_check.specs.declared.cycles.Standing.{Standing}
-use Rattle.sudoers_check.specs.Graph.{edges_of}
+use Rattle.sudoers_check.specs.internal.Graph.{edges_of}
 use Rattle.sudoers_check.proofs.Lists.{All_at, got}
 use Rattle.sudoers_check.proofs.Searching.{last_at}
 use Rattle.sudoers_check.proofs.Steps.{shorter_fuel, step_to_closed, step_to_open, step_to_new}

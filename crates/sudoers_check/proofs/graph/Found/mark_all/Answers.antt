@@ -2,7 +2,7 @@ use Rattle.std.proofs.Common.{◌≡◌, ◌∙◌, ◌<◌, ◌+◌, ℕ, List,
 use Rattle.std.proofs.Math.ListN.{set}
 use Rattle.std.proofs.lemmas.Option.{slice_get-get_or, slice_get_read}
 use Rattle.sudoers_check.specs.declared.graph.Found.{Found}
-use Rattle.sudoers_check.specs.Found.{IsGrown}
+use Rattle.sudoers_check.specs.internal.Found.{IsGrown}
 use Rattle.sudoers_check.proofs.Lists.{All_at}
 use Rattle.sudoers_check.proofs.Found.{grown_same, grown_more}
 use Rattle.sudoers_check.proofs.graph.Found.mark_all.Goals as goal

@@ -1,4 +1,4 @@
-use Rattle.sudoers_check.specs.Found.{IsGrown}
+use Rattle.sudoers_check.specs.internal.Found.{IsGrown}
 use Rattle.std.proofs.Common.{length}
 use Rattle.sudoers_check.proofs.graph.Found.mark_all.Given as goal
 

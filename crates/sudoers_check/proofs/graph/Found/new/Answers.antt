@@ -1,5 +1,5 @@
 use Rattle.std.proofs.Common.{◌≡◌, subst, rules, false, replicate, []}
-use Rattle.sudoers_check.specs.Found.{IsFound}
+use Rattle.sudoers_check.specs.internal.Found.{IsFound}
 use Rattle.sudoers_check.proofs.Found.{found_none}
 use Rattle.sudoers_check.proofs.graph.Found.new.Goals as goal
 

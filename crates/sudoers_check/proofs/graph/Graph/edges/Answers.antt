@@ -1,6 +1,6 @@
 use Rattle.std.proofs.Common.{◌≡◌, sym, subst, arith}
 use Rattle.std.proofs.lemmas.Grind.{common_steps}
-use Rattle.sudoers_check.specs.Graph.{AreNodes, IsGraph, edges_of}
+use Rattle.sudoers_check.specs.internal.Graph.{AreNodes, IsGraph, edges_of}
 use Rattle.sudoers_check.proofs.Found.{are_nodes}
 use Rattle.sudoers_check.proofs.graph.Graph.edges.Goals as goal
 

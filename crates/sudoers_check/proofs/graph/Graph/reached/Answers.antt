@@ -1,8 +1,8 @@
 use Rattle.std.proofs.Common.{◌≡◌, ◌∙◌, ◌<◌, [], sym, subst, rules, length, slice_get, Some, arith}
 use Rattle.std.proofs.lemmas.Option.{slice_get_read, slice_get_within}
 use Rattle.std.specs.List.{AllByRecursion}
-use Rattle.sudoers_check.specs.Graph.{edges_of}
-use Rattle.sudoers_check.specs.Found.{IsFound, IsGrown}
+use Rattle.sudoers_check.specs.internal.Graph.{edges_of}
+use Rattle.sudoers_check.specs.internal.Found.{IsFound, IsGrown}
 use Rattle.sudoers_check.proofs.Found.{sources_marked, edges_marked, reached_marks}
 use Rattle.sudoers_check.proofs.graph.Graph.reached.Goals as goal
 

@@ -1,5 +1,5 @@
 use Rattle.std.proofs.Common.{◌-◌, length}
-use Rattle.sudoers_check.specs.Found.{IsFoundFrom}
+use Rattle.sudoers_check.specs.internal.Found.{IsFoundFrom}
 use Rattle.sudoers_check.proofs.graph.Graph.reached.Given as goal
 
 abbrev pub invariant-loop-next : goal.invariant-loop-next

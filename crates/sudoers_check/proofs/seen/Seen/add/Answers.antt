@@ -1,6 +1,6 @@
 use Rattle.std.proofs.Common.{◌≡◌, ◌∙◌, ◌||◌, not, ap, map, ℕ, List, bytes_eq}
 use Rattle.std.specs.List.{list_any}
-use Rattle.sudoers_check.specs.Seen.{key}
+use Rattle.sudoers_check.specs.internal.Seen.{key}
 use Rattle.sudoers_check.proofs.Keys.{map_any, added}
 use Rattle.sudoers_check.proofs.seen.Seen.add.Goals as goal
 

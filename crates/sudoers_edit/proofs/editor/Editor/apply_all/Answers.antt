@@ -1,6 +1,6 @@
 use Rattle.std.proofs.Common.{◌≡◌, ◌∷◌, ◌++◌, [], take, Ok, List, ℕ, slice_index_or, ap, ◌∙◌, sym, append_assoc}
 use Rattle.std.proofs.lemmas.List.{take_more}
-use Rattle.sudoers_script.specs.declared.edit.Edit.{Edit}
+use Rattle.sudoers_edit_script.specs.declared.edit.Edit.{Edit}
 use Rattle.sudoers_edit.specs.declared.editor.Entry.{Entry}
 use Rattle.sudoers_edit.specs.Editing.{step, inv, edits_of}
 use Rattle.sudoers_edit.proofs.HistoryLemmas.{run_more, run_all_more, edits_more}

@@ -2,7 +2,7 @@ use Rattle.std.proofs.Common.{List, reverse, IfOk, ap, ◌∙◌, subst}
 use Rattle.std.proofs.lemmas.Result.{IfOk-weaker}
 use Rattle.std.specs.List.{flat_map}
 use Rattle.sudoers_tree.specs.Policy.{texts}
-use Rattle.sudoers_script.specs.declared.edit.Edit.{Edit}
+use Rattle.sudoers_edit_script.specs.declared.edit.Edit.{Edit}
 use Rattle.sudoers_edit.specs.declared.editor.Entry.{Entry}
 use Rattle.sudoers_edit.specs.Editing.{Desk}
 use Rattle.sudoers_edit.proofs.HistoryLemmas.{TakesBack, takes_back}

@@ -1,7 +1,7 @@
 use Rattle.std.proofs.Common.{◌∙◌, ap₂}
-use Rattle.sudoers_line.specs.declared.node.Def.{Def}
-use Rattle.sudoers_rows.specs.declared.rows.DefRow.{DefRow}
-use Rattle.sudoers_rows.specs.Tables.{def_in}
+use Rattle.sudoers_line.specs.Node.{Def}
+use Rattle.sudoers_line_rows.specs.declared.rows.DefRow.{DefRow}
+use Rattle.sudoers_line_rows.specs.Tables.{def_in}
 use Rattle.sudoers_edit.specs.Alike.{is_same_def}
 use Rattle.sudoers_edit.specs.Splice.{less_member}
 use Rattle.sudoers_edit.proofs.AlikeLemmas.{same_rows}

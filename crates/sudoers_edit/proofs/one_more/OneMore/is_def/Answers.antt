@@ -1,5 +1,5 @@
 use Rattle.std.proofs.Common.{ap}
-use Rattle.sudoers_rows.specs.View.{defs_shown, node_shown}
+use Rattle.sudoers_line_rows.specs.View.{defs_shown, node_shown}
 use Rattle.sudoers_edit.proofs.MoreLemmas.{def_more}
 use Rattle.sudoers_edit.proofs.one_more.OneMore.is_def.Goals as goal
 

@@ -1,6 +1,6 @@
 use Rattle.std.proofs.Common.{◌≡◌, ◌++◌, ℕ, List, map, take}
 use Rattle.sudoers_line.specs.declared.node.OptionName.{OptionName}
-use Rattle.sudoers_rows.specs.Tables.{option_in}
+use Rattle.sudoers_line_rows.specs.Tables.{option_in}
 use Rattle.sudoers_match.specs.Values.{values_of, values_shown}
 use Rattle.sudoers_match.proofs.options.Options.set_all.Given as goal
 

@@ -1,9 +1,9 @@
 use Rattle.std.proofs.Common.{false, Some, sym, subst, ap, ◌∙◌}
 use Rattle.sudoers_line.specs.declared.node.Kind.TheVariants.{Runas}
-use Rattle.sudoers_rows.specs.View.{members_shown}
-use Rattle.sudoers_hits.specs.declared.asked.Group.{Group}
-use Rattle.sudoers_hits.specs.Hits.{group_hits}
-use Rattle.sudoers_match.specs.Question.{GroupPermits}
+use Rattle.sudoers_line_rows.specs.View.{members_shown}
+use Rattle.sudoers_match_member.specs.declared.asked.Group.{Group}
+use Rattle.sudoers_match_member.specs.Hits.{group_hits}
+use Rattle.sudoers_match.specs.internal.Question.{GroupPermits}
 use Rattle.sudoers_match.specs.Runas.{is_among, may_use}
 use Rattle.sudoers_match.proofs.Runases.{group_permits}
 use Rattle.sudoers_match.proofs.question.Question.allows_group.Goals as goal

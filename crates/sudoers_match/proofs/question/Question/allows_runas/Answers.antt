@@ -1,11 +1,11 @@
 use Rattle.std.proofs.Common.{◌&&◌, sym, subst, ap, ◌∙◌}
 use Rattle.std.specs.Option.{option_map}
-use Rattle.sudoers_rows.specs.View.{members_shown, runas_shown}
+use Rattle.sudoers_line_rows.specs.View.{members_shown, runas_shown}
 use Rattle.sudoers_line.specs.declared.node.Kind.TheVariants.{Runas}
-use Rattle.sudoers_rows.specs.Tables.{member_in}
-use Rattle.sudoers_hits.specs.Hits.{is_same_name, user_hits}
+use Rattle.sudoers_line_rows.specs.Tables.{member_in}
+use Rattle.sudoers_match_member.specs.Hits.{is_same_name, user_hits}
 use Rattle.sudoers_match.specs.Allows.{Permits}
-use Rattle.sudoers_match.specs.Question.{RunasPermits}
+use Rattle.sudoers_match.specs.internal.Question.{RunasPermits}
 use Rattle.sudoers_match.proofs.Runases.{default_permits, target_with_group, if_ok, not_empty}
 use Rattle.sudoers_match.proofs.question.Question.allows_runas.Goals as goal
 

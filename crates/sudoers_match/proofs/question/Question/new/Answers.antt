@@ -1,9 +1,9 @@
 use Rattle.sudoers_line.specs.declared.node.Kind.TheVariants.{User, Runas, Host, Cmnd}
 use Rattle.std.proofs.Common.{Option, Some, None, ap, ◌∙◌}
-use Rattle.sudoers_hits.specs.declared.asked.Group.{Group}
-use Rattle.sudoers_hits.specs.Hits.{user_hits, group_hits, host_hits, command_hits}
+use Rattle.sudoers_match_member.specs.declared.asked.Group.{Group}
+use Rattle.sudoers_match_member.specs.Hits.{user_hits, group_hits, host_hits, command_hits}
 use Rattle.sudoers_match.specs.Answer.{command_line}
-use Rattle.sudoers_match.specs.Question.{RemembersGroup}
+use Rattle.sudoers_match.specs.internal.Question.{RemembersGroup}
 use Rattle.sudoers_match.specs.Runas.{is_among}
 use Rattle.sudoers_match.proofs.question.Question.new.Goals as goal
 

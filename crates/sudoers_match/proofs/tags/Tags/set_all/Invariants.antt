@@ -1,6 +1,6 @@
 use Rattle.std.proofs.Common.{◌≡◌, ◌++◌, Bool, List, map, take}
 use Rattle.sudoers_line.specs.declared.node.Tag.{Tag}
-use Rattle.sudoers_rows.specs.Tables.{tag_in}
+use Rattle.sudoers_line_rows.specs.Tables.{tag_in}
 use Rattle.sudoers_match.specs.Heads.{tags_of}
 use Rattle.sudoers_match.proofs.tags.Tags.set_all.Given as goal
 

@@ -1,6 +1,6 @@
 use Rattle.std.proofs.Common.{◌≡◌, ◌∙◌, List, ℕ, false, drop, ap, subst, sym}
 use Rattle.sudoers_text.specs.Unit.{LineUnit}
-use Rattle.sudoers_text.specs.Left.{Knows, begins_sign}
+use Rattle.sudoers_text.specs.internal.Left.{Knows, begins_sign}
 use Rattle.sudoers_text.specs.Token.{units_left}
 use Rattle.sudoers_text.proofs.Reach.{left}
 use Rattle.sudoers_text.proofs.Reached.{found_apart, found_known, units_on}

@@ -1,6 +1,6 @@
 use Rattle.std.proofs.Common.{List, ℕ, subst}
 use Rattle.sudoers_text.specs.Unit.{LineUnit}
-use Rattle.sudoers_text.specs.Left.{Knows}
+use Rattle.sudoers_text.specs.internal.Left.{Knows}
 use Rattle.sudoers_text.specs.Token.{units_left}
 use Rattle.sudoers_text.proofs.Reached.{units_on}
 use Rattle.sudoers_text.proofs.tokenizing.Reached.to.Goals as goal

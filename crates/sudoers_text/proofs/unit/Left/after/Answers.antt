@@ -1,6 +1,6 @@
 use Rattle.std.proofs.Common.{◌+◌, ◌∷◌, sym, subst, ℕ, length}
 use Rattle.sudoers_text.specs.Unit.{text_of, begun}
-use Rattle.sudoers_text.specs.Left.{unit_of}
+use Rattle.sudoers_text.specs.internal.Left.{unit_of}
 use Rattle.sudoers_text.proofs.Units.{LastBytes, begun_more}
 use Rattle.sudoers_text.proofs.unit.Left.after.Goals as goal
 

@@ -1,7 +1,7 @@
 use Rattle.std.proofs.Common.{◌≡◌, ◌+◌, ◌≤◌, ◌∙◌, ◌∷◌, ℕ, List, length, ap, subst, sym}
 use Rattle.std.specs.Prelude.{◌==◌, slice_range}
 use Rattle.sudoers_text.specs.Unit.{LineUnit, text_of}
-use Rattle.sudoers_text.specs.Left.{Knows, unit_of}
+use Rattle.sudoers_text.specs.internal.Left.{Knows, unit_of}
 use Rattle.sudoers_text.specs.Token.{passed}
 use Rattle.sudoers_text.proofs.Passed.{Stands, PlainStep, plain_step, passes_all, stands_passed, run_fits}
 use Rattle.sudoers_text.proofs.unit.Left.past.Goals as goal

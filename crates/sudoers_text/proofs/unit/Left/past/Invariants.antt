@@ -1,7 +1,7 @@
 use Rattle.std.proofs.Common.{◌-◌, ◌≤◌, List}
 use Rattle.std.specs.Prelude.{slice_range}
 use Rattle.sudoers_text.specs.Unit.{LineUnit}
-use Rattle.sudoers_text.specs.Left.{Knows}
+use Rattle.sudoers_text.specs.internal.Left.{Knows}
 use Rattle.sudoers_text.specs.Token.{passed}
 use Rattle.sudoers_text.proofs.Passed.{Stands}
 use Rattle.sudoers_text.proofs.unit.Left.past.Given as goal

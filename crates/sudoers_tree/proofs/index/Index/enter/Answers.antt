@@ -1,8 +1,6 @@
 use Rattle.std.proofs.Common.{List, ◌∙◌, sym, ap, subst, refl}
-use Rattle.sudoers_line.specs.declared.node.Def.{Def}
-use Rattle.sudoers_line.specs.declared.node.Node.{Node}
-use Rattle.sudoers_rows.specs.View.{defs_shown, node_shown}
-use Rattle.sudoers_line.specs.declared.node.Node.TheVariants.{Alias}
+use Rattle.sudoers_line.specs.Node.{Def, Node, Alias}
+use Rattle.sudoers_line_rows.specs.View.{defs_shown, node_shown}
 use Rattle.sudoers_line.specs.declared.node.Kind.TheVariants.{User, Runas, Host, Cmnd}
 use Rattle.sudoers_tree.specs.Definition.{definitions_in}
 use Rattle.sudoers_tree.specs.Index.{entries, entered, Comes, Enters}

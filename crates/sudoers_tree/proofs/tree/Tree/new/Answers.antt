@@ -1,7 +1,7 @@
 use Rattle.std.proofs.Common.{◌∙◌}
 use Rattle.std.proofs.lemmas.List.Elements.{All-nil, All-same}
-use Rattle.sudoers_rows.specs.declared.rows.Tables.{Tables}
-use Rattle.sudoers_tree.specs.Tree.{Stands}
+use Rattle.sudoers_line_rows.specs.declared.rows.Tables.{Tables}
+use Rattle.sudoers_tree.specs.internal.Tree.{Stands}
 use Rattle.sudoers_tree.proofs.TreeLines.{all_on}
 use Rattle.sudoers_tree.proofs.tree.Tree.new.Goals as goal
 

@@ -1,11 +1,11 @@
 use Rattle.std.proofs.Common.{◌≡◌, ◌++◌, ◌∷◌, [], ◌∙◌, List, map, sym, ap}
 use Rattle.std.proofs.lemmas.List.Elements.{All-push, All-same}
-use Rattle.sudoers_line.specs.declared.node.Node.{Node}
-use Rattle.sudoers_rows.specs.declared.rows.Tables.{Tables}
-use Rattle.sudoers_reader.specs.Outcome.{outcome_of}
-use Rattle.sudoers_rows.specs.Tables.{node_in}
+use Rattle.sudoers_line.specs.Node.{Node}
+use Rattle.sudoers_line_rows.specs.declared.rows.Tables.{Tables}
+use Rattle.sudoers_line_reader.specs.Outcome.{outcome_of}
+use Rattle.sudoers_line_rows.specs.Tables.{node_in}
 use Rattle.sudoers_tree.specs.Line.{Line, line_in}
-use Rattle.sudoers_tree.specs.Tree.{Stands}
+use Rattle.sudoers_tree.specs.internal.Tree.{Stands}
 use Rattle.sudoers_tree.proofs.TreeLines.{all_on, same_lines, one_more}
 use Rattle.sudoers_tree.proofs.tree.Tree.read.Goals as goal
 

@@ -1,0 +1,7 @@
+use Rattle.laws_program.proofs.ReadLines.{rules_read}
+use Rattle.laws_program.proofs.printing.printed_rules_are_read.Goals as goal
+
+pub returns : goal.returns
+returns c =
+    rules_read c.printed_line_is_read.ensures c.printed_line_is_line.ensures.alone c.printed_lines_are_cut.ensures c.read_is.ensures
+    c.one_outcome.ensures c.rules_can_be_written.ensures

@@ -1,0 +1,4 @@
+pub mod ReadAs
+pub mod Expanded
+pub mod Converted
+pub mod WayBack

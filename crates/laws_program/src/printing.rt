@@ -1,0 +1,46 @@
+//! Laws of printed rules. Each is the contract of a function that does nothing.
+
+ghost use Rattle.std.specs.Prelude.{◌≡◌, true, List, Ok};
+ghost use Rattle.std.specs.List.{AllByRecursion};
+ghost use Rattle.sudoers_tree.specs.Line.{Line as LineOf};
+ghost use Rattle.sudoers_tree.specs.Policy.{IsPolicy};
+ghost use Rattle.sudoers_tree.specs.Reading.{read_of};
+ghost use Rattle.laws_print.specs.Writable.{IsWritable};
+ghost use Rattle.sudoers_cvt.specs.Rules.{rules_of, lines_of, printed, fits};
+ghost use Rattle.laws_program.specs.ReadAs.{IsReadAs};
+
+use laws_print::{
+    printed_line_is_line, printed_line_is_read, printed_lines_are_cut, read_can_be_written,
+};
+use sudoers_tree::laws::{one_outcome, read_is};
+
+/// Each line of the rules of a policy can be written.
+pub fn rules_can_be_written()
+    ensures { (lines : List LineOf) → IsPolicy lines → AllByRecursion IsWritable (lines_of (rules_of lines)) }
+{
+    read_can_be_written();
+}
+
+/// The text that is printed of the rules of a policy, if it is within the limits, is a policy. Its lines say the same as those of the
+/// rules, one by one.
+pub fn printed_rules_are_read()
+    ensures { (lines : List LineOf) → IsPolicy lines → fits (rules_of lines) ≡ true
+        → IsReadAs (printed (rules_of lines)) (lines_of (rules_of lines)) }
+{
+    rules_can_be_written();
+    printed_line_is_read();
+    printed_line_is_line();
+    printed_lines_are_cut();
+    read_is();
+    one_outcome();
+}
+
+/// What is read of the printed rules of a policy gives rules that are printed as the same text, which is within the limits again.
+pub fn second_printing_is_same()
+    ensures text { (lines read : List LineOf) → IsPolicy lines → fits (rules_of lines) ≡ true
+        → read_of (printed (rules_of lines)) ≡ Ok read → printed (rules_of read) ≡ printed (rules_of lines) }
+    ensures size { (lines read : List LineOf) → IsPolicy lines → fits (rules_of lines) ≡ true
+        → read_of (printed (rules_of lines)) ≡ Ok read → fits (rules_of read) ≡ true }
+{
+    printed_rules_are_read();
+}

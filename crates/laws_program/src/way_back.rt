@@ -1,0 +1,23 @@
+//! A law of `edit`: what it wrote leads back.
+ghost use Rattle.std.specs.Prelude.{◌≡◌, ◌≤◌, ℕ, List, Ok, length};
+ghost use Rattle.sudoers_run.specs.Program.{input_limit, output_of};
+ghost use Rattle.laws_program.specs.WayBack.{LeadsBack};
+
+use sudoers_edit::laws::{inverse_leads_back, named_are_written};
+use sudoers_edit_script::laws::{
+    physical_lines_join, read_is_spelling, spelling_is_read, spelling_is_whole_lines,
+};
+use sudoers_tree::laws::read_is;
+
+/// What `edit` wrote, given to it again, leads back to the policy that was read, byte for byte, if it is not too large an input.
+pub fn edit_leads_back()
+    ensures { (input out : List ℕ) → output_of input ≡ Ok out → length out ≤ input_limit → LeadsBack input out }
+{
+    read_is();
+    read_is_spelling();
+    spelling_is_read();
+    spelling_is_whole_lines();
+    physical_lines_join();
+    named_are_written();
+    inverse_leads_back();
+}

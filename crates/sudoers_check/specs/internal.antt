@@ -1,0 +1,6 @@
+-- Devices of the proofs. No contract of an exported function cites them.
+pub mod Found
+pub mod Graph
+pub mod Noting
+pub mod Search
+pub mod Seen

@@ -1,0 +1,30 @@
+//! The rules of a policy as JSON.
+
+ghost use Rattle.std.specs.Prelude.{◌≡◌, ◌⊎◌, false, true, IfOk, OnOk, IfErr};
+ghost use Rattle.sudoers_cvt.specs.declared.fault.CvtFault.TheVariants.{NotUtf8, NoMemory};
+ghost use Rattle.sudoers_cvt_json.specs.Value.{rules_value, json_text};
+ghost use Rattle.sudoers_cvt_json.specs.Unicode.{is_unicode};
+
+use crate::entries::append_rules;
+use std::alloc::Global;
+use sudoers_cvt::{CvtFault, Rules};
+
+/// Returns `rules` as JSON, in one line with its line end.
+///
+/// # Errors
+///
+/// `NotUtf8`: one of the texts is no UTF-8. `NoMemory`: memory ran out.
+pub fn json(alloc: Global, rules: &Rules<'_>) -> Result<Vec<u8>, CvtFault>
+    ensures text { IfOk result (λ text. text.items ≡ json_text rules.now) }
+    ensures unicode { OnOk result (is_unicode (rules_value rules.now) ≡ true) }
+    ensures fault { IfErr result (λ fault. (fault ≡ NoMemory) ⊎ ((fault ≡ NotUtf8) × (is_unicode (rules_value rules.now) ≡ false))) }
+{
+    let mut text = Vec::from_slice(alloc, b"{\"aliases\":[")?;
+    append_rules(alloc, &mut text, rules.defs())?;
+    text.extend_from_slice(b",\"defaults\":[")?;
+    append_rules(alloc, &mut text, rules.defaults())?;
+    text.extend_from_slice(b",\"specs\":[")?;
+    append_rules(alloc, &mut text, rules.specs())?;
+    text.extend_from_slice(b"}\n")?;
+    Ok(text)
+}

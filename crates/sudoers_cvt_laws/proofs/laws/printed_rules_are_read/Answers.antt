@@ -1,7 +1,0 @@
-use Rattle.sudoers_cvt_laws.proofs.ReadLines.{rules_read}
-use Rattle.sudoers_cvt_laws.proofs.laws.printed_rules_are_read.Goals as goal
-
-pub returns : goal.returns
-returns c =
-    rules_read c.printed_line_is_read.ensures c.printed_line_is_line.ensures.alone c.printed_lines_are_cut.ensures c.read_is.ensures
-    c.one_outcome.ensures c.rules_can_be_written.ensures

@@ -1,0 +1,5 @@
+-- Devices of the proofs. No contract of an exported function cites them.
+pub mod LastLine
+pub mod Leading
+pub mod PruneOrder
+pub mod Reread

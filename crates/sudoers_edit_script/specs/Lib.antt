@@ -1,0 +1,4 @@
+pub mod Physical
+pub mod Script
+pub mod ScriptReading
+pub mod internal

@@ -1,0 +1,228 @@
+-- How a script is read: what each physical line says, which lines may follow which, and the first fault.
+use Rattle.std.specs.Prelude.{◌≡◌, ℕ, ◌+◌, ◌-◌, ◌*◌, Bool, true, false, ◌||◌, ◌==◌, nat_lt, nat_le, if◌then◌else◌, List, [], ◌∷◌, ◌++◌, length, take, drop, codes, Option, Some, None, Result, Ok, Err, option_and_then}
+use Rattle.std.specs.Option.{ok_or}
+use Rattle.sudoers_text.specs.Ended.{ends_in_lf}
+use Rattle.sudoers_line.specs.declared.node.Kind.{Kind}
+use Rattle.sudoers_line.specs.declared.node.Kind.TheVariants as kind_of
+use Rattle.sudoers_line.specs.Piece.{looked_up}
+use Rattle.sudoers_edit_script.specs.Physical.{onto, physical_lines}
+use Rattle.sudoers_edit_script.specs.Script.{edit_limit, kind_word, is_word}
+use Rattle.sudoers_edit_script.specs.declared.draft.Draft.{Draft}
+use Rattle.sudoers_edit_script.specs.declared.draft.Draft.TheVariants as draft
+use Rattle.sudoers_edit_script.specs.declared.edit.Edit.{Edit}
+use Rattle.sudoers_edit_script.specs.declared.edit.Edit.TheVariants.{Insert, Delete, Move, AddMember, DropMember, AddDef, DropDef, Rename, EndLine, OpenEnd, Prune}
+use Rattle.sudoers_edit_script.specs.declared.script_line.Command.{Command}
+use Rattle.sudoers_edit_script.specs.declared.script_line.Command.TheVariants as by
+use Rattle.sudoers_edit_script.specs.declared.script_line.Flaw.{Flaw}
+use Rattle.sudoers_edit_script.specs.declared.script_line.Flaw.TheVariants as flaw
+use Rattle.sudoers_edit_script.specs.declared.script_line.Said.{Said}
+use Rattle.sudoers_edit_script.specs.declared.script_line.Said.TheVariants as says
+use Rattle.sudoers_edit_script.specs.declared.script.ScriptFault.{ScriptFault}
+use Rattle.sudoers_edit_script.specs.declared.script.ScriptFault.TheVariants as faults
+
+-- NUMBERS
+
+-- the number that further digits make of it, from 1 to 2 ^ 32
+abbrev pub value_from : ℕ → List ℕ → Option ℕ
+value_from so_far [] = Some so_far
+value_from so_far (b ∷ bytes) =
+    if nat_lt b 48 || nat_lt 57 b then None
+    else (if (so_far * 10 + (b - 48) == 0) || nat_lt 4294967296 (so_far * 10 + (b - 48)) then None
+    else value_from (so_far * 10 + (b - 48)) bytes)
+
+-- a place is one below its number
+abbrev pub below : ℕ → Option ℕ
+below value = if value == 0 then None else Some (value - 1)
+
+-- the place that a word stands for: decimal, from 1 to 2 ^ 32, without leading zeros
+abbrev pub place_of_word : List ℕ → Option ℕ
+place_of_word word = option_and_then below (value_from 0 word)
+
+-- LINES
+
+-- the pieces between single spaces
+abbrev pub words : List ℕ → List (List ℕ)
+words [] = [] ∷ []
+words (b ∷ bytes) = if b == 32 then [] ∷ words bytes else onto b (words bytes)
+
+-- the words for the kinds
+abbrev pub kinds : List (List ℕ × Kind)
+kinds =
+    (kind_word kind_of.User, kind_of.User) ∷ (kind_word kind_of.Runas, kind_of.Runas) ∷ (kind_word kind_of.Host, kind_of.Host)
+    ∷ (kind_word kind_of.Cmnd, kind_of.Cmnd) ∷ []
+
+-- the words for the commands
+abbrev pub commands : List (List ℕ × Command)
+commands =
+    (codes "insert", by.Insert) ∷ (codes "delete", by.Delete) ∷ (codes "move", by.Move) ∷ (codes "add", by.AddMember)
+    ∷ (codes "drop", by.DropMember) ∷ (codes "adddef", by.AddDef) ∷ (codes "dropdef", by.DropDef) ∷ (codes "rename", by.Rename)
+    ∷ (codes "endline", by.EndLine) ∷ (codes "openend", by.OpenEnd) ∷ (codes "prune", by.Prune) ∷ []
+
+-- the words behind the first word of a command are one place
+abbrev pub one_place : List (List ℕ) → Result ℕ Flaw
+one_place (word ∷ []) = ok_or (place_of_word word) flaw.Number
+one_place _ = Err flaw.Word
+
+abbrev pub both_places : Option ℕ → Option ℕ → Result (ℕ × ℕ) Flaw
+both_places (Some first) (Some second) = Ok (first, second)
+both_places _ _ = Err flaw.Number
+
+-- they are two places
+abbrev pub two_places : List (List ℕ) → Result (ℕ × ℕ) Flaw
+two_places (word ∷ next ∷ []) = both_places (place_of_word word) (place_of_word next)
+two_places _ = Err flaw.Word
+
+abbrev pub of_kind : List ℕ → List ℕ → Option Kind → Result (Kind × List ℕ × List ℕ) Flaw
+of_kind name more (Some kind) = if is_word name then Ok (kind, name, more) else Err flaw.Word
+of_kind name more None = Err flaw.Word
+
+-- they are the kind and the name of an alias, and one word more
+abbrev pub alias_and_word : List (List ℕ) → Result (Kind × List ℕ × List ℕ) Flaw
+alias_and_word (word ∷ name ∷ more ∷ []) = of_kind name more (looked_up kinds word)
+alias_and_word _ = Err flaw.Word
+
+-- what they make a command say, or their flaw
+abbrev pub said_or : {A : Type 0} → (A → Said) → Result A Flaw → Said
+said_or say (Ok x) = say x
+said_or say (Err f) = says.Flawed f
+
+-- a command of one word
+abbrev pub alone : Edit → List (List ℕ) → Said
+alone edit [] = says.Whole edit
+alone edit (word ∷ more) = says.Flawed flaw.Word
+
+-- what a command of an ended line says, by the words behind its first
+abbrev pub said_by : Command → List (List ℕ) → Said
+said_by by.Insert more = said_or (λ at. says.Begin (draft.Insert at)) (one_place more)
+said_by by.Delete more = said_or (λ at. says.Whole (Delete at)) (one_place more)
+said_by by.Move more = said_or (λ places. says.Whole (Move places.0 places.1)) (two_places more)
+said_by by.AddMember more =
+    said_or (λ alias. said_or (λ at. says.Begin (draft.AddMember alias.0 alias.1 at)) (ok_or (place_of_word alias.2) flaw.Number)) (alias_and_word more)
+said_by by.DropMember more =
+    said_or (λ alias. said_or (λ at. says.Whole (DropMember alias.0 alias.1 at)) (ok_or (place_of_word alias.2) flaw.Number)) (alias_and_word more)
+said_by by.AddDef more = said_or (λ places. says.Begin (draft.AddDef places.0 places.1)) (two_places more)
+said_by by.DropDef more = said_or (λ places. says.Whole (DropDef places.0 places.1)) (two_places more)
+said_by by.Rename more =
+    said_or (λ alias. if is_word alias.2 then says.Whole (Rename alias.0 alias.1 alias.2) else says.Flawed flaw.Word) (alias_and_word more)
+said_by by.EndLine more = alone EndLine more
+said_by by.OpenEnd more = alone OpenEnd more
+said_by by.Prune more = alone Prune more
+
+-- the same, if the line ends in LF and begins with the word of a command
+abbrev pub said_if : Bool → List (List ℕ) → Option Command → Said
+said_if ended more None = says.Other
+said_if true more (Some command) = said_by command more
+said_if false more (Some command) = says.Flawed flaw.Word
+
+abbrev pub said_by_words : Bool → List (List ℕ) → Said
+said_by_words ended [] = says.Other
+said_by_words ended (word ∷ more) = said_if ended more (looked_up commands word)
+
+-- the line without the LF that it ends in
+abbrev pub without_end : List ℕ → List ℕ
+without_end line = if ends_in_lf line then take (length line - 1) line else line
+
+-- what a line says, by its first byte or by its words
+abbrev pub sense : List ℕ → Said
+sense [] = says.Other
+sense (b ∷ bytes) =
+    if b == 124 then (if ends_in_lf (b ∷ bytes) then says.More else says.Unended)
+    else (if b == 62 then (if ends_in_lf (b ∷ bytes) then says.Last else says.Unended)
+    else said_by_words (ends_in_lf (b ∷ bytes)) (words (without_end (b ∷ bytes))))
+
+-- the text that a payload line stands for: with its LF behind `|`, without behind `>`
+abbrev pub text_in : Said → List ℕ → List ℕ
+text_in says.More line = drop 1 line
+text_in says.Last line = drop 1 (without_end line)
+text_in _ line = []
+
+-- SCRIPTS
+
+-- the edit that a command begins, with its text
+abbrev pub with_text : Draft → List ℕ → Edit
+with_text (draft.Insert at) text = Insert at text
+with_text (draft.AddMember kind name at) text = AddMember kind name at text
+with_text (draft.AddDef line at) text = AddDef line at text
+
+-- Between two lines of a script a command has to come; or the first line of the text that a command wants, which
+-- stands on this line; or more of its text may come, of which there is this so far.
+pub data Standing : Type 0 where
+  Between : Standing
+  Begun : Draft → ℕ → Standing
+  Going : Draft → List ℕ → Standing
+
+-- what the lines behind give, by where they stand and how many commands stand before them
+abbrev pub Rest : Type 0
+Rest = Standing → ℕ → Result (List Edit) ScriptFault
+
+-- an edit before those that the lines behind give
+abbrev pub before : Edit → Result (List Edit) ScriptFault → Result (List Edit) ScriptFault
+before edit (Ok edits) = Ok (edit ∷ edits)
+before edit (Err fault) = Err fault
+
+-- one command more, if there is room
+abbrev pub with_room : ℕ → Result (List Edit) ScriptFault → Result (List Edit) ScriptFault
+with_room count result = if nat_le edit_limit count then Err faults.TooMany else result
+
+-- the fault of a line with a flaw
+abbrev pub fault_of : Flaw → ℕ → ScriptFault
+fault_of flaw.Word line = faults.BadWord line
+fault_of flaw.Number line = faults.BadNumber line
+
+-- where a command has to come, behind so many commands, this line stands
+abbrev pub command_line : Rest → ℕ → ℕ → Said → Result (List Edit) ScriptFault
+command_line rest line count (says.Begin begun) = with_room count (rest (Begun begun line) (count + 1))
+command_line rest line count (says.Whole edit) = with_room count (before edit (rest Between (count + 1)))
+command_line rest line count (says.Flawed f) = with_room count (Err (fault_of f line))
+command_line rest line count _ = Err (faults.BadWord line)
+
+-- Right behind a command that wants a text, and that stands on the line `at`, this line stands, with this text.
+abbrev pub first_line : Rest → ℕ → ℕ → Draft → ℕ → List ℕ → Said → Result (List Edit) ScriptFault
+first_line rest line count begun at text says.More = rest (Going begun text) count
+first_line rest line count begun at text says.Last = before (with_text begun text) (rest Between count)
+first_line rest line count begun at text says.Unended = Err (faults.BadWord line)
+first_line rest line count begun at text _ = Err (faults.NoPayload at)
+
+-- Behind the first part of a text this line stands: more of the text, its end, or the next command.
+abbrev pub later_line : Rest → ℕ → ℕ → Draft → List ℕ → List ℕ → Said → Result (List Edit) ScriptFault
+later_line rest line count begun so_far text says.More = rest (Going begun (so_far ++ text)) count
+later_line rest line count begun so_far [] says.Last = Err (faults.BadWord line)
+later_line rest line count begun so_far (b ∷ text) says.Last = before (with_text begun (so_far ++ b ∷ text)) (rest Between count)
+later_line rest line count begun so_far text says.Unended = Err (faults.BadWord line)
+later_line rest line count begun so_far text said = before (with_text begun so_far) (command_line rest line count said)
+
+-- the edits of the lines from a place in a script on, whose first has this number, or the first fault
+abbrev pub edits_from : List (List ℕ) → ℕ → Standing → ℕ → Result (List Edit) ScriptFault
+edits_from [] line Between count = Ok []
+edits_from [] line (Begun begun at) count = Err (faults.NoPayload at)
+edits_from [] line (Going begun so_far) count = Ok (with_text begun so_far ∷ [])
+edits_from (text ∷ lines) line Between count = command_line (edits_from lines (line + 1)) line count (sense text)
+edits_from (text ∷ lines) line (Begun begun at) count =
+    first_line (edits_from lines (line + 1)) line count begun at (text_in (sense text) text) (sense text)
+edits_from (text ∷ lines) line (Going begun so_far) count =
+    later_line (edits_from lines (line + 1)) line count begun so_far (text_in (sense text) text) (sense text)
+
+-- the edits that a text spells, or its first fault
+abbrev pub reading : List ℕ → Result (List Edit) ScriptFault
+reading text = edits_from (physical_lines text) 1 Between 0
+
+-- a fault that is told: the stated one, or want of memory
+abbrev pub Tells : {A : Type 0} → ScriptFault → Result A ScriptFault → Type 0
+Tells faults.NoMemory wanted = Unit {0}
+Tells (faults.BadWord line) wanted = wanted ≡ Err (faults.BadWord line)
+Tells (faults.BadNumber line) wanted = wanted ≡ Err (faults.BadNumber line)
+Tells (faults.NoPayload line) wanted = wanted ≡ Err (faults.NoPayload line)
+Tells faults.TooMany wanted = wanted ≡ Err faults.TooMany
+
+abbrev pub Reads : Result (List Edit) ScriptFault → Result (List Edit) ScriptFault → Type 0
+Reads (Ok edits) wanted = wanted ≡ Ok edits
+Reads (Err fault) wanted = Tells fault wanted
+
+-- A fault that is told when this line is read.
+abbrev pub IsToldAt : ℕ → Result (List Edit) ScriptFault → Type 0
+IsToldAt line (Ok edits) = ⊥
+IsToldAt line (Err (faults.BadWord at)) = at ≡ line
+IsToldAt line (Err (faults.BadNumber at)) = at ≡ line
+IsToldAt line (Err (faults.NoPayload at)) = at + 1 ≡ line
+IsToldAt line (Err faults.TooMany) = Unit {0}
+IsToldAt line (Err faults.NoMemory) = ⊥

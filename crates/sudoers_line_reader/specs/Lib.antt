@@ -1,0 +1,4 @@
+pub mod Reader
+pub mod Descent
+pub mod Outcome
+pub mod internal

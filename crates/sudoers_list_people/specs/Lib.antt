@@ -1,0 +1,5 @@
+pub mod Rows
+pub mod People
+pub mod Person
+pub mod Asked
+pub mod internal

@@ -1,0 +1,5 @@
+use Rattle.sudoers_match.proofs.OneAnswer.{one}
+use Rattle.sudoers_match.proofs.laws.one_answer.Goals as goal
+
+pub returns : goal.returns
+returns c = one c.one_flat.ensures

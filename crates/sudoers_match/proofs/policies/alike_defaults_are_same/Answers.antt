@@ -1,5 +1,0 @@
-use Rattle.sudoers_match.proofs.Alike.{same_default}
-use Rattle.sudoers_match.proofs.policies.alike_defaults_are_same.Goals as goal
-
-pub returns : goal.returns
-returns c = same_default c.alike_lists_say_same.ensures

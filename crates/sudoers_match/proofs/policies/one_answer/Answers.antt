@@ -1,5 +1,0 @@
-use Rattle.sudoers_match.proofs.OneAnswer.{one}
-use Rattle.sudoers_match.proofs.policies.one_answer.Goals as goal
-
-pub returns : goal.returns
-returns c = one c.one_flat.ensures

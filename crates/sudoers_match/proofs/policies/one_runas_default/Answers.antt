@@ -1,5 +1,0 @@
-use Rattle.sudoers_match.proofs.OneListing.{default_one}
-use Rattle.sudoers_match.proofs.policies.one_runas_default.Goals as goal
-
-pub returns : goal.returns
-returns c = default_one

@@ -1,0 +1,4 @@
+-- Devices of the proofs. No contract of an exported function cites them.
+pub mod Asked
+pub mod Question
+pub mod Straight

@@ -1,0 +1,84 @@
+//! Laws of rows, answers, defaults and listings. Each is the contract of a function that does nothing.
+
+ghost use Rattle.std.specs.Prelude.{◌≡◌, ◌↔◌, ℕ, List, Option};
+ghost use Rattle.sudoers_line.specs.declared.node.Atom.{Atom as AtomOf};
+ghost use Rattle.sudoers_tree.specs.Line.{Line as LineOf};
+ghost use Rattle.sudoers_match_member.specs.declared.asked.Who.{Who as WhoOf};
+ghost use Rattle.sudoers_match_list.specs.Alike.{AllAlike};
+ghost use Rattle.sudoers_match_member.specs.declared.request.Request.{Request as RequestOf};
+ghost use Rattle.sudoers_match.specs.Alike.{AreDefaultsAlike, AreRowsAlike, AreRowsEqual, AreSpecsAlike, MatchesSame, SaysSame};
+ghost use Rattle.sudoers_match.specs.Answer.{Answer as AnswerOf, Answers, Fits, IsAnswer};
+ghost use Rattle.sudoers_match.specs.Default.{IsRunasDefault};
+ghost use Rattle.sudoers_match.specs.Groups.{AreHostGroups};
+ghost use Rattle.sudoers_match.specs.Heads.{Head as HeadOf};
+ghost use Rattle.sudoers_match.specs.IsHead.{AreHeadsSame, IsHead};
+ghost use Rattle.sudoers_match.specs.Rows.{Row};
+ghost use Rattle.sudoers_match.specs.Specs.{specs_of};
+ghost use Rattle.sudoers_match.specs.declared.head.Head.{Head as HeadHeld};
+ghost use Rattle.sudoers_match.specs.declared.groups.GroupPlace.{GroupPlace as GroupPlaceOf};
+
+use sudoers_match_list::laws::{alike_lists_say_same, one_flat};
+
+/// A request has one answer.
+pub fn one_answer()
+    ensures { (lines : List LineOf) (request : RequestOf) (answer other : Option AnswerOf) → IsAnswer lines request answer
+        → IsAnswer lines request other → answer ≡ other }
+{
+    one_flat();
+}
+
+/// The places of the host groups for a user on a host are one list.
+pub fn one_list_of_host_groups()
+    ensures { (lines : List LineOf) (who : WhoOf) (places others : List GroupPlaceOf) → AreHostGroups lines who places
+        → AreHostGroups lines who others → places ≡ others }
+{}
+
+/// A user on a host has one runas_default.
+pub fn one_runas_default()
+    ensures { (lines : List LineOf) (who : WhoOf) (name other : List ℕ) → IsRunasDefault lines who name
+        → IsRunasDefault lines who other → name ≡ other }
+{}
+
+/// What is held of a command is a head. Heads of which the same is held say the same.
+pub fn one_head()
+    ensures some { (held : HeadHeld) → (head : HeadOf) × IsHead held head }
+    ensures same { (held : HeadHeld) (head other : HeadOf) → IsHead held head → IsHead held other → AreHeadsSame head other }
+{}
+
+/// Two policies with the same settings have the same runas_default, whoever asks. The second policy may write an atom otherwise, if that
+/// matches the same.
+pub fn alike_defaults_are_same()
+    ensures { (write : AtomOf → AtomOf) (lines others : List LineOf) → MatchesSame write → AreDefaultsAlike write lines others
+        → (who : WhoOf) (name : List ℕ) → IsRunasDefault lines who name ↔ IsRunasDefault others who name }
+{
+    alike_lists_say_same();
+}
+
+/// Policies whose user specifications are for the same users and hosts give each user rules at the same places.
+pub fn alike_specs_have_same_groups()
+    ensures { (write : AtomOf → AtomOf) (lines others : List LineOf) → MatchesSame write
+        → AllAlike (AreSpecsAlike write lines others) (specs_of lines) (specs_of others) → (who : WhoOf) (places : List GroupPlaceOf)
+        → AreHostGroups lines who places ↔ AreHostGroups others who places }
+{
+    alike_lists_say_same();
+}
+
+/// Of two rows that say the same both match a request, or neither does.
+pub fn alike_rows_fit()
+    ensures { (write : AtomOf → AtomOf) (lines others : List LineOf) → MatchesSame write → AreDefaultsAlike write lines others
+        → (request : RequestOf) (row other : Row) → AreRowsAlike write lines others row other → Fits lines request row ↔ Fits others request other }
+{
+    alike_lists_say_same();
+}
+
+/// Policies whose rows say the same answer the same, numbers aside. Where the rows have the same numbers, so have the answers.
+pub fn alike_rows_answer()
+    ensures alike { (write : AtomOf → AtomOf) (lines others : List LineOf) → MatchesSame write → AreDefaultsAlike write lines others
+        → (request : RequestOf) (rows others_rows : List Row) (answer : Option AnswerOf) → AllAlike (AreRowsAlike write lines others) rows others_rows
+        → Answers lines request rows answer → (other : Option AnswerOf) × Answers others request others_rows other × SaysSame answer other }
+    ensures equal { (write : AtomOf → AtomOf) (lines others : List LineOf) → MatchesSame write → AreDefaultsAlike write lines others
+        → (request : RequestOf) (rows others_rows : List Row) (answer : Option AnswerOf) → AllAlike (AreRowsEqual write lines others) rows others_rows
+        → Answers lines request rows answer → Answers others request others_rows answer }
+{
+    alike_lists_say_same();
+}

@@ -1,0 +1,5 @@
+-- Devices of the proofs. No contract of an exported function cites them.
+pub mod Count
+pub mod Known
+pub mod Run
+pub mod Seen

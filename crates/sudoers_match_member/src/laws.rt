@@ -1,0 +1,29 @@
+//! Laws of patterns. Each is the contract of a function that does nothing.
+
+ghost use Rattle.std.specs.Prelude.{◌≡◌, ◌==◌, ◌&&◌, ◌++◌, ◌∷◌, ◌↔◌, ℕ, List, [], false, true};
+ghost use Rattle.std.specs.List.{list_all};
+ghost use Rattle.sudoers_match_member.specs.declared.wildcards.GlobMode.{GlobMode as ModeOf};
+ghost use Rattle.sudoers_match_member.specs.Wildcard.{may_take, matches};
+ghost use Rattle.sudoers_line.specs.Pattern.{is_special};
+ghost use Rattle.sudoers_match_member.specs.declared.asked.Who.{Who as WhoOf};
+ghost use Rattle.sudoers_match_member.specs.Hits.{name_hits};
+
+/// A `*` matches a run of bytes that it may take, in paths none with a slash; the rest of the pattern matches what follows.
+pub fn star_is()
+    ensures { (mode : ModeOf) (pattern text : List ℕ) → matches mode (42 ∷ pattern) text ≡ true
+        ↔ ((run : List ℕ) × (rest : List ℕ) × (text ≡ run ++ rest) × (list_all (may_take mode) run ≡ true) × (matches mode pattern rest ≡ true)) }
+{}
+
+/// A byte with a backslash before it matches itself alone.
+pub fn escaped_is()
+    ensures byte { (mode : ModeOf) (c b : ℕ) (pattern text : List ℕ) → matches mode (92 ∷ c ∷ pattern) (b ∷ text) ≡ (b == c && matches mode pattern text) }
+    ensures end { (mode : ModeOf) (c : ℕ) (pattern : List ℕ) → matches mode (92 ∷ c ∷ pattern) [] ≡ false }
+{}
+
+/// A backslash before the first byte of a pattern changes nothing, unless that byte is a wildcard or a backslash.
+pub fn plain_first_is()
+    ensures pattern { (mode : ModeOf) (c : ℕ) (pattern text : List ℕ) → is_special c ≡ false
+        → matches mode (92 ∷ c ∷ pattern) text ≡ matches mode (c ∷ pattern) text }
+    ensures host { (who : WhoOf) (c : ℕ) (pattern : List ℕ) → is_special c ≡ false
+        → name_hits who (92 ∷ c ∷ pattern) ≡ name_hits who (c ∷ pattern) }
+{}

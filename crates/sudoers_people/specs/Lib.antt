@@ -1,5 +1,0 @@
-pub mod Slices
-pub mod Rows
-pub mod People
-pub mod Person
-pub mod Asked

@@ -1,5 +1,0 @@
-use Rattle.sudoers_print_laws.proofs.GivenNodes.{line_given}
-use Rattle.sudoers_print_laws.proofs.laws.read_can_be_written.Goals as goal
-
-pub returns : goal.returns
-returns c = line_given c.words_agree.ensures.includes

@@ -1,3 +1,0 @@
-mod EditLeadsBack
-mod ListOutcome
-mod MarkLemmas

@@ -1,5 +1,0 @@
-use Rattle.sudoers_run_laws.proofs.ListOutcome.{one_outcome}
-use Rattle.sudoers_run_laws.proofs.laws.one_list_outcome.Goals as goal
-
-pub returns : goal.returns
-returns c = one_outcome (record { listing = c.one_listing.ensures; reason = c.one_reason.ensures; answer = c.one_answer.ensures; default = c.one_runas_default.ensures })

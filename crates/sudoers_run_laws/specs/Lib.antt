@@ -1,2 +1,0 @@
-pub mod Converted
-pub mod WayBack

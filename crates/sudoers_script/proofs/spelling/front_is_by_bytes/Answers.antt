@@ -1,8 +1,0 @@
-use Rattle.sudoers_script.proofs.FrontLemmas.{front_bytes, front_lines}
-use Rattle.sudoers_script.proofs.spelling.front_is_by_bytes.Goals as goal
-
-pub returns-clause-bytes : goal.returns-clause-bytes
-returns-clause-bytes c = front_bytes
-
-pub returns-clause-lines : goal.returns-clause-lines
-returns-clause-lines c = front_lines

@@ -1,5 +1,0 @@
-use Rattle.sudoers_script.proofs.ScriptLemmas.{read_spelling}
-use Rattle.sudoers_script.proofs.spelling.read_is_spelling.Goals as goal
-
-pub returns : goal.returns
-returns c = read_spelling

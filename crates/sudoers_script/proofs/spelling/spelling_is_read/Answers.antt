@@ -1,5 +1,0 @@
-use Rattle.sudoers_script.proofs.SpellingLemmas.{spelling_read}
-use Rattle.sudoers_script.proofs.spelling.spelling_is_read.Goals as goal
-
-pub returns : goal.returns
-returns c = spelling_read

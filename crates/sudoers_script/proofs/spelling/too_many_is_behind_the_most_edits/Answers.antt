@@ -1,5 +1,0 @@
-use Rattle.sudoers_script.proofs.FrontLemmas.{too_many_full}
-use Rattle.sudoers_script.proofs.spelling.too_many_is_behind_the_most_edits.Goals as goal
-
-pub returns : goal.returns
-returns c = too_many_full

@@ -1,4 +1,0 @@
-pub mod Physical
-pub mod Script
-pub mod ScriptReading
-pub mod ScriptStanding

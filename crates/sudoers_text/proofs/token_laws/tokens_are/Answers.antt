@@ -1,5 +1,0 @@
-use Rattle.sudoers_text.proofs.TokenLists.{tokens_are}
-use Rattle.sudoers_text.proofs.token_laws.tokens_are.Goals as goal
-
-pub returns : goal.returns
-returns c = tokens_are

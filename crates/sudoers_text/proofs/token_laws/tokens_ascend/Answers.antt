@@ -1,5 +1,0 @@
-use Rattle.sudoers_text.proofs.Ascending.{tokens_ascend}
-use Rattle.sudoers_text.proofs.token_laws.tokens_ascend.Goals as goal
-
-pub returns : goal.returns
-returns c = tokens_ascend

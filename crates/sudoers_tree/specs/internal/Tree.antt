@@ -1,0 +1,24 @@
+-- A device of the proof, which no public contract cites: lines that are read into tables.
+use Rattle.std.specs.Prelude.{◌≡◌, List, ℕ, ◌∷◌, [], ◌++◌, Result, Ok, Err}
+use Rattle.sudoers_line.specs.declared.fault.LineFault.{LineFault}
+use Rattle.sudoers_line.specs.Node.{Node}
+use Rattle.sudoers_line_rows.specs.declared.rows.Tables.{Tables}
+use Rattle.sudoers_line_reader.specs.Outcome.{LineGives, outcome_of}
+use Rattle.sudoers_line_rows.specs.Tables.{Lasts, node_in, text_in}
+use Rattle.sudoers_tree.specs.declared.line.LineRow.{LineRow}
+use Rattle.sudoers_tree.specs.Line.{Line, line_in}
+
+-- The row goes on holding its line, however the tables grow, and it holds what the line says.
+pub record Stands (t : Tables) (row : LineRow) : Type 0 where
+  pub lasts : Lasts line_in t row
+  pub says : outcome_of (text_in t row.text) ≡ Ok (node_in t row.node)
+
+-- The row holds the line of this text, or the text has this fault.
+abbrev pub GivesLine : Tables → Result LineRow LineFault → List ℕ → Type 0
+GivesLine t (Ok row) text = Stands t row × (text_in t row.text ≡ text)
+GivesLine t (Err fault) text = LineGives (Err fault) (outcome_of text)
+
+-- The line says something and stands behind the others, or has this fault.
+abbrev pub ReadsOne : Result (Unit {0}) LineFault → List Line → List Line → List ℕ → Result Node LineFault → Type 0
+ReadsOne (Ok u) old new text outcome = (n : Node) × (outcome ≡ Ok n) × (new ≡ old ++ record { text = text; node = n } ∷ [])
+ReadsOne (Err fault) old new text outcome = LineGives (Err fault) outcome

@@ -1,0 +1,90 @@
+//! Where include lines lead.
+
+ghost use Rattle.std.specs.Prelude.{◌≡◌, IfOk};
+ghost use Rattle.sudoers_line_rows.specs.View.{node_shown};
+ghost use Rattle.sudoers_tree.specs.Lead.{folder_of, lead_of, leads, resolved, without_slashes};
+
+use crate::single::read_line;
+use memchr::memrchr;
+use std::alloc::{AllocError, Global};
+use sudoers_line::Items;
+use sudoers_line_rows::Node;
+
+/// Where an include line leads: to a file or to the files of a folder, by its name (sudoers(5), Including other files from within
+/// sudoers).
+#[derive(Debug, Drop)]
+pub enum Lead {
+    /// The file of this name.
+    File(Items<u8>),
+    /// The files of the folder of this name, which does not end in `/`.
+    Dir(Items<u8>),
+}
+
+/// Returns `name` up to its last `/`, which it holds; nothing if there is none.
+fn folder_of(name: &[u8]) -> &[u8]
+    ensures { result.now ≡ folder_of name.now }
+{
+    match memrchr(b'/', name) {
+        Some(at) => &name[..at + 1],
+        None => &[],
+    }
+}
+
+/// Returns `name` without the `/` at its end, however many.
+fn without_slashes(name: &[u8]) -> &[u8]
+    ensures { result.now ≡ without_slashes name.now }
+{
+    let mut front = name;
+    while let Some((last, rest)) = front.split_last() {
+        if *last != b'/' {
+            break;
+        }
+        front = rest;
+    }
+    front
+}
+
+/// Returns what `path` means in the file `name`.
+fn resolve(alloc: Global, name: &[u8], path: &[u8]) -> Result<Vec<u8>, AllocError>
+    ensures { IfOk result (λ whole. whole.items ≡ resolved name.now path.now) }
+{
+    if path.first() == Some(&b'/') {
+        return Vec::from_slice(alloc, path);
+    }
+    let mut whole = Vec::from_slice(alloc, folder_of(name))?;
+    whole.extend_from_slice(path)?;
+    Ok(whole)
+}
+
+/// Returns where a line of the file `name` leads that says `node`.
+///
+/// # Errors
+///
+/// Memory ran out.
+pub fn lead_of(alloc: Global, name: &[u8], node: &Node<'_>) -> Result<Option<Lead>, AllocError>
+    ensures { IfOk result (λ lead. lead ≡ lead_of name.now (node_shown node.now)) }
+{
+    let Node::Include { dir, path } = *node else {
+        return Ok(None);
+    };
+    let whole = resolve(alloc, name, path)?;
+    if dir {
+        let folder = Items::from_slice(alloc, without_slashes(whole.as_slice()))?;
+        return Ok(Some(Lead::Dir(folder)));
+    }
+    Ok(Some(Lead::File(Items::from_vec(whole))))
+}
+
+/// Returns where the line `line` of the file `name` leads. Bytes that are no line that says something lead nowhere.
+///
+/// # Errors
+///
+/// Memory ran out.
+pub fn leads(alloc: Global, name: &[u8], line: &[u8]) -> Result<Option<Lead>, AllocError>
+    ensures { IfOk result (λ lead. lead ≡ leads name.now line.now) }
+{
+    match read_line(alloc, line)? {
+        Some(reading) => lead_of(alloc, name, &reading.node()),
+        None => Ok(None),
+    }
+}

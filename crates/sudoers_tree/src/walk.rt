@@ -1,0 +1,123 @@
+//! The lines of a policy in file order, with the names that they define.
+
+ghost use Rattle.std.specs.Prelude.{◌≡◌, ◌≤◌, length, slice_get};
+ghost use Rattle.std.specs.Option.{option_map};
+ghost use Rattle.sudoers_text.specs.Line.{join};
+ghost use Rattle.sudoers_text.specs.Fault.{text_limit};
+ghost use Rattle.sudoers_line.specs.Node.{Def as DefOf};
+ghost use Rattle.sudoers_line_rows.specs.View.{defs_shown, members_shown, node_shown};
+ghost use Rattle.sudoers_tree.specs.Line.{Line as LineOf, lines_shown};
+ghost use Rattle.sudoers_tree.specs.Definition.{definitions, place_of, members_of};
+ghost use Rattle.sudoers_tree.specs.Index.{Indexes};
+ghost use Rattle.sudoers_tree.specs.Policy.{IsWalk, texts};
+
+use crate::index::Index;
+use crate::line::LineRow;
+use crate::place::Place;
+use crate::reading::Reading;
+use crate::tree::Tree;
+use std::marker::Model;
+use sudoers_line::Kind;
+use sudoers_line_rows::{DefRow, MemberRow, Node, Rows};
+
+/// Lines in file order with what they say, and the names that they define. Contracts see the list of the lines.
+#[derive(Drop)]
+pub struct Walk {
+    tree: Tree,
+    index: Index,
+}
+
+impl Model for Walk {
+    ghost use Rattle.std.specs.Prelude.{List, length, ◌≤◌};
+    ghost use Rattle.sudoers_text.specs.Line.{join};
+    ghost use Rattle.sudoers_text.specs.Fault.{text_limit};
+    ghost use Rattle.sudoers_tree.specs.Line.{Line};
+    ghost use Rattle.sudoers_tree.specs.Definition.{definitions};
+    ghost use Rattle.sudoers_tree.specs.Policy.{IsWalk, texts};
+    ghost use Rattle.sudoers_tree.specs.Index.{Indexes};
+
+    ghost Value = { List Line };
+
+    ghost view = { λ walk. walk.tree };
+
+    ghost invariant = { λ walk. IsWalk walk.tree × Indexes walk.index (definitions walk.tree)
+        × (length (join (texts walk.tree)) ≤ text_limit) };
+}
+
+impl Walk {
+    /// Returns the walk over the lines of `reading`.
+    pub fn of(reading: Reading) -> Walk
+        requires walk { IsWalk reading.tree }
+        requires index { Indexes reading.index (definitions reading.tree) }
+        requires within { length (join (texts reading.tree)) ≤ text_limit }
+        ensures { result ≡ reading.tree }
+    {
+        Walk {
+            tree: reading.tree,
+            index: reading.index,
+        }
+    }
+
+    /// A law: the lines are a walk.
+    pub fn is_walk(&self)
+        ensures { IsWalk self.now }
+    {
+        let _ = &self.tree;
+    }
+
+    /// A law: the texts are within the limit.
+    pub fn is_within_limit(&self)
+        ensures { length (join (texts self.now)) ≤ text_limit }
+    {
+        let _ = &self.tree;
+    }
+
+    /// Returns the tables and rows of the lines.
+    pub(crate) fn tree(&self) -> &Tree
+        ensures { result.now ≡ self.now }
+    {
+        &self.tree
+    }
+
+    /// Returns the lines with what they say.
+    pub fn lines(&self) -> Rows<'_, LineRow>
+        ensures { lines_shown result ≡ self.now }
+    {
+        self.tree.lines()
+    }
+
+    /// Returns what the line with the number `i`, from 0, says.
+    pub(crate) fn node(&self, i: usize) -> Option<Node<'_>>
+        ensures { option_map node_shown result ≡ option_map (λ (line : LineOf). line.node) (slice_get self.now i) }
+    {
+        Some(self.tree.line(i)?.node)
+    }
+
+    /// Returns where the alias `name` of this kind is defined (sudoers(5), Aliases).
+    pub fn definition(&self, kind: Kind, name: &[u8]) -> Option<Place>
+        ensures { result ≡ place_of kind name.now self.now }
+    {
+        self.index.of(kind).get(name)
+    }
+
+    /// Returns the members of the alias `name` of this kind.
+    pub fn members(&self, kind: Kind, name: &[u8]) -> Option<Rows<'_, MemberRow>>
+        ensures { option_map members_shown result ≡ members_of kind name.now self.now }
+    {
+        let place = self.definition(kind, name)?;
+        let Node::Alias { defs, .. } = self.node(place.line)? else {
+            return None;
+        };
+        members_at(&defs, place.def)
+    }
+}
+
+/// Returns the members of the definition at a place, from 0.
+fn members_at<'a>(defs: &Rows<'a, DefRow>, at: usize) -> Option<Rows<'a, MemberRow>>
+    ensures { option_map members_shown result ≡ option_map (λ (d : DefOf). d.members) (slice_get (defs_shown defs.now) at) }
+{
+    match defs.rows.get(at) {
+        Some(row) => Some(defs.tables.members(row.members)),
+        None => None,
+    }
+}

@@ -1,5 +1,0 @@
-use Rattle.sudoers_verdict.proofs.Exists.{found_or_round}
-use Rattle.sudoers_verdict.proofs.laws.flat_or_cycle.Goals as goal
-
-pub returns : goal.returns
-returns c = found_or_round

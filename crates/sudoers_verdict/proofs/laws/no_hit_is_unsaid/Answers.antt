@@ -1,5 +1,0 @@
-use Rattle.sudoers_verdict.proofs.Said.{no_hit}
-use Rattle.sudoers_verdict.proofs.laws.no_hit_is_unsaid.Goals as goal
-
-pub returns : goal.returns
-returns c = no_hit
