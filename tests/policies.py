@@ -140,6 +140,62 @@ def drawn_says(text, line):
     return "none" if node is None else drawn_node(text, node)
 
 
+def drawn_lead(line):
+    """Where a line leads: to a file, to the files of a folder, or nowhere."""
+    lead = some(line)
+    if lead is None:
+        return "nowhere"
+    sort, name = lead
+    return {"File": "file ", "Dir": "folder "}[sort] + (drawn_text(bytes(items(name))) or "⟨⟩")
+
+
+def drawn_leads(line):
+    """Where a line leads by `leads`, and what `lead_of` answers of what it says if that differs."""
+    by_line, by_node = line.split("\t")
+    lead = drawn_lead(by_line)
+    if by_node == "unread":
+        return "says nothing" if lead == "nowhere" else f"{lead}, but it says nothing"
+    of_node = drawn_lead(by_node)
+    return lead if lead == of_node else f"{lead}, but what it says leads: {of_node}"
+
+
+def drawn_name(name):
+    """The name of a file."""
+    return drawn_text(name) or "⟨⟩"
+
+
+def drawn_walk(files, line):
+    """The lines of the walk over files, each as its file and its number there, and the files on it."""
+    on, spots, *texts = line.split("\t")
+    on, spots, texts = json.loads(on), said.read(spots), [bytes_of(text) for text in texts]
+    if len(texts) != len(spots):
+        return f"{len(texts)} lines in {len(spots)} places"
+    for number in on:
+        name, whole = files[number]
+        if b"".join(text for spot, text in zip(spots, texts) if spot["file"] == number) != whole:
+            return f"the lines of {drawn_name(name)} are not its text"
+    lines = ", ".join(f"{drawn_name(files[spot['file']][0])} {spot['line'] + 1}" for spot in spots)
+    return f"{lines or 'no line'} | {', '.join(drawn_name(files[number][0]) for number in on)}"
+
+
+def drawn_load(files, line):
+    """What comes of files, each a name and a text: their walk, or their error."""
+    if line.startswith("["):
+        return drawn_walk(files, line)
+    fault = said.read(line)
+    if isinstance(fault, str):
+        return fault
+    file = drawn_name(bytes(items(fault["file"])))
+    if fault[""] == "InFile":
+        return f"{file}: {drawn_fault(fault['fault'])}"
+    words = [fault[""], file]
+    if "line" in fault:
+        words.append(str(fault["line"]))
+    if "name" in fault:
+        words.append(drawn_name(bytes(items(fault["name"]))))
+    return " ".join(words)
+
+
 def drawn_policy(line):
     """What the lines of a policy say, or its error."""
     if not line:

@@ -5,6 +5,10 @@ The words of a group's head say what its rows are. Two rows, a case and its answ
     says                what the lines of a policy say, with ` | ` between two, or its error
     lines               the policy, with `|` between its lines; and their kinds
     one-line            what a text says as one line
+    line-of FILE        where a text leads as a line of this file: `file NAME`, `folder NAME` or `nowhere`;
+                        `says nothing` if it leads nowhere because it is no line that says something
+    load                files `NAME: TEXT` with ` | ` between two, the root first; and the lines of their walk, each by
+                        its file and its number there, from 1, and behind ` | ` the files on the walk; or the error
     read                `read`, or the error
     rows                the physical lines on which the lines of a policy begin, or the error
     defined KIND NAME   the line and the place of a definition, from 0, and its members
@@ -46,7 +50,9 @@ from policies import (
     drawn_bytes,
     drawn_change,
     drawn_definition,
+    drawn_leads,
     drawn_line_fault,
+    drawn_load,
     drawn_notes,
     drawn_outcome,
     drawn_policy,
@@ -65,6 +71,7 @@ from tables import (
     call,
     frame,
     groups_of,
+    joined,
     part,
     programs,
     run_tables,
@@ -277,6 +284,28 @@ def one_line(name, _words, text, _row, answer):
     yield from cases_of_calls(name, b"t", text, [("says", call(b"l"), wanted_row(answer), one_line_of(text))])
 
 
+def line_of(name, words, text, _row, answer):
+    """Where a text leads as a line of a file."""
+    asking = call(b"i", text_of(words[0]))
+    yield from cases_of_calls(name, b"t", text, [("leads", asking, wanted_row(answer), drawn_leads)])
+
+
+def file_of(row):
+    """The name and the text of a file `NAME: TEXT`; `NAME:` has no text."""
+    name, colon, text = row.partition(":")
+    if not colon or text[:1] not in ("", " "):
+        raise NoRow(f"no file: {row}")
+    return text_of(name), text_of(text[1:])
+
+
+def load(name, _words, _text, row, answer):
+    """The walk over files, or their error."""
+    files = [file_of(one) for one in unrolled(row).split(" | ")]
+    parts = joined(*(piece for file in files for piece in file))
+    calls = [("load", call(b"f"), wanted_row(answer), lambda line: drawn_load(files, line))]
+    yield from cases_of_calls(name, b"t", parts, calls)
+
+
 def read(name, _words, text, _row, answer):
     """Whether a policy is read."""
     wanted = wanted_row(answer)
@@ -355,6 +384,8 @@ PAIRS = {
     "says": (0, says),
     "lines": (0, lines),
     "one-line": (0, one_line),
+    "line-of": (1, line_of),
+    "load": (0, load),
     "read": (0, read),
     "rows": (0, rows),
     "defined": (2, defined),

@@ -11,6 +11,7 @@ mod edits;
 mod frames;
 mod given;
 mod line;
+mod loads;
 mod matches;
 mod people;
 mod policies;

@@ -2,9 +2,10 @@
 
 use crate::drawn::{push_debug, push_shown};
 use crate::frames::{Call, next_call};
+use crate::loads;
 use std::alloc::{AllocError, Global};
 use sudoers_edit::{Edit, Edits, MAX_EDITS, ScriptFault, Text, read_script, write_script};
-use sudoers_tree::{ALIAS_LIMIT, Kind, read_line};
+use sudoers_tree::{ALIAS_LIMIT, Kind, lead_of, leads, read_line};
 
 /// Adds the answer to a call of `text`; `unknown` if this is not known.
 pub fn push_answer(
@@ -16,6 +17,10 @@ pub fn push_answer(
     match call.asked {
         // What the text says as one line.
         b'l' => push_debug(&read_line(alloc, text)?, answers),
+        // The name of a file: where the text leads as a line of that file.
+        b'i' => push_leads(alloc, call.body, text, answers),
+        // What comes of the files that the text is, a name and a text each.
+        b'f' => loads::push_answer(alloc, text, answers),
         // How many edits the text spells as a script.
         b'r' => push_count(alloc, text, answers),
         // Further edits: the script of the text's edits and of those.
@@ -23,6 +28,21 @@ pub fn push_answer(
         // The most edits of a script, and the most aliases of a kind.
         b'm' => write!(answers, "{MAX_EDITS} {ALIAS_LIMIT}"),
         _ => answers.push_str("unknown"),
+    }
+}
+
+/// Adds where `line` leads in the file `name`, and where what it says leads; `unread` if it says nothing.
+fn push_leads(
+    alloc: Global,
+    name: &[u8],
+    line: &[u8],
+    answers: &mut String,
+) -> Result<(), AllocError> {
+    push_debug(&leads(alloc, name, line)?, answers)?;
+    answers.push('\t')?;
+    match read_line(alloc, line)? {
+        Some(reading) => push_debug(&lead_of(alloc, name, &reading.node())?, answers),
+        None => answers.push_str("unread"),
     }
 }
 

@@ -63,7 +63,7 @@ pub fn payload_fault_is_at_a_command_without_text()
         → WantsText line (physical_lines text) }
 {}
 
-/// Too many edits are told where a dead line stands behind a script of as many edits as there may be.
+/// A text with the fault `TooMany` has a dead line. The lines before it are a script with as many edits as there may be.
 pub fn too_many_is_behind_the_most_edits()
     ensures { (text : List ℕ) → reading text ≡ Err ScriptFault.TooMany → (line : ℕ)
         × IsDeadLine line (physical_lines text) × IsFullBefore line (physical_lines text) }

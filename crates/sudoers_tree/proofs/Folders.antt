@@ -7,13 +7,13 @@ use Rattle.sudoers_tree.specs.Lead.{folder_of, without_slashes}
 
 -- ---- the front of a name up to its last `/`
 
-no_slash : (name : List ℕ) → Nowhere (Passes (is_byte 47) name) 0 (length name) → has_byte 47 name ≡ false
-no_slash [] none = refl
-no_slash (b ∷ name) none = by (b == 47) refl (no_slash name (λ k low high p. none (suc k) (omega arith) (omega (arith, high)) p))
+pub no_byte : (x : ℕ) (name : List ℕ) → Nowhere (Passes (is_byte x) name) 0 (length name) → has_byte x name ≡ false
+no_byte x [] none = refl
+no_byte x (b ∷ name) none = by (b == x) refl (no_byte x name (λ k low high p. none (suc k) (omega arith) (omega (arith, high)) p))
   where
-    by : (t : Bool) → (b == 47) ≡ t → has_byte 47 name ≡ false → has_byte 47 (b ∷ name) ≡ false
+    by : (t : Bool) → (b == x) ≡ t → has_byte x name ≡ false → has_byte x (b ∷ name) ≡ false
     by true e later = absurd (none 0 (omega arith) (omega arith) e)
-    by false e later = ap (λ t. t || has_byte 47 name) e ∙ later
+    by false e later = ap (λ t. t || has_byte x name) e ∙ later
 
 or_right : (t u : Bool) → u ≡ true → (t || u) ≡ true
 or_right true u e = refl
@@ -26,7 +26,7 @@ one_slash (b ∷ name) (suc at) within slash = or_right (b == 47) (has_byte 47 n
 
 pub folder_none : (name : List ℕ) → Nowhere (Passes (is_byte 47) name) 0 (length name) → folder_of name ≡ []
 folder_none [] none = refl
-folder_none (b ∷ name) none = ap (λ t. if t then b ∷ folder_of name else []) (no_slash (b ∷ name) none)
+folder_none (b ∷ name) none = ap (λ t. if t then b ∷ folder_of name else []) (no_byte 47 (b ∷ name) none)
 
 pub folder_last : (name : List ℕ) (at : ℕ) → NoneAfter (Passes (is_byte 47) name) 0 (length name) at → Passes (is_byte 47) name at
     → take (at + 1) name ≡ folder_of name

@@ -1,5 +1,5 @@
 -- How many LF there are, from one to the next.
-use Rattle.std.proofs.Common.{◌≡◌, ℕ, zero, suc, ◌+◌, Bool, true, false, ◌==◌, if◌then◌else◌, List, [], ◌∷◌, length, drop, refl, sym, ap, ◌∙◌, arith}
+use Rattle.std.proofs.Common.{◌≡◌, ℕ, zero, suc, ◌+◌, ◌≤◌, Bool, true, false, ◌==◌, if◌then◌else◌, List, [], ◌∷◌, length, drop, refl, sym, ap, ◌∙◌, arith}
 use Rattle.memchr.specs.Find.{Nowhere, NoneBefore, Passes, is_byte}
 use Rattle.sudoers_text.specs.Fault.{lf_count}
 use Rattle.sudoers_tree.proofs.Joined.{lf_append}
@@ -11,6 +11,15 @@ first_of b bytes t e = lf_append (b ∷ []) bytes ∙ ap (λ n. n + lf_count byt
     alone : (t : Bool) → (b == 10) ≡ t → lf_count (b ∷ []) ≡ (if t then 1 else 0)
     alone true e = rw e refl
     alone false e = rw e refl
+
+-- There are no more LF than bytes.
+pub lf_short : (bytes : List ℕ) → lf_count bytes ≤ length bytes
+lf_short [] = omega arith
+lf_short (b ∷ bytes) = by (b == 10) refl (lf_short bytes)
+  where
+    by : (t : Bool) → (b == 10) ≡ t → lf_count bytes ≤ length bytes → lf_count (b ∷ bytes) ≤ length (b ∷ bytes)
+    by true e later = omega (arith, later, first_of b bytes true e)
+    by false e later = omega (arith, later, first_of b bytes false e)
 
 pub none_left : (bytes : List ℕ) → Nowhere (Passes (is_byte 10) bytes) 0 (length bytes) → lf_count bytes ≡ 0
 none_left [] none = refl

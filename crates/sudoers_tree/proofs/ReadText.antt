@@ -1,5 +1,5 @@
 -- What comes of a text.
-use Rattle.std.proofs.Common.{◌≡◌, ℕ, ◌⊎◌, inl, inr, List, [], Result, Ok, Err, refl, ap, subst, ◌∙◌}
+use Rattle.std.proofs.Common.{◌≡◌, ℕ, ◌⊎◌, inl, inr, List, [], Result, Ok, Err, refl, ap, subst, sym, ◌∙◌}
 use Rattle.sudoers_text.specs.declared.fault.TextFault.{TextFault}
 use Rattle.sudoers_text.specs.declared.fault.TextFault.TheVariants as text
 use Rattle.sudoers_text.specs.Cut.{cut_of, CutGives}
@@ -9,7 +9,6 @@ use Rattle.sudoers_tree.specs.declared.fault.ReadFault.TheVariants.{Text, Syntax
 use Rattle.sudoers_tree.specs.internal.Wrapped.{fault_of_text}
 use Rattle.sudoers_tree.specs.Fault.{IsFaultOf}
 use Rattle.sudoers_tree.specs.Reading.{read_behind, read_cut, read_of, IsOutcome, ReadGives}
-use Rattle.sudoers_tree.specs.Index.{ReadsAll}
 
 -- a text that is not cut
 pub not_cut : (bytes : List ℕ) (fault : TextFault) → CutGives (Err fault) (cut_of bytes) → ReadGives (Err (fault_of_text fault)) (read_of bytes)
@@ -25,15 +24,20 @@ pub is_cut : (bytes : List ℕ) (lines : List (List ℕ)) → cut_of bytes ≡ O
 unfolding read_of
 is_cut bytes lines is = ap read_cut is
 
+-- a fault of the text, or want of memory
+gives_fault : (fault : ReadFault) (outcome : Result (List Line) ReadFault) → (fault ≡ NoMemory) ⊎ (outcome ≡ Err fault) → ReadGives (Err fault) outcome
+gives_fault (Text fault) outcome (inr is) = is
+gives_fault (Syntax row col why) outcome (inr is) = is
+gives_fault (Reserved k name) outcome (inr is) = is
+gives_fault (Duplicate k name) outcome (inr is) = is
+gives_fault (TooMany k) outcome (inr is) = is
+gives_fault NoMemory outcome is = tt
+gives_fault fault outcome (inl none) = subst (λ f. ReadGives (Err f) outcome) (sym none) tt
+
 -- a text that is cut into these lines, of which one has a fault
-pub faulty : (bytes : List ℕ) (lines : List (List ℕ)) (fault : ReadFault) → cut_of bytes ≡ Ok lines → ReadsAll (Err fault) (read_behind [] lines)
-    → ReadGives (Err fault) (read_of bytes)
-faulty bytes lines (Text fault) cut is = is_cut bytes lines cut ∙ is
-faulty bytes lines (Syntax row col why) cut is = is_cut bytes lines cut ∙ is
-faulty bytes lines (Reserved k name) cut is = is_cut bytes lines cut ∙ is
-faulty bytes lines (Duplicate k name) cut is = is_cut bytes lines cut ∙ is
-faulty bytes lines (TooMany k) cut is = is_cut bytes lines cut ∙ is
-faulty bytes lines NoMemory cut is = tt
+pub faulty : (bytes : List ℕ) (lines : List (List ℕ)) (fault : ReadFault) → cut_of bytes ≡ Ok lines
+    → (fault ≡ NoMemory) ⊎ (read_behind [] lines ≡ Err fault) → ReadGives (Err fault) (read_of bytes)
+faulty bytes lines fault cut is = subst (ReadGives (Err fault)) (sym (is_cut bytes lines cut)) (gives_fault fault (read_behind [] lines) is)
 
 -- a fault that is given is the text's, or memory ran out
 pub fault_given : (bytes : List ℕ) (outcome : Result (List Line) ReadFault) (fault : ReadFault) → IsOutcome bytes outcome → ReadGives (Err fault) outcome

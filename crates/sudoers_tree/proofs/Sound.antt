@@ -28,7 +28,7 @@ none_both None b e = (refl, e)
 none_both (Some fault) b e = absurd cc
 
 -- that of definitions, or else that of those behind them
-first_append : (before ds more : List Definition)
+pub first_append : (before ds more : List Definition)
     → first_name_fault before (ds ++ more) ≡ or_later (first_name_fault before ds) (first_name_fault (before ++ ds) more)
 first_append before [] more = ap (λ ds. first_name_fault ds more) (sym (append-nil before))
 first_append before (d ∷ ds) more =

@@ -1,7 +1,8 @@
 -- Lines in tables that grow.
-use Rattle.std.proofs.Common.{◌≡◌, ℕ, List, [], ◌∷◌, ◌++◌, length, slice_get, Some, Ok, map, refl, sym, ap, ap₂, subst, ◌∙◌}
+use Rattle.std.proofs.Common.{◌≡◌, ℕ, List, [], ◌∷◌, ◌++◌, length, slice_get, Some, None, option_map, Ok, map, refl, sym, ap, ap₂, subst, ◌∙◌}
 use Rattle.std.proofs.lemmas.List.{append-nil, map-append}
-use Rattle.std.proofs.lemmas.List.Elements.{All-head, All-tail, All-weaker}
+use Rattle.std.proofs.lemmas.List.Elements.{All-get_or, All-head, All-tail, All-weaker}
+use Rattle.std.proofs.lemmas.Option.{get_or_from_slice_get, slice_get_within, slice_get-map}
 use Rattle.std.specs.List.{All}
 use Rattle.sudoers_line.specs.Node.{Node}
 use Rattle.sudoers_line_rows.specs.declared.rows.NodeRow.{NodeRow}
@@ -11,7 +12,7 @@ use Rattle.sudoers_line_reader.specs.Outcome.{outcome_of}
 use Rattle.sudoers_line_rows.specs.Tables.{Grown, Grows, Lasts, Keeps, node_in, text_in}
 use Rattle.sudoers_tree.specs.declared.line.LineRow.{LineRow}
 use Rattle.sudoers_tree.specs.Line.{Line, line_in}
-use Rattle.sudoers_tree.specs.internal.Tree.{Stands}
+use Rattle.sudoers_tree.specs.internal.Tree.{Stands, TreeLines}
 
 abbrev pub GrowOn : Type 0
 GrowOn = (t u v : Tables) → Grown t u → Grown u v → Grown t v
@@ -57,6 +58,29 @@ one_more t rows more row bytes is text =
     ap (map (line_in t)) is
     ∙ map-append (line_in t) rows (row ∷ [])
     ∙ ap (λ (b : List ℕ). map (line_in t) rows ++ line_of b (node_in t row.node) ∷ []) text
+
+abbrev pub tree_of : List Line → List Line → TreeLines
+tree_of all walk = record { all = all; walk = walk }
+
+-- The row at a place stands.
+pub stands_at : (t : Tables) (rows : List LineRow) (at : ℕ) (row : LineRow) → All (Stands t) rows → slice_get rows at ≡ Some row → Stands t row
+stands_at t rows at row all is =
+    subst (Stands t) (get_or_from_slice_get rows at row row is) (All-get_or (Stands t) rows at row (slice_get_within rows at row is) all)
+
+-- The row at a place holds the line there.
+pub row_at : (t : Tables) (rows : List LineRow) (at : ℕ) (row : LineRow) (lines : List Line) (line : Line) → map (line_in t) rows ≡ lines
+    → slice_get rows at ≡ Some row → slice_get lines at ≡ Some line → line_in t row ≡ line
+row_at t rows at row lines line shown is there =
+    let held : slice_get lines at ≡ Some (line_in t row) =
+    ap (λ (ls : List Line). slice_get ls at) (sym shown) ∙ slice_get-map (line_in t) rows at ∙ ap (option_map (line_in t)) is in
+    cc
+
+pub no_row_at : (t : Tables) (rows : List LineRow) (at : ℕ) (lines : List Line) (line : Line) → map (line_in t) rows ≡ lines
+    → slice_get rows at ≡ None → slice_get lines at ≡ Some line → ⊥
+no_row_at t rows at lines line shown is there =
+    let held : slice_get lines at ≡ None =
+    ap (λ (ls : List Line). slice_get ls at) (sym shown) ∙ slice_get-map (line_in t) rows at ∙ ap (option_map (line_in t)) is in
+    cc
 
 -- The last line stands at the number of those before it.
 pub last_at : (lines : List Line) (line : Line) → slice_get (lines ++ line ∷ []) (length lines) ≡ Some line

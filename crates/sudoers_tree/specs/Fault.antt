@@ -1,18 +1,16 @@
 -- Why a text is no policy: its first fault.
-use Rattle.std.specs.Prelude.{◌≡◌, ◌+◌, ℕ, Bool, true, false, List, ◌∷◌, ◌++◌, take, length, Option, Some, None, nat_le, if◌then◌else◌}
+use Rattle.std.specs.Prelude.{◌≡◌, ℕ, Bool, true, false, List, ◌∷◌, ◌++◌, take, length, Option, Some, None, nat_le, if◌then◌else◌}
 use Rattle.std.specs.List.{AllByRecursion}
 use Rattle.sudoers_text.specs.Line.{join}
 use Rattle.sudoers_text.specs.Fault.{IsCut}
 use Rattle.sudoers_text.specs.Fault.{IsFaultOf as IsTextFault}
 use Rattle.sudoers_text.specs.Word.{is_reserved}
-use Rattle.sudoers_text.specs.Fault.{lf_count}
 use Rattle.sudoers_line.specs.declared.fault.Why.{Why}
-use Rattle.sudoers_line.specs.declared.fault.LineFault.{LineFault}
-use Rattle.sudoers_line.specs.declared.fault.LineFault.TheVariants as line_fault
 use Rattle.sudoers_line.specs.Node.{Node}
 use Rattle.sudoers_line.specs.Line.{ReadsLine, IsFault}
 use Rattle.sudoers_tree.specs.Line.{Line}
 use Rattle.sudoers_tree.specs.declared.fault.ReadFault.{ReadFault}
+use Rattle.sudoers_tree.specs.declared.fault.SyntaxFault.{SyntaxFault}
 use Rattle.sudoers_tree.specs.declared.fault.ReadFault.TheVariants.{Text, Syntax, Reserved, Duplicate, TooMany, NoMemory}
 use Rattle.sudoers_tree.specs.Physical.{row_behind, column_behind}
 use Rattle.sudoers_tree.specs.Definition.{Definition, definitions, definitions_in, defined}
@@ -51,10 +49,9 @@ pub record IsSyntaxFault (before : List Line) (text : List ℕ) (row col : ℕ) 
   pub row_is : row ≡ row_behind (join (texts before) ++ take at text)
   pub col_is : col ≡ column_behind (take at text)
 
--- the fault of a line of this text that begins on this physical line
-abbrev pub fault_of_line : ℕ → List ℕ → LineFault → ReadFault
-fault_of_line row text (line_fault.Syntax at why) = Syntax (row + lf_count (take at text)) (column_behind (take at text)) why
-fault_of_line row text line_fault.NoMemory = NoMemory
+-- where and why a line says nothing, as a fault of the policy
+abbrev pub syntax_fault : SyntaxFault → ReadFault
+syntax_fault fault = Syntax fault.line fault.col fault.why
 
 -- what is wrong with a line behind these
 abbrev pub IsWrongBehind : List Line → List ℕ → ReadFault → Type 0

@@ -1,7 +1,6 @@
 -- A device of the proof, which no public contract cites: the index of names.
-use Rattle.std.specs.Prelude.{◌≡◌, ℕ, ◌+◌, List, [], ◌∷◌, ◌++◌, length, nat_le, Option, Some, None, Result, Ok, Err, if◌then◌else◌}
+use Rattle.std.specs.Prelude.{◌≡◌, ◌⊎◌, ℕ, ◌+◌, List, [], ◌∷◌, ◌++◌, length, nat_le, Option, Some, None, Result, Ok, Err, if◌then◌else◌}
 use Rattle.std.specs.Str.{bytes_eq}
-use Rattle.sudoers_text.specs.Line.{join}
 use Rattle.sudoers_text.specs.Word.{is_reserved}
 use Rattle.sudoers_line.specs.declared.node.Kind.{Kind}
 use Rattle.sudoers_line.specs.declared.node.Kind.TheVariants.{User, Runas, Host, Cmnd}
@@ -9,12 +8,10 @@ use Rattle.sudoers_line.specs.Node.{Def}
 use Rattle.sudoers_tree.specs.Line.{Line}
 use Rattle.sudoers_tree.specs.declared.place.Place.{Place}
 use Rattle.sudoers_tree.specs.declared.index.Index.{Index}
-use Rattle.sudoers_tree.specs.declared.reading.Reading.{Reading}
 use Rattle.sudoers_tree.specs.declared.fault.ReadFault.{ReadFault}
 use Rattle.sudoers_tree.specs.declared.fault.ReadFault.TheVariants.{Text, Syntax, Reserved, Duplicate, TooMany, NoMemory}
-use Rattle.sudoers_tree.specs.Physical.{row_behind}
 use Rattle.sudoers_tree.specs.Definition.{Definition, definitions, is_kind}
-use Rattle.sudoers_tree.specs.Policy.{alias_limit, texts}
+use Rattle.sudoers_tree.specs.Policy.{alias_limit}
 use Rattle.sudoers_tree.specs.Fault.{is_some}
 use Rattle.sudoers_tree.specs.Reading.{first_name_fault}
 
@@ -77,27 +74,7 @@ Enters (Err (Duplicate k name)) index before ds = first_name_fault before ds ≡
 Enters (Err (TooMany k)) index before ds = first_name_fault before ds ≡ Some (TooMany k)
 Enters (Err NoMemory) index before ds = Unit {0}
 
--- what came of a line behind these
-abbrev pub Takes : Result (Unit {0}) ReadFault → List Line → List Line → Result Line ReadFault → Type 0
-Takes (Ok u) old new wanted = (line : Line) × (wanted ≡ Ok line) × (new ≡ old ++ line ∷ [])
-Takes (Err (Text fault)) old new wanted = wanted ≡ Err (Text fault)
-Takes (Err (Syntax row col why)) old new wanted = wanted ≡ Err (Syntax row col why)
-Takes (Err (Reserved k name)) old new wanted = wanted ≡ Err (Reserved k name)
-Takes (Err (Duplicate k name)) old new wanted = wanted ≡ Err (Duplicate k name)
-Takes (Err (TooMany k)) old new wanted = wanted ≡ Err (TooMany k)
-Takes (Err NoMemory) old new wanted = Unit {0}
-
 -- the lines that are read, with their names, or the first fault
-abbrev pub ReadsAll : Result Reading ReadFault → Result (List Line) ReadFault → Type 0
-ReadsAll (Ok reading) wanted = (wanted ≡ Ok reading.tree) × Indexes reading.index (definitions reading.tree)
-ReadsAll (Err (Text fault)) wanted = wanted ≡ Err (Text fault)
-ReadsAll (Err (Syntax row col why)) wanted = wanted ≡ Err (Syntax row col why)
-ReadsAll (Err (Reserved k name)) wanted = wanted ≡ Err (Reserved k name)
-ReadsAll (Err (Duplicate k name)) wanted = wanted ≡ Err (Duplicate k name)
-ReadsAll (Err (TooMany k)) wanted = wanted ≡ Err (TooMany k)
-ReadsAll (Err NoMemory) wanted = Unit {0}
-
--- What is kept while lines are read: the names of their definitions, and the physical line behind them.
-pub record IsReading (reading : Reading) : Type 0 where
-  pub index : Indexes reading.index (definitions reading.tree)
-  pub row : reading.row ≡ row_behind (join (texts reading.tree))
+abbrev pub ReadsAll : Result Index ReadFault → List Line → Result (List Line) ReadFault → Type 0
+ReadsAll (Ok index) walk wanted = (wanted ≡ Ok walk) × Indexes index (definitions walk)
+ReadsAll (Err fault) walk wanted = (fault ≡ NoMemory) ⊎ (wanted ≡ Err fault)

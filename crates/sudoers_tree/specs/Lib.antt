@@ -1,4 +1,9 @@
 pub mod Lead
+pub mod Files
+pub mod Targets
+pub mod Walk
+pub mod Goes
+pub mod Load
 pub mod Physical
 pub mod Kind
 pub mod Definition

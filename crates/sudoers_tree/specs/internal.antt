@@ -1,3 +1,6 @@
 -- Devices of the proofs. No contract of an exported function cites them.
 pub mod Tree
 pub mod Wrapped
+pub mod Passing
+pub mod Files
+pub mod Walking

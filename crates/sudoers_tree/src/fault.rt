@@ -2,12 +2,21 @@
 
 ghost use Rattle.std.specs.Prelude.{◌≡◌};
 ghost use Rattle.sudoers_tree.specs.declared.fault.ReadFault.TheVariants.{NoMemory};
+ghost use Rattle.sudoers_tree.specs.Fault.{syntax_fault};
 ghost use Rattle.sudoers_tree.specs.internal.Wrapped.{fault_of_text};
 
 use std::alloc::{AllocError, AllocFailed};
 use sudoers_line::{Items, Kind, Why};
 use sudoers_text::TextFault;
 use thiserror::Error;
+
+/// Where and why a line says nothing: the physical line of its first fault, and the byte of that, both from 1.
+#[derive(Clone, Copy)]
+pub struct SyntaxFault {
+    pub line: usize,
+    pub col: usize,
+    pub why: Why,
+}
 
 /// Why a text is no policy: the fault of its cut into lines, or else the first fault of the first line that has one.
 #[derive(Debug, Drop, Error)]
@@ -45,6 +54,18 @@ impl<T: Drop> From<AllocFailed<T>> for ReadFault {
 
     fn from(_error: AllocFailed<T>) -> ReadFault {
         ReadFault::NoMemory
+    }
+}
+
+impl From<SyntaxFault> for ReadFault {
+    ghost from_gives = { λ fault e. e ≡ syntax_fault fault };
+
+    fn from(fault: SyntaxFault) -> ReadFault {
+        ReadFault::Syntax {
+            line: fault.line,
+            col: fault.col,
+            why: fault.why,
+        }
     }
 }
 

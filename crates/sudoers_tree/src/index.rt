@@ -2,13 +2,14 @@
 
 ghost use Rattle.std.specs.Prelude.{◌≡◌, [], ◌∷◌, ◌++◌, List, Ok, length, IfOk, IfErr, drop};
 ghost use Rattle.sudoers_line_rows.specs.View.{defs_shown, node_shown};
-ghost use Rattle.sudoers_tree.specs.Definition.{Definition, definitions_in};
+ghost use Rattle.sudoers_tree.specs.Definition.{Definition, definitions_from, definitions_in};
+ghost use Rattle.sudoers_tree.specs.Load.{first_reserved};
 ghost use Rattle.sudoers_tree.specs.Index.{names_of, Indexes, entry_fault, entered, Comes, Enters};
 
 use crate::fault::ReadFault;
 use crate::names::Names;
 use crate::place::Place;
-use std::alloc::Global;
+use std::alloc::{AllocError, Global};
 use sudoers_line::{Items, Kind};
 use sudoers_line_rows::{DefRow, Node, Rows};
 use sudoers_text::is_reserved;
@@ -112,6 +113,39 @@ fn fault_of(
     }
     if names.len() >= ALIAS_LIMIT {
         return Ok(Some(ReadFault::TooMany { kind }));
+    }
+    Ok(None)
+}
+
+/// Returns the first fault of a name that the line defines which says `node`, if it is that the name is reserved.
+///
+/// # Errors
+///
+/// Memory ran out.
+pub fn first_reserved(alloc: Global, node: &Node<'_>) -> Result<Option<ReadFault>, AllocError>
+    ensures { IfOk result (λ fault. fault ≡ first_reserved (definitions_in 0 (node_shown node.now))) }
+{
+    match *node {
+        Node::Alias { kind, defs } => reserved_of(alloc, kind, &defs),
+        _ => Ok(None),
+    }
+}
+
+/// Returns the first fault of a name that these definitions define, if it is that the name is reserved.
+fn reserved_of(
+    alloc: Global,
+    kind: Kind,
+    defs: &Rows<'_, DefRow>,
+) -> Result<Option<ReadFault>, AllocError>
+    ensures { IfOk result (λ fault. fault ≡ first_reserved (definitions_from kind 0 0 (defs_shown defs.now))) }
+{
+    let tables = defs.tables;
+    for row in defs.rows {
+        let name = tables.text(row.name);
+        if is_reserved(name) {
+            let name = Items::from_slice(alloc, name)?;
+            return Ok(Some(ReadFault::Reserved { kind, name }));
+        }
     }
     Ok(None)
 }

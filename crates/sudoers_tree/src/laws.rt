@@ -15,6 +15,10 @@ ghost use Rattle.sudoers_line.specs.Listed.{listed};
 ghost use Rattle.sudoers_tree.specs.Mention.{members_in, of_kind};
 ghost use Rattle.sudoers_tree.specs.Policy.{texts};
 ghost use Rattle.sudoers_tree.specs.Single.{said};
+ghost use Rattle.sudoers_tree.specs.Files.{FileReading};
+ghost use Rattle.sudoers_tree.specs.Goes.{IsWalkOf};
+ghost use Rattle.sudoers_tree.specs.Walk.{Walked, walk_of};
+ghost use Rattle.sudoers_tree.specs.declared.load_fault.LoadFault.{LoadFault as LoadFaultOf};
 
 use crate::policy::Policy;
 use sudoers_line::laws::{no_fault, one_fault};
@@ -94,3 +98,10 @@ pub fn whole_lines_are_read()
     one_list();
     whole_lines_of_join();
 }
+
+/// The walk over files that is computed is the walk that is defined, and there is no other.
+#[tactic(auto, using(crate::proofs::WalkOutcomes::walk_goes, crate::proofs::WalkOutcomes::one_walk))]
+pub fn walk_is()
+    ensures is { (files : List FileReading) → IsWalkOf files (walk_of files) }
+    ensures one { (files : List FileReading) (outcome : Result Walked LoadFaultOf) → IsWalkOf files outcome → walk_of files ≡ outcome }
+{}

@@ -21,7 +21,7 @@ pub enum Lead {
 }
 
 /// Returns `name` up to its last `/`, which it holds; nothing if there is none.
-fn folder_of(name: &[u8]) -> &[u8]
+pub fn folder_of(name: &[u8]) -> &[u8]
     ensures { result.now ≡ folder_of name.now }
 {
     match memrchr(b'/', name) {

@@ -14,3 +14,10 @@ pub struct Span {
     pub start: usize,
     pub stop: usize,
 }
+
+/// Where a line of the walk stands: the number of its file, and its own number there, both from 0.
+#[derive(Clone, Copy, Debug, PartialEq, Eq)]
+pub struct Spot {
+    pub file: usize,
+    pub line: usize,
+}

@@ -1,6 +1,6 @@
 //! Policies.
 
-ghost use Rattle.std.specs.Prelude.{◌≡◌, ◌<◌, ◌≤◌, ◌++◌, ◌⊎◌, List, ℕ, length, slice_get, insert, remove, false, Option, None, IfOk, IfErr, OnOk, OnErr};
+ghost use Rattle.std.specs.Prelude.{◌≡◌, ◌<◌, ◌≤◌, ◌++◌, ◌⊎◌, [], List, ℕ, length, slice_get, insert, remove, false, Option, None, IfOk, IfErr, OnOk, OnErr};
 ghost use Rattle.sudoers_text.specs.Ended.{has_unended_inside};
 ghost use Rattle.sudoers_text.specs.Whole.{IsLogicalLine};
 ghost use Rattle.sudoers_tree.specs.Changed.{replaced as with_another};
@@ -16,14 +16,18 @@ ghost use Rattle.sudoers_tree.specs.Definition.{place_of, members_of};
 ghost use Rattle.sudoers_tree.specs.Mention.{mentions};
 ghost use Rattle.sudoers_tree.specs.Policy.{IsPolicy, texts};
 ghost use Rattle.sudoers_tree.specs.Fault.{IsFaultOf};
-ghost use Rattle.sudoers_tree.specs.Reading.{read_of, ReadGives};
+ghost use Rattle.sudoers_tree.specs.Reading.{read_behind, read_of, ReadGives};
+ghost use Rattle.sudoers_tree.specs.Index.{ReadsAll};
+ghost use Rattle.sudoers_tree.specs.internal.Tree.{no_lines};
 
 use crate::changed::{append_texts, text_replaced, text_with, text_without};
 use crate::fault::ReadFault;
+use crate::index::Index;
 use crate::kind::LineKind;
 use crate::laws::{lines_are_whole, read_is, whole_lines_are_read};
 use crate::line::{Line, LineRow};
 use crate::mention::append_mentions;
+use crate::passing::pass_all;
 use crate::place::{Place, Span};
 use crate::reading::read_lines;
 use crate::tree::Tree;
@@ -32,8 +36,9 @@ use std::alloc::{AllocError, Global};
 use std::boxed::Box;
 use std::marker::Model;
 use sudoers_line::Kind;
+use sudoers_line_reader::laws::outcome_is;
 use sudoers_line_rows::{MemberRow, Node, Rows};
-use sudoers_text::cut;
+use sudoers_text::{Lines, cut};
 
 /// A sudoers policy. Contracts see the list of its lines with what they say.
 #[derive(Drop)]
@@ -198,7 +203,7 @@ impl Policy {
     pub fn len(&self) -> usize
         ensures { result ≡ length self.now }
     {
-        self.walk.tree().len()
+        self.walk.lines().rows.len()
     }
 
     /// The lines with what they say.
@@ -217,7 +222,7 @@ impl Policy {
     pub fn line(&self, i: usize) -> Option<&[u8]>
         ensures { option_copied result ≡ option_map (λ (line : LineOf). line.text) (slice_get self.now i) }
     {
-        Some(self.walk.tree().line(i)?.text)
+        Some(self.walk.line(i)?.text)
     }
 
     /// The kind of a line.
@@ -274,11 +279,28 @@ fn read_knowing(alloc: Global, known: Option<&Tree>, text: &[u8]) -> Result<Poli
 {
     read_is();
     let lines = cut(alloc, text)?;
-    let tree = Tree::new(alloc, known, lines.len())?;
-    let reading = read_lines(alloc, tree, &lines)?;
+    let mut tree = Tree::new(alloc, known, lines.len())?;
+    let index = read_walk(alloc, &mut tree, &lines)?;
     Ok(Policy {
-        walk: Box::new(alloc, Walk::of(reading))?,
+        walk: Box::new(alloc, Walk::of(tree, index))?,
         size: text.len(),
         alloc,
     })
+}
+
+/// Reads lines into a tree of no lines, puts them onto the walk, and returns the names that they define, or the first fault.
+fn read_walk(alloc: Global, tree: &mut Tree, lines: &Lines<'_>) -> Result<Index, ReadFault>
+    requires empty { tree.old ≡ no_lines }
+    requires fits { length (join lines.now) ≤ text_limit }
+    ensures { ReadsAll result tree.new.walk (read_behind [] lines.now) }
+{
+    outcome_is();
+    let fault = read_lines(alloc, tree, lines)?;
+    let mut index = Index::new(alloc);
+    pass_all(alloc, tree, &mut index)?;
+    if let Some(fault) = fault {
+        return Err(fault.into());
+    }
+    tree.forget(alloc);
+    Ok(index)
 }

@@ -1,9 +1,9 @@
-//! Lines that are read into tables.
+//! Lines that are read into tables, and the walk over them.
 
-ghost use Rattle.std.specs.Prelude.{◌≡◌, [], length, option_map, slice_get, IfOk};
+ghost use Rattle.std.specs.Prelude.{◌≡◌, ◌++◌, ◌∷◌, [], length, option_map, slice_get, IfOk, OnOk, Some};
 ghost use Rattle.sudoers_line_reader.specs.Outcome.{outcome_of};
-ghost use Rattle.sudoers_tree.specs.Line.{line_shown, lines_shown};
-ghost use Rattle.sudoers_tree.specs.internal.Tree.{ReadsOne};
+ghost use Rattle.sudoers_tree.specs.Line.{Line as LineOf, line_shown, lines_shown};
+ghost use Rattle.sudoers_tree.specs.internal.Tree.{ReadsOne, no_lines};
 
 use crate::known::{copy_tables, row_of};
 use crate::line::{Line, LineRow};
@@ -13,26 +13,32 @@ use sudoers_line::LineFault;
 use sudoers_line_rows::laws::growth_goes_on;
 use sudoers_line_rows::{Rows, Tables};
 
-/// Lines, and the tables in which they say something. Contracts see the list of the lines with what they say. `known` holds
-/// rows of an earlier reading, which the list leaves out. A line that stands there is not read again.
+/// Lines as they are read, those of them that are on the walk, in its order, and the tables in which they say something.
+/// Contracts see the two lists with what the lines say. `known` holds rows of an earlier reading, which the lists leave out. A
+/// line that stands there is not read again.
 #[derive(Drop)]
 pub struct Tree {
     tables: Tables,
     known: Vec<LineRow>,
     rows: Vec<LineRow>,
+    walk: Vec<LineRow>,
 }
 
 impl Model for Tree {
     ghost use Rattle.std.specs.Prelude.{List, map};
     ghost use Rattle.std.specs.List.{All};
     ghost use Rattle.sudoers_tree.specs.Line.{Line, line_in};
-    ghost use Rattle.sudoers_tree.specs.internal.Tree.{Stands};
+    ghost use Rattle.sudoers_tree.specs.internal.Tree.{Stands, TreeLines};
 
-    ghost Value = { List Line };
+    ghost Value = { TreeLines };
 
-    ghost view = { λ tree. map (line_in tree.tables) tree.rows.items };
+    ghost view = { λ tree. record {
+      all = map (line_in tree.tables) tree.rows.items;
+      walk = map (line_in tree.tables) tree.walk.items;
+    } };
 
-    ghost invariant = { λ tree. All (Stands tree.tables) tree.known.items × All (Stands tree.tables) tree.rows.items };
+    ghost invariant = { λ tree. All (Stands tree.tables) tree.known.items × All (Stands tree.tables) tree.rows.items
+        × All (Stands tree.tables) tree.walk.items };
 }
 
 impl Tree {
@@ -43,29 +49,33 @@ impl Tree {
     ///
     /// Want of memory alone.
     pub fn new(alloc: Global, known: Option<&Tree>, count: usize) -> Result<Tree, AllocError>
-        ensures { IfOk result (λ tree. tree ≡ []) }
+        ensures { IfOk result (λ tree. tree ≡ no_lines) }
     {
         growth_goes_on();
         let rows = Vec::with_capacity(alloc, count)?;
+        let walk = Vec::with_capacity(alloc, count)?;
         match known {
             Some(tree) => Ok(Tree {
                 tables: copy_tables(alloc, &tree.tables)?,
-                known: Vec::from_slice(alloc, tree.rows.as_slice())?,
+                known: Vec::from_slice(alloc, tree.walk.as_slice())?,
                 rows,
+                walk,
             }),
             None => Ok(Tree {
                 tables: Tables::new(alloc),
                 known: Vec::new(alloc),
                 rows,
+                walk,
             }),
         }
     }
 
-    /// Forgets the known lines.
+    /// Forgets the known lines, and all that are not on the walk.
     pub fn forget(&mut self, alloc: Global)
-        ensures { self.new ≡ self.old }
+        ensures { self.new.walk ≡ self.old.walk }
     {
         self.known = Vec::new(alloc);
+        self.rows = Vec::new(alloc);
     }
 
     /// Returns whether the tables are so large for lines of `size` bytes that more than half of their bytes are unused. A line
@@ -74,26 +84,16 @@ impl Tree {
         self.tables.bytes.len() / 4 > size
     }
 
-    /// Returns how many lines there are.
+    /// Returns how many lines are read.
     pub fn len(&self) -> usize
-        ensures { result ≡ length self.now }
+        ensures { result ≡ length self.now.all }
     {
         self.rows.len()
     }
 
-    /// Returns the lines.
-    pub fn lines(&self) -> Rows<'_, LineRow>
-        ensures { lines_shown result ≡ self.now }
-    {
-        Rows {
-            tables: &self.tables,
-            rows: self.rows.as_slice(),
-        }
-    }
-
-    /// Returns the line at a place, from 0.
+    /// Returns the line with the number `at`, from 0, of those that are read.
     pub fn line(&self, at: usize) -> Option<Line<'_>>
-        ensures { option_map line_shown result ≡ slice_get self.now at }
+        ensures { option_map line_shown result ≡ slice_get self.now.all at }
     {
         match self.rows.get(at) {
             Some(row) => Some(Line::of(&self.tables, row)),
@@ -101,7 +101,17 @@ impl Tree {
         }
     }
 
-    /// Appends a line with what it says. A line that is known near its place is not read.
+    /// Returns the lines of the walk.
+    pub fn walk(&self) -> Rows<'_, LineRow>
+        ensures { lines_shown result ≡ self.now.walk }
+    {
+        Rows {
+            tables: &self.tables,
+            rows: self.walk.as_slice(),
+        }
+    }
+
+    /// Reads a line and appends it to those that are read. A line that is known near its place is not read.
     ///
     /// # Errors
     ///
@@ -113,6 +123,22 @@ impl Tree {
         let at = self.rows.len();
         let row = row_of(alloc, &mut self.tables, self.known.as_slice(), at, line)?;
         self.rows.push(row)?;
+        Ok(())
+    }
+
+    /// Appends the line with the number `at`, from 0, to the walk.
+    ///
+    /// # Errors
+    ///
+    /// Want of memory alone.
+    pub fn pass(&mut self, at: usize) -> Result<(), AllocError>
+        ensures all { self.new.all ≡ self.old.all }
+        ensures walk { (line : LineOf) → slice_get self.old.all at ≡ Some line → OnOk result (self.new.walk ≡ self.old.walk ++ line ∷ []) }
+    {
+        let Some(row) = self.rows.get(at) else {
+            return Ok(());
+        };
+        self.walk.push(*row)?;
         Ok(())
     }
 }

@@ -6,15 +6,14 @@ ghost use Rattle.sudoers_text.specs.Line.{join};
 ghost use Rattle.sudoers_text.specs.Fault.{text_limit};
 ghost use Rattle.sudoers_line.specs.Node.{Def as DefOf};
 ghost use Rattle.sudoers_line_rows.specs.View.{defs_shown, members_shown, node_shown};
-ghost use Rattle.sudoers_tree.specs.Line.{Line as LineOf, lines_shown};
+ghost use Rattle.sudoers_tree.specs.Line.{Line as LineOf, line_shown, lines_shown};
 ghost use Rattle.sudoers_tree.specs.Definition.{definitions, place_of, members_of};
 ghost use Rattle.sudoers_tree.specs.Index.{Indexes};
 ghost use Rattle.sudoers_tree.specs.Policy.{IsWalk, texts};
 
 use crate::index::Index;
-use crate::line::LineRow;
+use crate::line::{Line, LineRow};
 use crate::place::Place;
-use crate::reading::Reading;
 use crate::tree::Tree;
 use std::marker::Model;
 use sudoers_line::Kind;
@@ -38,24 +37,21 @@ impl Model for Walk {
 
     ghost Value = { List Line };
 
-    ghost view = { λ walk. walk.tree };
+    ghost view = { λ walk. walk.tree.walk };
 
-    ghost invariant = { λ walk. IsWalk walk.tree × Indexes walk.index (definitions walk.tree)
-        × (length (join (texts walk.tree)) ≤ text_limit) };
+    ghost invariant = { λ walk. IsWalk walk.tree.walk × Indexes walk.index (definitions walk.tree.walk)
+        × (length (join (texts walk.tree.walk)) ≤ text_limit) };
 }
 
 impl Walk {
-    /// Returns the walk over the lines of `reading`.
-    pub fn of(reading: Reading) -> Walk
-        requires walk { IsWalk reading.tree }
-        requires index { Indexes reading.index (definitions reading.tree) }
-        requires within { length (join (texts reading.tree)) ≤ text_limit }
-        ensures { result ≡ reading.tree }
+    /// Returns the walk of `tree`, the names of whose lines are those of `index`.
+    pub(crate) fn of(tree: Tree, index: Index) -> Walk
+        requires walk { IsWalk tree.walk }
+        requires index { Indexes index (definitions tree.walk) }
+        requires within { length (join (texts tree.walk)) ≤ text_limit }
+        ensures { result ≡ tree.walk }
     {
-        Walk {
-            tree: reading.tree,
-            index: reading.index,
-        }
+        Walk { tree, index }
     }
 
     /// A law: the lines are a walk.
@@ -74,7 +70,7 @@ impl Walk {
 
     /// Returns the tables and rows of the lines.
     pub(crate) fn tree(&self) -> &Tree
-        ensures { result.now ≡ self.now }
+        ensures { result.now.walk ≡ self.now }
     {
         &self.tree
     }
@@ -83,14 +79,25 @@ impl Walk {
     pub fn lines(&self) -> Rows<'_, LineRow>
         ensures { lines_shown result ≡ self.now }
     {
-        self.tree.lines()
+        self.tree.walk()
+    }
+
+    /// Returns the line with the number `i`, from 0.
+    pub(crate) fn line(&self, i: usize) -> Option<Line<'_>>
+        ensures { option_map line_shown result ≡ slice_get self.now i }
+    {
+        let lines = self.tree.walk();
+        match lines.rows.get(i) {
+            Some(row) => Some(Line::of(lines.tables, row)),
+            None => None,
+        }
     }
 
     /// Returns what the line with the number `i`, from 0, says.
     pub(crate) fn node(&self, i: usize) -> Option<Node<'_>>
         ensures { option_map node_shown result ≡ option_map (λ (line : LineOf). line.node) (slice_get self.now i) }
     {
-        Some(self.tree.line(i)?.node)
+        Some(self.line(i)?.node)
     }
 
     /// Returns where the alias `name` of this kind is defined (sudoers(5), Aliases).

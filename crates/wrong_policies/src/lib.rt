@@ -2,12 +2,16 @@
 #![tactic(auto)]
 
 mod checks;
+mod leads;
 mod lines;
+mod loads;
 mod policies;
 mod texts;
 
 pub use checks::{check_policy, is_fine_report, report_of_policy, unused_aliases};
+pub use leads::{lead_of_line, lead_of_node};
 pub use lines::reading_of_line;
+pub use loads::load_files;
 pub use policies::{
     definition_of, insert_line, mentions_of, policy_text, read_policy, reread_policy,
 };

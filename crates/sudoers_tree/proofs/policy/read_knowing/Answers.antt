@@ -15,21 +15,21 @@ returns-in_err-lines-clause-outcome c =
     let same : c.from_residual.result ≡ Err (fault_of_text fault) = search rules in
     subst (λ r. ReadGives r (read_of c.args.text.now)) (sym same) (not_cut c.args.text.now fault c.in_err-lines.ensures.outcome)
 
-pub returns-in_err-reading-clause-outcome : goal.returns-in_err-reading-clause-outcome
-returns-in_err-reading-clause-outcome c =
-    let fault : ReadFault = c.in_err-reading.field-0.0 in
-    let same : c.from_residual-in_err-reading.result ≡ Err fault = search rules in
+pub returns-in_err-index-clause-outcome : goal.returns-in_err-index-clause-outcome
+returns-in_err-index-clause-outcome c =
+    let fault : ReadFault = c.in_err-index.field-0.0 in
+    let same : c.from_residual-in_err-index.result ≡ Err fault = search rules in
     subst (λ r. ReadGives r (read_of c.args.text.now)) (sym same)
-    (faulty c.args.text.now c.in_ok-lines.lines fault c.in_ok-lines.ensures.outcome c.in_err-reading.ensures)
+    (faulty c.args.text.now c.in_ok-lines.lines fault c.in_ok-lines.ensures.outcome c.in_err-index.ensures)
 
-pub returns-in_err-reading-clause-fault : goal.returns-in_err-reading-clause-fault
-returns-in_err-reading-clause-fault c =
+pub returns-in_err-index-clause-fault : goal.returns-in_err-index-clause-fault
+returns-in_err-index-clause-fault c =
     let text : List ℕ = c.args.text.now in
-    let fault : ReadFault = c.in_err-reading.field-0.0 in
-    let same : c.from_residual-in_err-reading.result ≡ Err fault = search rules in
+    let fault : ReadFault = c.in_err-index.field-0.0 in
+    let same : c.from_residual-in_err-index.result ≡ Err fault = search rules in
     subst (λ r. IfErr r (λ e. (e ≡ NoMemory) ⊎ IsFaultOf text e)) (sym same)
     (fault_given text (read_of text) fault (c.read_is.ensures text)
-    (faulty text c.in_ok-lines.lines fault c.in_ok-lines.ensures.outcome c.in_err-reading.ensures))
+    (faulty text c.in_ok-lines.lines fault c.in_ok-lines.ensures.outcome c.in_err-index.ensures))
 
 -- The policy to which the text leads.
 is_read : (text : List ℕ) (walk : List Line) → IsOutcome text (read_of text) → read_of text ≡ Ok walk → IsOutcome text (Ok walk)
@@ -37,30 +37,30 @@ is_read text walk is outcome = subst (IsOutcome text) outcome is
 
 pub of-requires-clause-walk : goal.of-requires-clause-walk
 of-requires-clause-walk c =
-    let outcome = is_cut c.args.text.now c.in_ok-lines.lines c.in_ok-lines.ensures.outcome ∙ c.in_ok-reading.ensures.0 in
-    (is_read c.args.text.now c.in_ok-reading.reading.tree (c.read_is.ensures c.args.text.now) outcome).0.walk
+    let outcome = is_cut c.args.text.now c.in_ok-lines.lines c.in_ok-lines.ensures.outcome ∙ c.in_ok-index.ensures.0 in
+    (is_read c.args.text.now c.read_walk.new.tree.walk (c.read_is.ensures c.args.text.now) outcome).0.walk
 
 pub of-requires-clause-within : goal.of-requires-clause-within
 of-requires-clause-within c =
-    let outcome = is_cut c.args.text.now c.in_ok-lines.lines c.in_ok-lines.ensures.outcome ∙ c.in_ok-reading.ensures.0 in
-    (is_read c.args.text.now c.in_ok-reading.reading.tree (c.read_is.ensures c.args.text.now) outcome).0.cut.fits
+    let outcome = is_cut c.args.text.now c.in_ok-lines.lines c.in_ok-lines.ensures.outcome ∙ c.in_ok-index.ensures.0 in
+    (is_read c.args.text.now c.read_walk.new.tree.walk (c.read_is.ensures c.args.text.now) outcome).0.cut.fits
 
 pub returns-clause-outcome : goal.returns-clause-outcome
 returns-clause-outcome c =
-    is_cut c.args.text.now c.in_ok-lines.lines c.in_ok-lines.ensures.outcome ∙ c.in_ok-reading.ensures.0
+    is_cut c.args.text.now c.in_ok-lines.lines c.in_ok-lines.ensures.outcome ∙ c.in_ok-index.ensures.0
     ∙ ap (λ lines. Ok lines) (sym c.of.ensures ∙ sym c.in_ok-new.ensures.ok)
 
 pub returns-clause-policy : goal.returns-clause-policy
 returns-clause-policy c =
     let outcome =
-    is_cut c.args.text.now c.in_ok-lines.lines c.in_ok-lines.ensures.outcome ∙ c.in_ok-reading.ensures.0
+    is_cut c.args.text.now c.in_ok-lines.lines c.in_ok-lines.ensures.outcome ∙ c.in_ok-index.ensures.0
     ∙ ap (λ lines. Ok lines) (sym c.of.ensures ∙ sym c.in_ok-new.ensures.ok) in
     is_read c.args.text.now c.in_ok-new.field-0.value (c.read_is.ensures c.args.text.now) outcome
 
 pub invariant_of-result : goal.invariant_of-result
 invariant_of-result c =
     let outcome =
-    is_cut c.args.text.now c.in_ok-lines.lines c.in_ok-lines.ensures.outcome ∙ c.in_ok-reading.ensures.0
+    is_cut c.args.text.now c.in_ok-lines.lines c.in_ok-lines.ensures.outcome ∙ c.in_ok-index.ensures.0
     ∙ ap (λ lines. Ok lines) (sym c.of.ensures ∙ sym c.in_ok-new.ensures.ok) in
     let is = is_read c.args.text.now c.in_ok-new.field-0.value (c.read_is.ensures c.args.text.now) outcome in
     (ap read_of is.1 ∙ outcome, ap length (sym is.1))

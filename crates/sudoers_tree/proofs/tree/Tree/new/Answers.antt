@@ -10,6 +10,7 @@ invariant_of-result c =
     let old : Tables = c.tree.inside.tables in
     let new : Tables = c.in_ok-copy_tables-in-Some.field-0 in (
       All-same (Stands new) _ _ (c.in_ok-from_slice-in-Some.ensures.items ∙ c.as_slice.ensures.value)
-          (all_on c.growth_goes_on.ensures.on old new c.in_ok-copy_tables-in-Some.ensures.forth c.tree.inside.rows.items c.tree.invariant.1),
+          (all_on c.growth_goes_on.ensures.on old new c.in_ok-copy_tables-in-Some.ensures.forth c.tree.inside.walk.items c.tree.invariant.2),
       All-same (Stands new) _ _ c.in_ok-rows.ensures.items (All-nil (Stands new)),
+      All-same (Stands new) _ _ c.in_ok-walk.ensures.items (All-nil (Stands new)),
     )

@@ -1,0 +1,50 @@
+-- Lines that come onto the walk, one behind the other.
+use Rattle.std.proofs.Common.{◌≡◌, ℕ, ◌+◌, ◌⊎◌, inl, inr, List, [], ◌∷◌, ◌++◌, length, take, drop, slice_get, Option, Some, None, sym, ap, ◌∙◌, arith}
+use Rattle.std.proofs.lemmas.List.{take-append-drop}
+use Rattle.std.proofs.lemmas.Option.{get_or_from_slice_get, slice_get_within}
+use Rattle.std.proofs.lemmas.List.{take_more}
+use Rattle.sudoers_tree.specs.Line.{Line}
+use Rattle.sudoers_tree.specs.declared.fault.ReadFault.{ReadFault}
+use Rattle.sudoers_tree.specs.declared.fault.ReadFault.TheVariants.{NoMemory}
+use Rattle.sudoers_tree.specs.Definition.{definitions, definitions_in, definitions_since}
+use Rattle.sudoers_tree.specs.Reading.{first_name_fault, or_later}
+use Rattle.sudoers_tree.proofs.Joined.{definitions_append, definitions_push}
+use Rattle.sudoers_tree.proofs.Numbered.{drop_at}
+use Rattle.sudoers_tree.proofs.Sound.{first_append, none_append}
+
+-- one line more is taken
+pub next_taken : (all walk : List Line) (n : ℕ) (line : Line) → slice_get all n ≡ Some line → walk ≡ take n all → walk ++ line ∷ [] ≡ take (n + 1) all
+next_taken all walk n line is front =
+    ap (λ ls. ls ++ line ∷ []) front
+    ∙ sym (take_more all n line (slice_get_within all n line is) ∙ ap (λ x. take n all ++ x ∷ []) (get_or_from_slice_get all n line line is))
+
+-- its names have no fault either
+pub line_passed : (walk : List Line) (line : Line) → first_name_fault [] (definitions walk) ≡ None
+    → first_name_fault (definitions walk) (definitions_in (length walk) line.node) ≡ None → first_name_fault [] (definitions (walk ++ line ∷ [])) ≡ None
+line_passed walk line none here =
+    ap (first_name_fault []) (definitions_push walk line) ∙ none_append (definitions walk) (definitions_in (length walk) line.node) none here
+
+-- the first fault of its names is that of all lines
+first_of_all : (all walk : List Line) (n : ℕ) (line : Line) (fault : ReadFault) → slice_get all n ≡ Some line → walk ≡ take n all
+    → first_name_fault [] (definitions walk) ≡ None → first_name_fault (definitions walk) (definitions_in (length walk) line.node) ≡ Some fault
+    → first_name_fault [] (definitions all) ≡ Some fault
+first_of_all all walk n line fault is front none here =
+    let rest : List Line = drop (n + 1) all in
+    let whole : all ≡ walk ++ line ∷ rest =
+    sym (take-append-drop n all) ∙ ap (λ ls. take n all ++ ls) (drop_at all n line is) ∙ ap (λ ls. ls ++ line ∷ rest) (sym front) in
+    let start : 0 + length walk ≡ length walk = omega arith in
+    let inner = definitions_in (length walk) line.node in
+    let behind = definitions_since (length walk + 1) rest in
+    ap (λ ls. first_name_fault [] (definitions ls)) whole
+    ∙ ap (first_name_fault []) (definitions_append 0 walk (line ∷ rest) ∙ ap (λ k. definitions walk ++ definitions_since k (line ∷ rest)) start)
+    ∙ first_append [] (definitions walk) (inner ++ behind)
+    ∙ ap (λ o. or_later o (first_name_fault (definitions walk) (inner ++ behind))) none
+    ∙ first_append (definitions walk) inner behind
+    ∙ ap (λ o. or_later o (first_name_fault (definitions walk ++ inner) behind)) here
+
+pub fault_of_all : (all walk : List Line) (n : ℕ) (line : Line) (fault : ReadFault) → slice_get all n ≡ Some line → walk ≡ take n all
+    → first_name_fault [] (definitions walk) ≡ None
+    → (fault ≡ NoMemory) ⊎ (first_name_fault (definitions walk) (definitions_in (length walk) line.node) ≡ Some fault)
+    → (fault ≡ NoMemory) ⊎ (first_name_fault [] (definitions all) ≡ Some fault)
+fault_of_all all walk n line fault is front none (inl memory) = inl memory
+fault_of_all all walk n line fault is front none (inr here) = inr (first_of_all all walk n line fault is front none here)

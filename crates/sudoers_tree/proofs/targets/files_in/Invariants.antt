@@ -1,0 +1,12 @@
+use Rattle.std.proofs.Common.{◌≡◌, ◌≤◌, length, drop}
+use Rattle.sudoers_tree.specs.Targets.{files_in}
+use Rattle.sudoers_tree.proofs.targets.files_in.Given as goal
+
+-- Those of the last files are found.
+abbrev pub invariant-loop-number : goal.invariant-loop-number
+invariant-loop-number l =
+    (l.number ≤ length l.files.files)
+    × (l.inner.items ≡ files_in l.files.files l.folder l.number (drop l.number l.files.files))
+
+abbrev pub decreases-loop-number : goal.decreases-loop-number
+decreases-loop-number l = l.number

@@ -1,0 +1,29 @@
+use Rattle.std.proofs.Common.{◌≡◌, drop, ◌+◌, ◌*◌}
+use Rattle.sudoers_tree.specs.Files.{lines_of}
+use Rattle.sudoers_tree.specs.Walk.{enter, site, visit, visit_each, walk_lines}
+use Rattle.sudoers_tree.specs.internal.Walking.{IsWalking, walked}
+use Rattle.sudoers_tree.proofs.walking.Walking.+walk.Given as goal
+
+abbrev pub decreases-take_file : goal.decreases-take_file
+decreases-take_file l = 3 * l.left + 2
+
+abbrev pub decreases-follow : goal.decreases-follow
+decreases-follow l = 3 * l.left + 1
+
+abbrev pub decreases-visit : goal.decreases-visit
+decreases-visit l = 3 * l.left
+
+-- What is left to do comes to what there was to do.
+abbrev pub invariant-take_file-loop-line : goal.invariant-take_file-loop-line
+invariant-take_file-loop-line l =
+    (l.self.files.files ≡ l.fn.self.files.files)
+    × IsWalking l.self
+    × (walk_lines (visit l.left l.fn.self.files.files) l.fn.self.files.files l.file l.line (drop l.line (lines_of l.fn.self.files.files l.file)) (walked l.self)
+    ≡ walk_lines (visit l.left l.fn.self.files.files) l.fn.self.files.files l.file 0 (lines_of l.fn.self.files.files l.file) (enter l.file (walked l.fn.self)))
+
+abbrev pub invariant-follow-loop-file : goal.invariant-follow-loop-file
+invariant-follow-loop-file l =
+    (l.self.files.files ≡ l.fn.self.files.files)
+    × IsWalking l.self
+    × (visit_each (visit l.left l.fn.self.files.files) l.fn.self.files.files (site l.fn.self.files.files l.at.file l.at.line) (drop l.file-index l.file-items) (walked l.self)
+    ≡ visit_each (visit l.left l.fn.self.files.files) l.fn.self.files.files (site l.fn.self.files.files l.at.file l.at.line) l.file-items (walked l.fn.self))

@@ -1,0 +1,61 @@
+-- The walk as a relation (sudoers(5), Including other files from within sudoers): the lines of a file, each include line followed by
+-- the walk of the files to which it leads. What comes of it is all that is on the walk then, or its first fault. That the walk that
+-- is computed (`walk_of`) is this one, and no other is, is a law (`walk_is`).
+use Rattle.std.specs.Prelude.{◌≡◌, ℕ, zero, suc, ◌+◌, true, false, List, [], ◌∷◌, Option, Some, None, Result, Ok, Err}
+use Rattle.sudoers_tree.specs.Line.{Line}
+use Rattle.sudoers_tree.specs.declared.fault.SyntaxFault.{SyntaxFault}
+use Rattle.sudoers_tree.specs.declared.load_fault.LoadFault.{LoadFault}
+use Rattle.sudoers_tree.specs.declared.load_fault.LoadFault.TheVariants.{InFile, TooDeep}
+use Rattle.sudoers_tree.specs.Fault.{syntax_fault}
+use Rattle.sudoers_tree.specs.Files.{FileReading, fault_of, lines_of, name_of}
+use Rattle.sudoers_tree.specs.Walk.{Site, Walked, depth_limit, enter, is_on, leads_to, nothing, opened, site, taken, twice}
+
+mutual
+  -- what comes of these lines of the file f, from the one with the number n on, where files may be nested so many levels deeper
+  pub data Goes (files : List FileReading) : ℕ → ℕ → ℕ → List Line → Walked → Result Walked LoadFault → Type 0 where
+    end : (left f n : ℕ) (w : Walked) → fault_of files f ≡ None → Goes files left f n [] w (Ok w)
+    -- the line behind those that are read says nothing
+    broken : (left f n : ℕ) (w : Walked) (fault : SyntaxFault) → fault_of files f ≡ Some fault
+        → Goes files left f n [] w (Err (InFile (name_of files f) (syntax_fault fault)))
+    -- a name that the line defines cannot stand there
+    wrong : (left f n : ℕ) (line : Line) (lines : List Line) (w : Walked) (fault : LoadFault)
+        → taken (name_of files f) (record { file = f; line = n }) line w ≡ Err fault
+        → Goes files left f n (line ∷ lines) w (Err fault)
+    -- it cannot lead where it does
+    shut : (left f n : ℕ) (line : Line) (lines : List Line) (w now : Walked) (fault : LoadFault)
+        → taken (name_of files f) (record { file = f; line = n }) line w ≡ Ok now
+        → opened files (site files f n) now (leads_to files f line) ≡ Err fault
+        → Goes files left f n (line ∷ lines) w (Err fault)
+    -- a file to which it leads has a fault
+    stops : (left f n : ℕ) (line : Line) (lines : List Line) (w now : Walked) (inner : List ℕ) (fault : LoadFault)
+        → taken (name_of files f) (record { file = f; line = n }) line w ≡ Ok now
+        → opened files (site files f n) now (leads_to files f line) ≡ Ok inner
+        → Enters files left (site files f n) inner now (Err fault)
+        → Goes files left f n (line ∷ lines) w (Err fault)
+    -- the line, the files to which it leads, and the lines behind it
+    onward : (left f n : ℕ) (line : Line) (lines : List Line) (w now within : Walked) (inner : List ℕ) (outcome : Result Walked LoadFault)
+        → taken (name_of files f) (record { file = f; line = n }) line w ≡ Ok now
+        → opened files (site files f n) now (leads_to files f line) ≡ Ok inner
+        → Enters files left (site files f n) inner now (Ok within)
+        → Goes files left f (n + 1) lines within outcome
+        → Goes files left f n (line ∷ lines) w outcome
+
+  -- what comes of these files, one after another, to which the line at this site leads
+  pub data Enters (files : List FileReading) : ℕ → Site → List ℕ → Walked → Result Walked LoadFault → Type 0 where
+    none : (left : ℕ) (at : Site) (w : Walked) → Enters files left at [] w (Ok w)
+    -- the file is on the walk already
+    again : (left : ℕ) (at : Site) (f : ℕ) (rest : List ℕ) (w : Walked)
+        → is_on w f ≡ true → Enters files left at (f ∷ rest) w (Err (twice files at f))
+    deep : (at : Site) (f : ℕ) (rest : List ℕ) (w : Walked)
+        → is_on w f ≡ false → Enters files zero at (f ∷ rest) w (Err (TooDeep at.file at.row))
+    inside : (left : ℕ) (at : Site) (f : ℕ) (rest : List ℕ) (w : Walked) (fault : LoadFault)
+        → is_on w f ≡ false → Goes files left f 0 (lines_of files f) (enter f w) (Err fault)
+        → Enters files (suc left) at (f ∷ rest) w (Err fault)
+    more : (left : ℕ) (at : Site) (f : ℕ) (rest : List ℕ) (w now : Walked) (outcome : Result Walked LoadFault)
+        → is_on w f ≡ false → Goes files left f 0 (lines_of files f) (enter f w) (Ok now)
+        → Enters files (suc left) at rest now outcome
+        → Enters files (suc left) at (f ∷ rest) w outcome
+
+-- what comes of all that the first file leads to
+abbrev pub IsWalkOf : List FileReading → Result Walked LoadFault → Type 0
+IsWalkOf files outcome = Goes files depth_limit 0 0 (lines_of files 0) (enter 0 nothing) outcome

@@ -1,0 +1,230 @@
+//! Files that are read.
+
+ghost use Rattle.std.specs.Prelude.{◌≡◌, ◌≤◌, ◌∷◌, [], ◌++◌, length, slice_get, option_map, IfOk, OnOk, Some};
+ghost use Rattle.sudoers_text.specs.Line.{join};
+ghost use Rattle.sudoers_text.specs.Fault.{text_limit};
+ghost use Rattle.sudoers_tree.specs.Files.{fault_of, lines_of, name_of, reading_of, row_of};
+ghost use Rattle.sudoers_tree.specs.Fault.{syntax_fault};
+ghost use Rattle.sudoers_tree.specs.Line.{Line as LineOf, line_shown, lines_shown};
+ghost use Rattle.sudoers_tree.specs.Load.{reserved_in};
+ghost use Rattle.sudoers_tree.specs.Reading.{or_later};
+ghost use Rattle.sudoers_tree.specs.Policy.{texts};
+ghost use Rattle.sudoers_tree.specs.Definition.{definitions};
+ghost use Rattle.sudoers_tree.specs.Index.{Indexes};
+ghost use Rattle.sudoers_tree.specs.internal.Files.{no_files, number_in};
+ghost use Rattle.sudoers_tree.specs.internal.Passing.{Passes};
+
+use crate::fault::{ReadFault, SyntaxFault};
+use crate::index::{Index, first_reserved};
+use crate::line::{Line, LineRow};
+use crate::passing::pass_line;
+use crate::place::Spot;
+use crate::position::lf_count;
+use crate::reading::read_lines;
+use crate::tree::Tree;
+use std::alloc::{AllocError, Global};
+use std::marker::Model;
+use sudoers_line::Items;
+use sudoers_line_rows::Rows;
+use sudoers_text::Lines;
+
+/// A file that is read: its name, its lines among those of all, from the one with the number `start` up to that with the
+/// number `stop`, and the fault of the line behind them.
+#[derive(Drop)]
+struct Part {
+    name: Items<u8>,
+    start: usize,
+    stop: usize,
+    fault: Option<SyntaxFault>,
+}
+
+impl Part {
+    /// Returns the number among all lines of the line with the number `line` of the file, if there is one.
+    fn number(&self, line: usize) -> Option<usize>
+        ensures { result ≡ number_in self.now line }
+    {
+        if line < self.stop.saturating_sub(self.start) {
+            return Some(self.start + line);
+        }
+        None
+    }
+}
+
+/// Files that are read, and the walk over them. Contracts see of each file the name, the lines up to the first that says nothing,
+/// and the fault of that one; and the lines of the walk.
+#[derive(Drop)]
+pub struct Files {
+    tree: Tree,
+    parts: Vec<Part>,
+}
+
+impl Model for Files {
+    ghost use Rattle.std.specs.Prelude.{map};
+    ghost use Rattle.std.specs.List.{All};
+    ghost use Rattle.sudoers_tree.specs.internal.Files.{IsPart, Read, reading_in};
+
+    ghost Value = { Read };
+
+    ghost view = { λ files. record { files = map (reading_in files.tree.all) files.parts.items; walk = files.tree.walk } };
+
+    ghost invariant = { λ files. All (IsPart files.tree.all) files.parts.items };
+}
+
+impl Files {
+    /// Returns no files.
+    ///
+    /// # Errors
+    ///
+    /// Memory ran out.
+    pub fn new(alloc: Global, count: usize) -> Result<Files, AllocError>
+        ensures { IfOk result (λ files. files ≡ no_files) }
+    {
+        Ok(Files {
+            tree: Tree::new(alloc, None, 0)?,
+            parts: Vec::with_capacity(alloc, count)?,
+        })
+    }
+
+    /// Returns the files with one more, of the name `name`, whose lines are `lines`.
+    ///
+    /// # Errors
+    ///
+    /// Memory ran out.
+    pub fn with_file(
+        mut self,
+        alloc: Global,
+        name: &[u8],
+        lines: &Lines<'_>,
+    ) -> Result<Files, AllocError>
+        requires { length (join lines.now) ≤ text_limit }
+        ensures { IfOk result (λ files. files ≡ record { files = self.files ++ reading_of name.now lines.now ∷ []; walk = self.walk }) }
+    {
+        let start = self.tree.len();
+        let fault = read_lines(alloc, &mut self.tree, lines)?;
+        let stop = self.tree.len();
+        self.parts.push(Part {
+            name: Items::from_slice(alloc, name)?,
+            start,
+            stop,
+            fault,
+        })?;
+        Ok(self)
+    }
+
+    /// Returns how many files there are.
+    pub fn len(&self) -> usize
+        ensures { result ≡ length self.now.files }
+    {
+        self.parts.len()
+    }
+
+    /// Returns the name of the file with the number `file`, from 0; no bytes if there is none.
+    pub fn name(&self, file: usize) -> &[u8]
+        ensures { result.now ≡ name_of self.now.files file }
+    {
+        match self.parts.get(file) {
+            Some(part) => part.name.as_slice(),
+            None => &[],
+        }
+    }
+
+    /// Returns the fault with which the reading of the file ended.
+    pub fn fault(&self, file: usize) -> Option<SyntaxFault>
+        ensures { result ≡ fault_of self.now.files file }
+    {
+        self.parts.get(file)?.fault
+    }
+
+    /// Returns how many lines of the file are read.
+    pub fn line_count(&self, file: usize) -> usize
+        ensures { result ≡ length (lines_of self.now.files file) }
+    {
+        match self.parts.get(file) {
+            Some(part) => part.stop - part.start,
+            None => 0,
+        }
+    }
+
+    /// Returns the line at `at`.
+    pub fn line(&self, at: Spot) -> Option<Line<'_>>
+        ensures { option_map line_shown result ≡ slice_get (lines_of self.now.files at.file) at.line }
+    {
+        let part = self.parts.get(at.file)?;
+        self.tree.line(part.number(at.line)?)
+    }
+
+    /// Returns the lines of the walk.
+    pub fn walk(&self) -> Rows<'_, LineRow>
+        ensures { lines_shown result ≡ self.now.walk }
+    {
+        self.tree.walk()
+    }
+
+    /// Returns the first fault that the file with the number `file` has if it is not on the walk.
+    ///
+    /// # Errors
+    ///
+    /// Memory ran out.
+    pub fn fault_off(&self, alloc: Global, file: usize) -> Result<Option<ReadFault>, AllocError>
+        ensures { IfOk result (λ fault. fault ≡ or_later (reserved_in (lines_of self.now.files file)) (option_map syntax_fault (fault_of self.now.files file))) }
+    {
+        for line in 0..self.line_count(file) {
+            let Some(line) = self.line(Spot { file, line }) else {
+                return Ok(None);
+            };
+            if let Some(fault) = first_reserved(alloc, &line.node)? {
+                return Ok(Some(fault));
+            }
+        }
+        match self.fault(file) {
+            Some(fault) => Ok(Some(fault.into())),
+            None => Ok(None),
+        }
+    }
+
+    /// Appends the line at `at` to the walk, and enters the names that it defines.
+    ///
+    /// # Errors
+    ///
+    /// Why the first name that cannot be entered cannot, or `NoMemory`: memory ran out.
+    pub fn pass(&mut self, alloc: Global, index: &mut Index, at: Spot) -> Result<(), ReadFault>
+        requires { Indexes index.old (definitions self.old.walk) }
+        ensures files { self.new.files ≡ self.old.files }
+        ensures index { OnOk result (Indexes index.new (definitions self.new.walk)) }
+        ensures passes { (line : LineOf) → slice_get (lines_of self.old.files at.file) at.line ≡ Some line
+            → Passes result self.old.walk self.new.walk index.new line }
+    {
+        let Some(part) = self.parts.get(at.file) else {
+            return Ok(());
+        };
+        let Some(number) = part.number(at.line) else {
+            return Ok(());
+        };
+        pass_line(alloc, &mut self.tree, index, number)
+    }
+
+    /// A law: the lines of a file are within the limit of a text.
+    fn file_fits(&self, file: usize)
+        ensures { length (join (texts (lines_of self.now.files file))) ≤ text_limit }
+    {
+        let _ = &self.parts;
+    }
+
+    /// Returns the physical line on which the line at `at` begins, from 1.
+    pub fn row(&self, at: Spot) -> usize
+        ensures { result ≡ row_of (lines_of self.now.files at.file) at.line }
+    {
+        self.file_fits(at.file);
+        let mut row = 1;
+        for line in 0..at.line.min(self.line_count(at.file)) {
+            let Some(line) = self.line(Spot {
+                file: at.file,
+                line,
+            }) else {
+                return row;
+            };
+            row += lf_count(line.text);
+        }
+        row
+    }
+}

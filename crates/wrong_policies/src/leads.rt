@@ -1,0 +1,30 @@
+//! Where include lines lead.
+
+ghost use Rattle.std.specs.Prelude.{◌≡◌, IfOk};
+ghost use Rattle.sudoers_line_rows.specs.View.{node_shown};
+ghost use Rattle.sudoers_tree.specs.Lead.{lead_of, leads};
+
+use std::alloc::{AllocError, Global};
+use sudoers_tree::{Lead, Node};
+
+/// Returns where a line of the file `name` leads that says `node`.
+///
+/// # Errors
+///
+/// Memory ran out.
+pub fn lead_of_node(alloc: Global, name: &[u8], node: &Node<'_>) -> Result<Option<Lead>, AllocError>
+    ensures { IfOk result (λ lead. lead ≡ lead_of name.now (node_shown node.now)) }
+{
+    sudoers_tree::lead_of(alloc, name, node)
+}
+
+/// Returns where the line `line` of the file `name` leads.
+///
+/// # Errors
+///
+/// Memory ran out.
+pub fn lead_of_line(alloc: Global, name: &[u8], line: &[u8]) -> Result<Option<Lead>, AllocError>
+    ensures { IfOk result (λ lead. lead ≡ leads name.now line.now) }
+{
+    sudoers_tree::leads(alloc, name, line)
+}
