@@ -50,6 +50,7 @@ TERMS = (
     (r"decimal at", "N"),
     (r"kind_name k", "KIND"),
     (r"name_text file k name", "FILE: KIND NAME"),
+    (r"include_text file line name", "FILE:LINE:1: include NAME"),
     (r"why_name why", "CAUSE"),
     (r'script_text line \(codes "(.*)"\)', r"script:LINE: \1"),
     (r'edit_name place \(codes "(.*)"\)', r"edit N: \1"),
@@ -57,6 +58,13 @@ TERMS = (
     (r"(text_of_\w+|cvt_name|filter_name|who_name|ask_name) .*", "ERROR"),
 )
 CARRIED = "ERROR"
+
+# The texts that no command prints, because none reads included files.
+NOT_PRINTED = {
+    "FILE:LINE:1: include NAME not loaded",
+    "FILE:LINE:1: include NAME twice",
+    "FILE:LINE:1: includes nested too deep",
+}
 
 # The files that PEOPLE stands for in a text.
 PEOPLE = ("passwd", "group")
@@ -225,7 +233,7 @@ def run_errors(tally):
     named = sorted((name, variant) for name, names in declared.items() for variant in names)
     tally.note("manual page, variants", difference("variants", named, sorted(known)))
     printed = Counter(text.replace("PEOPLE", file) for text in known.values() for file in PEOPLE[: 1 + ("PEOPLE" in text)])
-    wanted = set(printed) - {CARRIED} | set(notes())
+    wanted = set(printed) - {CARRIED} - NOT_PRINTED | set(notes())
     items = [line[len(".It ") :].replace('"', "") for line in section("DIAGNOSTICS") if line.startswith(".It ")]
     problems = [f"{item!r} is missing" for item in sorted(wanted - set(items))]
     problems += [f"nothing prints {item!r}" for item in sorted(set(items) - wanted)]

@@ -1,6 +1,7 @@
 """Draws what the libraries of policies and editors answer, as the tables of `tree`, `check` and `edit` write it."""
 
 import json
+import re
 
 import said
 from nodes import items
@@ -62,6 +63,10 @@ def drawn_node(line, node):
         )
     groups = " : ".join(drawn_group(line, group) for group in items(node["groups"]))
     return f"spec {drawn_members(line, items(node['users']))} {groups}"
+
+
+# The errors of a line that includes a file.
+INCLUDE_FAULTS = ("NotLoaded", "Twice", "TooDeep")
 
 
 def drawn_fault(fault):
@@ -186,14 +191,32 @@ def drawn_load(files, line):
     if isinstance(fault, str):
         return fault
     file = drawn_name(bytes(items(fault["file"])))
-    if fault[""] == "InFile":
-        return f"{file}: {drawn_fault(fault['fault'])}"
-    words = [fault[""], file]
-    if "line" in fault:
-        words.append(str(fault["line"]))
-    if "name" in fault:
-        words.append(drawn_name(bytes(items(fault["name"]))))
-    return " ".join(words)
+    if fault[""] == "SameName":
+        return f"SameName {file}"
+    inner = fault["fault"]
+    if isinstance(inner, list) or inner[""] not in INCLUDE_FAULTS:
+        return f"{file}: {drawn_fault(inner)}"
+    name = [drawn_name(bytes(items(inner["name"])))] if "name" in inner else []
+    return " ".join([inner[""], file, str(inner["line"]), *name])
+
+
+def drawn_calls(outcome, count):
+    """An outcome, and how often the files were asked for it."""
+    return f"{outcome} | {count} call{'s' * (count > 1)}"
+
+
+def drawn_gather(files, line):
+    """The names of the files that are gathered, or an error. A file that has not all bytes that it was given is shown with their number."""
+    *found, count = line.split("\t")
+    if not all(re.search(r":\d+$", one) for one in found):
+        return drawn_calls(" ".join(found), int(count))
+    sizes = {name: len(text) for name, text in reversed(files)}
+    drawn = []
+    for one in found:
+        name, _, size = one.rpartition(":")
+        name = bytes_of(name)
+        drawn.append(drawn_name(name) + f" ({size} bytes)" * (sizes.get(name) != int(size)))
+    return drawn_calls(", ".join(drawn), int(count))
 
 
 def drawn_policy(line):

@@ -9,6 +9,8 @@ The words of a group's head say what its rows are. Two rows, a case and its answ
                         `says nothing` if it leads nowhere because it is no line that says something
     load                files `NAME: TEXT` with ` | ` between two, the root first; and the lines of their walk, each by
                         its file and its number there, from 1, and behind ` | ` the files on the walk; or the error
+    gather ROOT         files as for `load`; and those that are gathered from this root on, or the error, and behind ` | `
+                        how often the files are asked. Each of these calls fails in turn
     read                `read`, or the error
     rows                the physical lines on which the lines of a policy begin, or the error
     defined KIND NAME   the line and the place of a definition, from 0, and its members
@@ -48,8 +50,10 @@ from policies import (
     Line,
     bytes_of,
     drawn_bytes,
+    drawn_calls,
     drawn_change,
     drawn_definition,
+    drawn_gather,
     drawn_leads,
     drawn_line_fault,
     drawn_load,
@@ -298,11 +302,32 @@ def file_of(row):
     return text_of(name), text_of(text[1:])
 
 
+def files_of(row):
+    """The names and texts of files with ` | ` between two, and the parts of a body that they are."""
+    files = [file_of(one) for one in unrolled(row).split(" | ")]
+    return files, joined(*(piece for file in files for piece in file))
+
+
 def load(name, _words, _text, row, answer):
     """The walk over files, or their error."""
-    files = [file_of(one) for one in unrolled(row).split(" | ")]
-    parts = joined(*(piece for file in files for piece in file))
+    files, parts = files_of(row)
     calls = [("load", call(b"f"), wanted_row(answer), lambda line: drawn_load(files, line))]
+    yield from cases_of_calls(name, b"t", parts, calls)
+
+
+def gather(name, words, _text, row, answer):
+    """The files that are gathered from a root on, or their error; and the error of each call that fails."""
+    files, parts = files_of(row)
+    wanted = wanted_row(answer)
+    asked = re.search(r" \| (\d+) calls?$", wanted)
+    if not asked:
+        raise NoRow(f"no count of calls: {answer}")
+    failing = [(number, drawn_calls("Device(Failed)", number)) for number in range(1, int(asked[1]) + 1)]
+    calls = [
+        (f"call {number} fails" if number else "gathered", call(b"g", number.to_bytes(8, "big") + text_of(words[0])), answer, drawn)
+        for drawn in [lambda line: drawn_gather(files, line)]
+        for number, answer in [(0, wanted), *failing]
+    ]
     yield from cases_of_calls(name, b"t", parts, calls)
 
 
@@ -386,6 +411,7 @@ PAIRS = {
     "one-line": (0, one_line),
     "line-of": (1, line_of),
     "load": (0, load),
+    "gather": (1, gather),
     "read": (0, read),
     "rows": (0, rows),
     "defined": (2, defined),

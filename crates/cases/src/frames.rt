@@ -20,6 +20,8 @@ pub enum Subject {
     Edit,
     /// What the benchmark times.
     Work,
+    /// The files of the disk.
+    Disk,
 }
 
 impl Subject {
@@ -31,6 +33,7 @@ impl Subject {
             b'p' => Some(Subject::People),
             b'e' => Some(Subject::Edit),
             b'w' => Some(Subject::Work),
+            b'd' => Some(Subject::Disk),
             _ => None,
         }
     }

@@ -19,7 +19,7 @@ pub fn push_answer(alloc: Global, parts: &[u8], answers: &mut String) -> Result<
 }
 
 /// Returns the files that `parts` are, a name and a text each.
-fn files_of(alloc: Global, parts: &[u8]) -> Result<Vec<NamedFile>, AllocError> {
+pub fn files_of(alloc: Global, parts: &[u8]) -> Result<Vec<NamedFile>, AllocError> {
     let mut files = Vec::new(alloc);
     let mut left = parts;
     for _ in 0..parts.len() {

@@ -2,7 +2,7 @@
 
 use crate::drawn::{push_debug, push_shown};
 use crate::frames::{Call, next_call};
-use crate::loads;
+use crate::{gathers, loads};
 use std::alloc::{AllocError, Global};
 use sudoers_edit::{Edit, Edits, MAX_EDITS, ScriptFault, Text, read_script, write_script};
 use sudoers_tree::{ALIAS_LIMIT, Kind, lead_of, leads, read_line};
@@ -21,6 +21,8 @@ pub fn push_answer(
         b'i' => push_leads(alloc, call.body, text, answers),
         // What comes of the files that the text is, a name and a text each.
         b'f' => loads::push_answer(alloc, text, answers),
+        // Which call fails, and the name of the root: what is gathered of the files that the text is.
+        b'g' => gathers::push_answer(alloc, call.body, text, answers),
         // How many edits the text spells as a script.
         b'r' => push_count(alloc, text, answers),
         // Further edits: the script of the text's edits and of those.

@@ -46,14 +46,17 @@ pub fn check(alloc: Global, policy: &Policy) -> Result<Report, AllocError>
 pub fn unused(alloc: Global, policy: &Policy) -> Result<Vec<(Kind, Place)>, AllocError>
     ensures { IfOk result (λ places. places.items ≡ map (λ (d : Definition). (d.kind, d.place)) (unused_of policy.now)) }
 {
-    let walk = policy.walk();
-    let numbers = Numbers::new(alloc, walk)?;
-    let reached = mark_used(alloc, &numbers, &walk.lines())?;
-    unmarked(alloc, walk, reached.as_slice())
+    let numbers = Numbers::new(alloc, policy.walk())?;
+    let reached = mark_used(alloc, &numbers, &numbers.walk.lines())?;
+    unmarked(alloc, &numbers.walk, reached.as_slice())
 }
 
 /// Returns the places of the definitions that have no mark, with their kinds.
-fn unmarked(alloc: Global, walk: &Walk, marks: &[bool]) -> Result<Vec<(Kind, Place)>, AllocError>
+fn unmarked(
+    alloc: Global,
+    walk: &Walk<'_>,
+    marks: &[bool],
+) -> Result<Vec<(Kind, Place)>, AllocError>
     requires { length marks.now ≡ length (definitions walk.now) }
     ensures { IfOk result (λ places. places.items
         ≡ map (λ (d : Definition). (d.kind, d.place)) (picked false marks.now (definitions walk.now))) }
@@ -81,7 +84,7 @@ pub fn mark_used(
     numbers: &Numbers<'_>,
     lines: &Rows<'_, LineRow>,
 ) -> Result<Vec<bool>, AllocError>
-    requires { definitions (lines_shown lines.now) ≡ definitions numbers.now.walk.now }
+    requires { definitions (lines_shown lines.now) ≡ definitions numbers.now.walk }
     ensures { IfOk result (λ marks. marks.items ≡ map (is_used (lines_shown lines.now)) (definitions (lines_shown lines.now))) }
 {
     let links = numbers.links(alloc, lines)?;
@@ -96,9 +99,9 @@ fn reached(
     links: &Links,
     lines: &Rows<'_, LineRow>,
 ) -> Result<Vec<bool>, AllocError>
-    requires graph { links.now.graph ≡ graph_of (definitions numbers.now.walk.now) }
-    requires roots { links.now.roots.items ≡ roots_since (definitions numbers.now.walk.now) 0 (lines_shown lines.now) }
-    requires same { definitions (lines_shown lines.now) ≡ definitions numbers.now.walk.now }
+    requires graph { links.now.graph ≡ graph_of (definitions numbers.now.walk) }
+    requires roots { links.now.roots.items ≡ roots_since (definitions numbers.now.walk) 0 (lines_shown lines.now) }
+    requires same { definitions (lines_shown lines.now) ≡ definitions numbers.now.walk }
     ensures { IfOk result (λ marks. marks.items ≡ map (is_used (lines_shown lines.now)) (definitions (lines_shown lines.now))) }
 {
     numbers.walk.is_walk();
@@ -108,8 +111,8 @@ fn reached(
 
 /// Returns a mark for each definition: whether it is joined to itself.
 fn cyclic(alloc: Global, numbers: &Numbers<'_>, graph: &Graph) -> Result<Vec<bool>, AllocError>
-    requires { graph.now ≡ graph_of (definitions numbers.now.walk.now) }
-    ensures { IfOk result (λ marks. marks.items ≡ map (is_cyclic numbers.now.walk.now) (definitions numbers.now.walk.now)) }
+    requires { graph.now ≡ graph_of (definitions numbers.now.walk) }
+    ensures { IfOk result (λ marks. marks.items ≡ map (is_cyclic numbers.now.walk) (definitions numbers.now.walk)) }
 {
     numbers.walk.is_walk();
     let marks = on_cycles(alloc, graph)?;

@@ -33,12 +33,12 @@ pub struct Links {
 /// The numbers of the definitions of a policy, in file order from 0.
 #[derive(Drop)]
 pub struct Numbers<'a> {
-    pub walk: &'a Walk,
+    pub walk: Walk<'a>,
     /// The lines that define aliases, in file order.
     firsts: Vec<First>,
     count: usize,
-    ghost firsts_are: { firsts.items ≡ firsts_since 0 0 walk.now },
-    ghost count_is: { count ≡ length (definitions walk.now) },
+    ghost firsts_are: { firsts.items ≡ firsts_since 0 0 walk },
+    ghost count_is: { count ≡ length (definitions walk) },
 }
 
 /// Adds the line with this number, before which `number` definitions stand, if it defines any aliases.
@@ -74,8 +74,8 @@ impl<'a> Numbers<'a> {
     /// # Errors
     ///
     /// Memory ran out.
-    pub fn new(alloc: Global, walk: &'a Walk) -> Result<Numbers<'a>, AllocError>
-        ensures { IfOk result (λ numbers. numbers.walk.now ≡ walk.now) }
+    pub fn new(alloc: Global, walk: Walk<'a>) -> Result<Numbers<'a>, AllocError>
+        ensures { IfOk result (λ numbers. numbers.walk ≡ walk.entry) }
     {
         walk.is_walk();
         let mut firsts = Vec::new(alloc);
@@ -95,14 +95,14 @@ impl<'a> Numbers<'a> {
 
     /// Returns how many definitions there are.
     pub fn len(&self) -> usize
-        ensures { result ≡ length (definitions self.now.walk.now) }
+        ensures { result ≡ length (definitions self.now.walk) }
     {
         self.count
     }
 
     /// Returns the number of the definition of the alias `name` of this kind, if it is defined.
     pub fn of(&self, kind: Kind, name: &[u8]) -> Option<usize>
-        ensures { result ≡ number_of kind name.now (definitions self.now.walk.now) }
+        ensures { result ≡ number_of kind name.now (definitions self.now.walk) }
     {
         self.walk.is_walk();
         let place = self.walk.definition(kind, name)?;
@@ -112,7 +112,7 @@ impl<'a> Numbers<'a> {
 
     /// Returns the lines that define aliases, in file order.
     pub fn firsts(&self) -> &[First]
-        ensures { result.now ≡ firsts_since 0 0 self.now.walk.now }
+        ensures { result.now ≡ firsts_since 0 0 self.now.walk }
     {
         self.firsts.as_slice()
     }
@@ -125,9 +125,9 @@ impl<'a> Numbers<'a> {
         alloc: Global,
         lines: &Rows<'_, LineRow>,
     ) -> Result<Links, AllocError>
-        requires { definitions (lines_shown lines.now) ≡ definitions self.now.walk.now }
-        ensures graph { IfOk result (λ links. links.graph ≡ graph_of (definitions self.now.walk.now)) }
-        ensures roots { IfOk result (λ links. links.roots.items ≡ roots_since (definitions self.now.walk.now) 0 (lines_shown lines.now)) }
+        requires { definitions (lines_shown lines.now) ≡ definitions self.now.walk }
+        ensures graph { IfOk result (λ links. links.graph ≡ graph_of (definitions self.now.walk)) }
+        ensures roots { IfOk result (λ links. links.roots.items ≡ roots_since (definitions self.now.walk) 0 (lines_shown lines.now)) }
     {
         let mut nodes = Vec::new(alloc);
         let mut roots = Vec::new(alloc);
@@ -151,7 +151,7 @@ impl<'a> Numbers<'a> {
         nodes: &mut Vec<Vec<usize>>,
     ) -> Result<(), AllocError>
         ensures { OnOk result ((n : ℕ) → map (λ edges. edges.items) nodes.new.items ≡ map (λ edges. edges.items) nodes.old.items
-            ++ nodes_of (definitions self.now.walk.now) (definitions_in n (node_shown node.now))) }
+            ++ nodes_of (definitions self.now.walk) (definitions_in n (node_shown node.now))) }
     {
         match node {
             Node::Alias { kind, defs } => self.append_nodes(alloc, *kind, defs, nodes),
@@ -167,7 +167,7 @@ impl<'a> Numbers<'a> {
         nodes: &mut Vec<Vec<usize>>,
     ) -> Result<(), AllocError>
         ensures { OnOk result (map (λ edges. edges.items) nodes.new.items ≡ map (λ edges. edges.items) nodes.old.items
-            ++ map (λ (d : DefOf). numbers_of kind (names_in d.members) (definitions self.now.walk.now)) (defs_shown defs.now)) }
+            ++ map (λ (d : DefOf). numbers_of kind (names_in d.members) (definitions self.now.walk)) (defs_shown defs.now)) }
     {
         let tables = defs.tables;
         for row in defs.rows {
@@ -186,7 +186,7 @@ impl<'a> Numbers<'a> {
         members: &Rows<'_, MemberRow>,
     ) -> Result<Vec<usize>, AllocError>
         ensures { IfOk result (λ numbers. numbers.items
-            ≡ numbers_of kind (names_in (members_shown members.now)) (definitions self.now.walk.now)) }
+            ≡ numbers_of kind (names_in (members_shown members.now)) (definitions self.now.walk)) }
     {
         let aliases = list_aliases(alloc, kind, members)?;
         self.of_aliases(alloc, aliases.as_slice())
@@ -198,7 +198,7 @@ impl<'a> Numbers<'a> {
         alloc: Global,
         aliases: &[AliasMember<'_>],
     ) -> Result<Vec<usize>, AllocError>
-        ensures { IfOk result (λ numbers. numbers.items ≡ numbers_named (definitions self.now.walk.now) aliases.now) }
+        ensures { IfOk result (λ numbers. numbers.items ≡ numbers_named (definitions self.now.walk) aliases.now) }
     {
         let mut numbers = Vec::new(alloc);
         for alias in aliases {
@@ -218,7 +218,7 @@ impl<'a> Numbers<'a> {
         numbers: &mut Vec<usize>,
     ) -> Result<(), AllocError>
         ensures { OnOk result (numbers.new.items ≡ numbers.old.items
-            ++ numbers_among (definitions self.now.walk.now) (mentions_of number (node_shown node.now))) }
+            ++ numbers_among (definitions self.now.walk) (mentions_of number (node_shown node.now))) }
     {
         for mention in &mentioned_in(alloc, number, node)? {
             if let Some(number) = self.of(mention.kind, mention.name) {

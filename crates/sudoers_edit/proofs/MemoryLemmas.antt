@@ -71,6 +71,9 @@ of_text bytes (read.Syntax line col why) is = tt
 of_text bytes (read.Reserved k name) is = tt
 of_text bytes (read.Duplicate k name) is = tt
 of_text bytes (read.TooMany k) is = tt
+of_text bytes (read.NotLoaded line name) is = tt
+of_text bytes (read.Twice line name) is = tt
+of_text bytes (read.TooDeep line) is = tt
 of_text bytes read.NoMemory is = absurd is
 
 read_plain : (bytes : List ℕ) (r : Result (List Line) ReadFault) → IsOutcome bytes r → IsPlain (by_read r)

@@ -83,7 +83,7 @@ fn rule_text(
 fn append_inner(
     alloc: Global,
     out: &mut Vec<u8>,
-    walk: &Walk,
+    walk: &Walk<'_>,
     inner: &Inner<'_>,
     file: &[u8],
 ) -> Result<(), AllocError>

@@ -33,7 +33,7 @@ pub struct Rule<'a> {
 }
 
 /// Returns the line with the number `number`, from 0.
-pub fn find_line<'a>(walk: &'a Walk, number: usize) -> Option<LineAt<'a>>
+pub fn find_line<'a>(walk: &Walk<'a>, number: usize) -> Option<LineAt<'a>>
     ensures line { option_map numbered_shown result ≡ slice_get (numbered 1 walk.now) number }
     ensures small { IfSome result (λ at. at.row + length at.line.text.now ≤ 1048577) }
 {
@@ -53,7 +53,7 @@ pub fn find_line<'a>(walk: &'a Walk, number: usize) -> Option<LineAt<'a>>
 }
 
 /// Returns the command by which a request is answered, with the tags of the answer.
-pub fn find_rule<'a>(walk: &'a Walk, found: &Found<'a>) -> Rule<'a>
+pub fn find_rule<'a>(walk: &Walk<'a>, found: &Found<'a>) -> Rule<'a>
     requires { IsFound walk.now found.now }
     ensures { IsRule result (deciding_rule walk.now (found_answer found.now)) }
 {

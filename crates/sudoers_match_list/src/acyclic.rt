@@ -31,9 +31,9 @@ impl<'a> Model for Acyclic<'a> {
 
     ghost Value = { List Line };
 
-    ghost view = { λ acyclic. acyclic.numbers.walk.now };
+    ghost view = { λ acyclic. acyclic.numbers.walk };
 
-    ghost invariant = { λ acyclic. HasReachableCycle acyclic.numbers.walk.now → ⊥ };
+    ghost invariant = { λ acyclic. HasReachableCycle acyclic.numbers.walk → ⊥ };
 }
 
 impl<'a> Acyclic<'a> {
@@ -42,10 +42,10 @@ impl<'a> Acyclic<'a> {
     /// # Errors
     ///
     /// `Cycle`: a reachable alias is cyclic. `NoMemory`: memory ran out.
-    pub fn new(alloc: Global, walk: &'a Walk) -> Result<Acyclic<'a>, AskFault>
-        ensures walk { IfOk result (λ acyclic. acyclic ≡ walk.now) }
-        ensures straight { IfOk result (λ _. HasReachableCycle walk.now → ⊥) }
-        ensures fault { IfErr result (λ fault. (fault ≡ NoMemory) ⊎ ((fault ≡ Cycle) × HasReachableCycle walk.now)) }
+    pub fn new(alloc: Global, walk: Walk<'a>) -> Result<Acyclic<'a>, AskFault>
+        ensures walk { IfOk result (λ acyclic. acyclic ≡ walk.entry) }
+        ensures straight { IfOk result (λ _. HasReachableCycle walk.entry → ⊥) }
+        ensures fault { IfErr result (λ fault. (fault ≡ NoMemory) ⊎ ((fault ≡ Cycle) × HasReachableCycle walk.entry)) }
     {
         let numbers = Numbers::new(alloc, walk)?;
         if has_reachable_cycle(alloc, &numbers)? {
@@ -63,15 +63,15 @@ impl<'a> Acyclic<'a> {
     }
 
     /// Returns the walk.
-    pub fn walk(&self) -> &'a Walk
+    pub fn walk(&self) -> &Walk<'a>
         ensures { result.now ≡ self.now }
     {
-        self.numbers.walk
+        &self.numbers.walk
     }
 
     /// Returns the numbers of the definitions.
     pub fn numbers(&self) -> &Numbers<'a>
-        ensures { result.now.walk.now ≡ self.now }
+        ensures { result.now.walk ≡ self.now }
     {
         &self.numbers
     }

@@ -19,8 +19,8 @@ pub struct Alias<'a> {
 
 /// Returns the alias that `atom` names in a list of this kind, if it is defined.
 pub fn find_alias<'a>(numbers: &Numbers<'a>, kind: Kind, atom: &Atom<'_>) -> Option<Alias<'a>>
-    ensures number { option_map (λ (alias : AliasOf). alias.number) result ≡ number_in kind numbers.now.walk.now (atom_shown atom.now) }
-    ensures alias { IfSome result (λ alias. IsAlias numbers.now.walk.now alias.number (members_shown alias.members)) }
+    ensures number { option_map (λ (alias : AliasOf). alias.number) result ≡ number_in kind numbers.now.walk (atom_shown atom.now) }
+    ensures alias { IfSome result (λ alias. IsAlias numbers.now.walk alias.number (members_shown alias.members)) }
 {
     numbers_are();
     let Atom::Alias(name) = *atom else {

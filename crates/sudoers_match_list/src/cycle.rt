@@ -47,8 +47,8 @@ fn name_leads_to_cycle<'a>(
     kind: Kind,
     name: &[u8],
 ) -> Result<bool, AllocError>
-    requires { Remembers kind numbers.now.walk.now (λ _. false) verdicts.old }
-    ensures { IfOk result (λ cycle. Finds kind numbers.now.walk.now name.now verdicts.new cycle) }
+    requires { Remembers kind numbers.now.walk (λ _. false) verdicts.old }
+    ensures { IfOk result (λ cycle. Finds kind numbers.now.walk name.now verdicts.new cycle) }
 {
     numbers.walk.is_walk();
     flat_then_no_cycle();
@@ -63,7 +63,7 @@ fn name_leads_to_cycle<'a>(
 
 impl<'a> ByKind<'a> {
     fn new(alloc: Global, numbers: &Numbers<'a>) -> Result<ByKind<'a>, AllocError>
-        ensures { IfOk result (λ known. AreRemembered numbers.now.walk.now known) }
+        ensures { IfOk result (λ known. AreRemembered numbers.now.walk known) }
     {
         Ok(ByKind {
             users: Verdicts::new(alloc, numbers)?,
@@ -80,8 +80,8 @@ impl<'a> ByKind<'a> {
         kind: Kind,
         name: &[u8],
     ) -> Result<bool, AllocError>
-        requires { AreRemembered numbers.now.walk.now self.old }
-        ensures { IfOk result (λ cycle. Tells numbers.now.walk.now (LeadsToCycle kind numbers.now.walk.now (called name.now)) self.new cycle) }
+        requires { AreRemembered numbers.now.walk self.old }
+        ensures { IfOk result (λ cycle. Tells numbers.now.walk (LeadsToCycle kind numbers.now.walk (called name.now)) self.new cycle) }
     {
         match kind {
             Kind::User => name_leads_to_cycle(&mut self.users, numbers, Kind::User, name),
@@ -97,8 +97,8 @@ impl<'a> ByKind<'a> {
         numbers: &Numbers<'a>,
         aliases: &[AliasMember<'_>],
     ) -> Result<bool, AllocError>
-        requires { AreRemembered numbers.now.walk.now self.old }
-        ensures { IfOk result (λ cycle. Tells numbers.now.walk.now (LeadToCycle numbers.now.walk.now aliases.now) self.new cycle) }
+        requires { AreRemembered numbers.now.walk self.old }
+        ensures { IfOk result (λ cycle. Tells numbers.now.walk (LeadToCycle numbers.now.walk aliases.now) self.new cycle) }
     {
         for alias in aliases {
             let cycle = self.alias_leads_to_cycle(numbers, alias.kind, alias.name)?;
@@ -116,8 +116,8 @@ impl<'a> ByKind<'a> {
         numbers: &Numbers<'a>,
         node: &Node<'_>,
     ) -> Result<bool, AllocError>
-        requires { AreRemembered numbers.now.walk.now self.old }
-        ensures { IfOk result (λ cycle. Tells numbers.now.walk.now (LeadToCycle numbers.now.walk.now (rooted (node_shown node.now))) self.new cycle) }
+        requires { AreRemembered numbers.now.walk self.old }
+        ensures { IfOk result (λ cycle. Tells numbers.now.walk (LeadToCycle numbers.now.walk (rooted (node_shown node.now))) self.new cycle) }
     {
         match node {
             Node::Spec { .. } | Node::Defaults { .. } => {
@@ -146,7 +146,7 @@ pub fn reachable_cycle(alloc: Global, policy: &Policy) -> Result<bool, AllocErro
 ///
 /// Memory ran out.
 pub fn has_reachable_cycle(alloc: Global, numbers: &Numbers<'_>) -> Result<bool, AllocError>
-    ensures { IfOk result (λ cycle. IsTrue cycle ↔ HasReachableCycle numbers.now.walk.now) }
+    ensures { IfOk result (λ cycle. IsTrue cycle ↔ HasReachableCycle numbers.now.walk) }
 {
     let mut known = ByKind::new(alloc, numbers)?;
     let lines = numbers.walk.lines();

@@ -62,7 +62,7 @@ impl<'a> Verdicts<'a> {
     ///
     /// Memory ran out.
     pub fn new(alloc: Global, numbers: &Numbers<'a>) -> Result<Verdicts<'a>, AllocError>
-        ensures { IfOk result (λ verdicts. (kind : KindOf) (test : AtomOf → Bool) → Remembers kind numbers.now.walk.now test verdicts) }
+        ensures { IfOk result (λ verdicts. (kind : KindOf) (test : AtomOf → Bool) → Remembers kind numbers.now.walk test verdicts) }
     {
         Ok(Verdicts {
             standings: Vec::from_elem(alloc, Standing::New, numbers.len())?,
@@ -82,8 +82,8 @@ impl<'a> Verdicts<'a> {
         members: &Rows<'_, MemberRow>,
         asked: &K::Asked,
     ) -> Result<Decision, AllocError>
-        requires { Remembers kind numbers.now.walk.now (K.test asked.now) self.old }
-        ensures { IfOk result (λ decision. Judges kind numbers.now.walk.now (K.test asked.now) (members_shown members.now) self.new decision) }
+        requires { Remembers kind numbers.now.walk (K.test asked.now) self.old }
+        ensures { IfOk result (λ decision. Judges kind numbers.now.walk (K.test asked.now) (members_shown members.now) self.new decision) }
     {
         let mut latest = None;
         let tables = members.tables;
@@ -109,9 +109,9 @@ impl<'a> Verdicts<'a> {
         alias: &Alias<'a>,
         asked: &K::Asked,
     ) -> Result<Decision, AllocError>
-        requires verdicts { Remembers kind numbers.now.walk.now (K.test asked.now) self.old }
-        requires alias { IsAlias numbers.now.walk.now alias.now.number (members_shown alias.now.members) }
-        ensures { IfOk result (λ decision. Settles kind numbers.now.walk.now (K.test asked.now) alias.now.number self.new decision) }
+        requires verdicts { Remembers kind numbers.now.walk (K.test asked.now) self.old }
+        requires alias { IsAlias numbers.now.walk alias.now.number (members_shown alias.now.members) }
+        ensures { IfOk result (λ decision. Settles kind numbers.now.walk (K.test asked.now) alias.now.number self.new decision) }
     {
         if let Standing::New = self.standings[alias.number] {
             self.enter(alias)?;
@@ -136,9 +136,9 @@ impl<'a> Verdicts<'a> {
         step: &Step<'a>,
         asked: &K::Asked,
     ) -> Result<bool, AllocError>
-        requires { IsSearch kind numbers.now.walk.now (K.test asked.now) self.old.standings.items (self.old.way.items ++ step.now ∷ []) }
-        ensures step { IfOk result (λ going. going ≡ true → IsStep kind numbers.now.walk.now (K.test asked.now) self.old.standings.items (self.old.way.items ++ step.now ∷ []) self.new.standings.items self.new.way.items) }
-        ensures cycle { IfOk result (λ going. going ≡ false → FindsItself kind numbers.now.walk.now step.now.alias) }
+        requires { IsSearch kind numbers.now.walk (K.test asked.now) self.old.standings.items (self.old.way.items ++ step.now ∷ []) }
+        ensures step { IfOk result (λ going. going ≡ true → IsStep kind numbers.now.walk (K.test asked.now) self.old.standings.items (self.old.way.items ++ step.now ∷ []) self.new.standings.items self.new.way.items) }
+        ensures cycle { IfOk result (λ going. going ≡ false → FindsItself kind numbers.now.walk step.now.alias) }
     {
         let Some(row) = step.members.rows.get(step.next) else {
             self.standings[step.alias] = Standing::Decided(step.latest);

@@ -81,6 +81,9 @@ gives (Err (read.Syntax row col why)) outcome is other = is
 gives (Err (read.Reserved k name)) outcome is other = is
 gives (Err (read.Duplicate k name)) outcome is other = is
 gives (Err (read.TooMany k)) outcome is other = is
+gives (Err (read.NotLoaded row name)) outcome is other = is
+gives (Err (read.Twice row name)) outcome is other = is
+gives (Err (read.TooDeep row)) outcome is other = is
 gives (Err read.NoMemory) outcome is other = absurd (other refl)
 
 not_large : (policy : Result (List Line) ReadFault) → policy ≢ Err (read.Text text.TooLarge) → policy_end policy ≡ Whole

@@ -53,6 +53,10 @@ why_name why.Regex = codes "Regex"
 abbrev pub name_text : List ℕ → Kind → List ℕ → List ℕ
 name_text file k name = file ++ codes ": " ++ kind_name k ++ codes " " ++ name
 
+-- an include line of a file, and the name to which it leads
+abbrev pub include_text : List ℕ → ℕ → List ℕ → List ℕ
+include_text file line name = file ++ codes ":" ++ decimal line ++ codes ":1: include " ++ name
+
 -- a fault of a policy: its lines and columns count from 1
 abbrev pub text_of_read : ReadFault → List ℕ → List ℕ
 text_of_read (read.Text fault) file = text_of_text fault file
@@ -61,6 +65,9 @@ text_of_read (read.Syntax line col why) file =
 text_of_read (read.Reserved k name) file = name_text file k name ++ codes " reserved"
 text_of_read (read.Duplicate k name) file = name_text file k name ++ codes " defined twice"
 text_of_read (read.TooMany k) file = file ++ codes ": too many " ++ kind_name k
+text_of_read (read.NotLoaded line name) file = include_text file line name ++ codes " not loaded"
+text_of_read (read.Twice line name) file = include_text file line name ++ codes " twice"
+text_of_read (read.TooDeep line) file = file ++ codes ":" ++ decimal line ++ codes ":1: includes nested too deep"
 text_of_read read.NoMemory file = codes "NoMemory"
 
 -- a fault at a line of the script

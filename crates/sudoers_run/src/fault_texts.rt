@@ -1,7 +1,7 @@
 //! The texts of the program's faults.
 ghost use Rattle.std.specs.Prelude.{◌≡◌, ◌+◌, ◌<◌, ◌^◌, ◌++◌, IfOk, OnOk};
 ghost use Rattle.std.specs.Fmt.{decimal};
-ghost use Rattle.sudoers_run.specs.FaultText.{ask_name, cvt_name, file_name, filter_name, text_of_people, text_of_tool, text_of_layer, text_of_read, text_of_text, text_of_script, text_of_edit, script_text, edit_name, name_text, who_name, why_name};
+ghost use Rattle.sudoers_run.specs.FaultText.{ask_name, cvt_name, file_name, filter_name, include_text, text_of_people, text_of_tool, text_of_layer, text_of_read, text_of_text, text_of_script, text_of_edit, script_text, edit_name, name_text, who_name, why_name};
 
 use crate::fault::{LayerFault, ToolFault};
 use std::alloc::{AllocError, Global};
@@ -139,6 +139,18 @@ pub fn read_fault_text(alloc: Global, fault: &ReadFault, file: &[u8]) -> Result<
             text.extend_from_slice(kind_name(*kind))?;
             Ok(text)
         }
+        ReadFault::NotLoaded { line, name } => {
+            include_text(alloc, *line, name.as_slice(), b" not loaded", file)
+        }
+        ReadFault::Twice { line, name } => {
+            include_text(alloc, *line, name.as_slice(), b" twice", file)
+        }
+        ReadFault::TooDeep { line } => {
+            let mut text = concat(alloc, file, b":")?;
+            append_number(alloc, &mut text, *line)?;
+            text.extend_from_slice(b":1: includes nested too deep")?;
+            Ok(text)
+        }
         ReadFault::NoMemory => Vec::from_slice(alloc, b"NoMemory"),
     }
 }
@@ -158,6 +170,24 @@ fn syntax_text(
     append_number(alloc, &mut text, col)?;
     text.extend_from_slice(b": syntax error: ")?;
     text.extend_from_slice(why_word(why))?;
+    Ok(text)
+}
+
+/// Returns a line of the file that includes `name`, and what is wrong with it.
+fn include_text(
+    alloc: Global,
+    line: usize,
+    name: &[u8],
+    wrong: &[u8],
+    file: &[u8],
+) -> Result<Vec<u8>, AllocError>
+    ensures { IfOk result (λ text. text.items ≡ include_text file.now line name.now ++ wrong.now) }
+{
+    let mut text = concat(alloc, file, b":")?;
+    append_number(alloc, &mut text, line)?;
+    text.extend_from_slice(b":1: include ")?;
+    text.extend_from_slice(name)?;
+    text.extend_from_slice(wrong)?;
     Ok(text)
 }
 

@@ -9,7 +9,7 @@ use Rattle.sudoers_line.specs.declared.node.Kind.TheVariants.{User, Runas, Host,
 use Rattle.sudoers_line.specs.Node.{Def}
 use Rattle.sudoers_tree.specs.declared.place.Place.{Place}
 use Rattle.sudoers_tree.specs.declared.fault.ReadFault.{ReadFault}
-use Rattle.sudoers_tree.specs.declared.fault.ReadFault.TheVariants.{Text, Syntax, Reserved, Duplicate, TooMany, NoMemory}
+use Rattle.sudoers_tree.specs.declared.fault.ReadFault.TheVariants.{Text, Syntax, Reserved, Duplicate, TooMany, NotLoaded, Twice, TooDeep, NoMemory}
 use Rattle.sudoers_tree.specs.Definition.{Definition, is_kind, definitions_from, defined}
 use Rattle.sudoers_tree.specs.Policy.{alias_limit, count_of}
 use Rattle.sudoers_tree.specs.Fault.{is_some, name_fault}
@@ -192,6 +192,9 @@ enters k line before defs r new index comes indexes = by r comes
     by (Err (Reserved kind name)) is = told (Err (Reserved kind name)) is
     by (Err (Duplicate kind name)) is = told (Err (Duplicate kind name)) is
     by (Err (TooMany kind)) is = told (Err (TooMany kind)) is
+    by (Err (NotLoaded row name)) is = told (Err (NotLoaded row name)) is
+    by (Err (Twice row name)) is = told (Err (Twice row name)) is
+    by (Err (TooDeep row)) is = told (Err (TooDeep row)) is
     by (Err NoMemory) is = tt
 
 -- A kind of which the line defines nothing keeps its names.

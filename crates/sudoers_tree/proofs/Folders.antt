@@ -1,13 +1,14 @@
 -- Names of folders: the front of a name up to its last `/`, and names without the `/` at their end.
-use Rattle.std.proofs.Common.{◌≡◌, ℕ, zero, suc, ◌+◌, ◌<◌, Bool, true, false, ◌==◌, ◌&&◌, ◌||◌, if◌then◌else◌, List, [], ◌∷◌, ◌++◌, length, take, refl, sym, ap, ◌∙◌, arith}
+use Rattle.std.proofs.Common.{◌≡◌, ℕ, zero, suc, ◌+◌, ◌<◌, Bool, true, false, ◌==◌, ◌&&◌, ◌||◌, if◌then◌else◌, List, [], ◌∷◌, ◌++◌, length, take, Option, Some, None, refl, sym, ap, ◌∙◌, arith}
 use Rattle.std.specs.List.{list_all}
-use Rattle.memchr.specs.Find.{Nowhere, NoneAfter, Passes, is_byte}
+use Rattle.std.specs.Option.{is_some}
+use Rattle.memchr.specs.Find.{IsFirstByte, Nowhere, NoneAfter, Passes, is_byte}
 use Rattle.sudoers_line.specs.Piece.{has_byte}
 use Rattle.sudoers_tree.specs.Lead.{folder_of, without_slashes}
 
 -- ---- the front of a name up to its last `/`
 
-pub no_byte : (x : ℕ) (name : List ℕ) → Nowhere (Passes (is_byte x) name) 0 (length name) → has_byte x name ≡ false
+no_byte : (x : ℕ) (name : List ℕ) → Nowhere (Passes (is_byte x) name) 0 (length name) → has_byte x name ≡ false
 no_byte x [] none = refl
 no_byte x (b ∷ name) none = by (b == x) refl (no_byte x name (λ k low high p. none (suc k) (omega arith) (omega (arith, high)) p))
   where
@@ -19,10 +20,14 @@ or_right : (t u : Bool) → u ≡ true → (t || u) ≡ true
 or_right true u e = refl
 or_right false u e = e
 
-one_slash : (name : List ℕ) (at : ℕ) → at < length name → Passes (is_byte 47) name at → has_byte 47 name ≡ true
-one_slash [] at within slash = absurd (omega (arith, within))
-one_slash (b ∷ name) zero within slash = ap (λ t. t || has_byte 47 name) slash
-one_slash (b ∷ name) (suc at) within slash = or_right (b == 47) (has_byte 47 name) (one_slash name at (omega (arith, within)) slash)
+one_byte : (x : ℕ) (name : List ℕ) (at : ℕ) → at < length name → Passes (is_byte x) name at → has_byte x name ≡ true
+one_byte x [] at within is = absurd (omega (arith, within))
+one_byte x (b ∷ name) zero within is = ap (λ t. t || has_byte x name) is
+one_byte x (b ∷ name) (suc at) within is = or_right (b == x) (has_byte x name) (one_byte x name at (omega (arith, within)) is)
+
+pub byte_found : (x : ℕ) (name : List ℕ) (first : Option ℕ) → IsFirstByte (is_byte x) name first → is_some first ≡ has_byte x name
+byte_found x name None none = sym (no_byte x name none)
+byte_found x name (Some at) first = sym (one_byte x name at first.0.high first.1)
 
 pub folder_none : (name : List ℕ) → Nowhere (Passes (is_byte 47) name) 0 (length name) → folder_of name ≡ []
 folder_none [] none = refl
@@ -33,7 +38,7 @@ pub folder_last : (name : List ℕ) (at : ℕ) → NoneAfter (Passes (is_byte 47
 folder_last [] at none slash = absurd (omega (arith, none.high))
 folder_last (b ∷ name) zero none slash =
     let behind = folder_none name (λ k low high p. none.after (suc k) (omega arith) (omega (arith, high)) p) in
-    sym (ap (λ t. if t then b ∷ folder_of name else []) (one_slash (b ∷ name) zero (omega arith) slash) ∙ ap (λ ns. b ∷ ns) behind)
+    sym (ap (λ t. if t then b ∷ folder_of name else []) (one_byte 47 (b ∷ name) zero (omega arith) slash) ∙ ap (λ ns. b ∷ ns) behind)
 folder_last (b ∷ name) (suc at) none slash =
     let later : NoneAfter (Passes (is_byte 47) name) 0 (length name) at =
     record {
@@ -41,7 +46,7 @@ folder_last (b ∷ name) (suc at) none slash =
       high = omega (arith, none.high);
       after = λ k low high p. none.after (suc k) (omega (arith, low)) (omega (arith, high)) p;
     } in
-    let here = one_slash (b ∷ name) (suc at) (omega (arith, none.high)) slash in
+    let here = one_byte 47 (b ∷ name) (suc at) (omega (arith, none.high)) slash in
     let count : suc (at + 1) ≡ suc at + 1 = omega arith in
     let inner : take (suc (at + 1)) (b ∷ name) ≡ b ∷ folder_of name = ap (λ ns. b ∷ ns) (folder_last name at later slash) in
     sym (ap (λ n. take n (b ∷ name)) count) ∙ inner ∙ sym (ap (λ t. if t then b ∷ folder_of name else []) here)

@@ -1,4 +1,5 @@
 pub mod Folders
+pub mod Included
 pub mod Numbered
 pub mod Columns
 pub mod LineEnds
@@ -6,10 +7,13 @@ pub mod Entries
 pub mod Joined
 pub mod TwoPasses
 pub mod ReadUntil
+pub mod ReadsLines
 pub mod Parts
 pub mod LineRows
 pub mod Visits
 pub mod WalkOutcomes
+pub mod WalkSound
+pub mod WalkSize
 pub mod OffWalk
 pub mod Loads
 pub mod SaidLines

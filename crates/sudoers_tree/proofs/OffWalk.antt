@@ -1,5 +1,5 @@
 -- Files that are not on the walk.
-use Rattle.std.proofs.Common.{◌≡◌, ℕ, ◌+◌, ◌<◌, ◌⊎◌, inl, inr, Bool, true, false, if◌then◌else◌, List, [], ◌∷◌, length, drop, slice_get, option_map, Option, Some, None, Result, Ok, Err, refl, sym, ap, ◌∙◌}
+use Rattle.std.proofs.Common.{◌≡◌, ℕ, ◌+◌, ◌<◌, ◌⊎◌, inl, inr, Bool, true, false, if◌then◌else◌, List, length, drop, slice_get, option_map, Option, Some, None, Result, Ok, Err, sym, ap, ◌∙◌}
 use Rattle.sudoers_tree.specs.Line.{Line}
 use Rattle.sudoers_tree.specs.declared.fault.ReadFault.{ReadFault}
 use Rattle.sudoers_tree.specs.declared.load_fault.LoadFault.{LoadFault}
@@ -9,7 +9,7 @@ use Rattle.sudoers_tree.specs.Fault.{syntax_fault}
 use Rattle.sudoers_tree.specs.Reading.{or_later}
 use Rattle.sudoers_tree.specs.Files.{FileReading, fault_in, fault_of, lines_in, lines_of, name_in, name_of}
 use Rattle.sudoers_tree.specs.Walk.{Walked, and_then, is_on, unless_in}
-use Rattle.sudoers_tree.specs.Load.{fault_off, first_reserved, reserved_in, unless_off}
+use Rattle.sudoers_tree.specs.Load.{first_reserved, reserved_in, unless_off}
 use Rattle.sudoers_tree.proofs.Numbered.{drop_at, item_at}
 
 -- ---- the lines of one file

@@ -14,7 +14,7 @@ use Rattle.sudoers_line_reader.specs.Outcome.{outcome_of}
 use Rattle.sudoers_line_reader.specs.Outcome.{IsOutcome as IsLineOutcome}
 use Rattle.sudoers_tree.specs.Line.{Line}
 use Rattle.sudoers_tree.specs.declared.fault.ReadFault.{ReadFault}
-use Rattle.sudoers_tree.specs.declared.fault.ReadFault.TheVariants.{Text, Syntax, Reserved, Duplicate, TooMany, NoMemory}
+use Rattle.sudoers_tree.specs.declared.fault.ReadFault.TheVariants.{Text, Syntax, Reserved, Duplicate, TooMany, NotLoaded, Twice, TooDeep, NoMemory}
 use Rattle.sudoers_tree.specs.Definition.{definitions, definitions_in}
 use Rattle.sudoers_tree.specs.Policy.{texts, SaysSo, IsPolicy}
 use Rattle.sudoers_tree.specs.Fault.{IsNameFault, IsWrongBehind, IsLineFault}
@@ -40,10 +40,10 @@ abbrev pub OneFault : Type 0
 OneFault = (line : List ℕ) (at other : ℕ) (why cause : Why) → IsFault line at why → IsFault line other cause → (at ≡ other) × (why ≡ cause)
 
 -- a line has one outcome
-abbrev OneLine : Type 0
+abbrev pub OneLine : Type 0
 OneLine = (line : List ℕ) (r : Result Node LineFault) → IsLineOutcome line r → outcome_of line ≡ r
 
-one_line : LinesAre → OneReading → NoFault → OneFault → OneLine
+pub one_line : LinesAre → OneReading → NoFault → OneFault → OneLine
 one_line lines reading none fault line r is = by (outcome_of line) (lines line) r is
   where
     by : (o : Result Node LineFault) → IsLineOutcome line o → (r : Result Node LineFault) → IsLineOutcome line r → o ≡ r
@@ -86,6 +86,9 @@ refused one before text (Syntax row col why) is =
 refused one before text (Reserved k name) is = refused_name one before text (Reserved k name) is
 refused one before text (Duplicate k name) is = refused_name one before text (Duplicate k name) is
 refused one before text (TooMany k) is = refused_name one before text (TooMany k) is
+refused one before text (NotLoaded row name) is = absurd is
+refused one before text (Twice row name) is = absurd is
+refused one before text (TooDeep row) is = absurd is
 refused one before text (Text fault) is = absurd is
 refused one before text NoMemory is = absurd is
 
@@ -128,6 +131,9 @@ computed cuts one_cut one text (Err (Syntax row col why)) is = read_fault cuts o
 computed cuts one_cut one text (Err (Reserved k name)) is = read_fault cuts one_cut one text (Reserved k name) is
 computed cuts one_cut one text (Err (Duplicate k name)) is = read_fault cuts one_cut one text (Duplicate k name) is
 computed cuts one_cut one text (Err (TooMany k)) is = read_fault cuts one_cut one text (TooMany k) is
+computed cuts one_cut one text (Err (NotLoaded row name)) is = absurd is
+computed cuts one_cut one text (Err (Twice row name)) is = absurd is
+computed cuts one_cut one text (Err (TooDeep row)) is = absurd is
 computed cuts one_cut one text (Err NoMemory) is = absurd is
 
 pub one_outcome : CutsAre → OneCut → LinesAre → OneReading → NoFault → OneFault

@@ -14,7 +14,7 @@ use Rattle.sudoers_line_reader.specs.Outcome.{outcome_of}
 use Rattle.sudoers_line_reader.specs.Outcome.{IsOutcome as IsLineOutcome}
 use Rattle.sudoers_tree.specs.Line.{Line}
 use Rattle.sudoers_tree.specs.declared.fault.ReadFault.{ReadFault}
-use Rattle.sudoers_tree.specs.declared.fault.ReadFault.TheVariants.{Text, Syntax, Reserved, Duplicate, TooMany, NoMemory}
+use Rattle.sudoers_tree.specs.declared.fault.ReadFault.TheVariants.{Text, Syntax, Reserved, Duplicate, TooMany, NotLoaded, Twice, TooDeep, NoMemory}
 use Rattle.sudoers_tree.specs.Definition.{definitions, definitions_in}
 use Rattle.sudoers_tree.specs.Policy.{texts, SaysSo}
 use Rattle.sudoers_tree.specs.Fault.{IsNameFault, IsWrongBehind, IsLineFault, IsFaultOf}
@@ -42,6 +42,9 @@ wrong_name : (before : List Line) (text : List ℕ) (fault : ReadFault) → IsOf
 wrong_name before text (Reserved k name) is wrong = wrong
 wrong_name before text (Duplicate k name) is wrong = wrong
 wrong_name before text (TooMany k) is wrong = wrong
+wrong_name before text (NotLoaded row name) is wrong = absurd is
+wrong_name before text (Twice row name) is wrong = absurd is
+wrong_name before text (TooDeep row) is wrong = absurd is
 wrong_name before text (Text fault) is wrong = absurd is
 wrong_name before text (Syntax row col why) is wrong = absurd is
 wrong_name before text NoMemory is wrong = absurd is
@@ -82,7 +85,7 @@ line_is lines before text none = said_or_not before text none (outcome_of text) 
 
 -- ---- the lines of a text
 
-all_more : (lines : List Line) (line : Line) → AllByRecursion SaysSo lines → SaysSo line → AllByRecursion SaysSo (lines ++ line ∷ [])
+pub all_more : (lines : List Line) (line : Line) → AllByRecursion SaysSo lines → SaysSo line → AllByRecursion SaysSo (lines ++ line ∷ [])
 all_more [] line all one = (one, tt)
 all_more (first ∷ lines) line all one = (all.0, all_more lines line all.1 one)
 
@@ -96,6 +99,9 @@ fault_of_line text (Syntax row col why) is = is
 fault_of_line text (Reserved k name) is = is
 fault_of_line text (Duplicate k name) is = is
 fault_of_line text (TooMany k) is = is
+fault_of_line text (NotLoaded row name) is = absurd is.wrong
+fault_of_line text (Twice row name) is = absurd is.wrong
+fault_of_line text (TooDeep row) is = absurd is.wrong
 fault_of_line text (Text fault) is = absurd is.wrong
 fault_of_line text NoMemory is = absurd is.wrong
 

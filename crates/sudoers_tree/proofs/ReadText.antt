@@ -1,11 +1,11 @@
 -- What comes of a text.
-use Rattle.std.proofs.Common.{◌≡◌, ℕ, ◌⊎◌, inl, inr, List, [], Result, Ok, Err, refl, ap, subst, sym, ◌∙◌}
+use Rattle.std.proofs.Common.{◌≡◌, ℕ, ◌⊎◌, inl, inr, List, [], Result, Ok, Err, refl, ap, subst, sym}
 use Rattle.sudoers_text.specs.declared.fault.TextFault.{TextFault}
 use Rattle.sudoers_text.specs.declared.fault.TextFault.TheVariants as text
 use Rattle.sudoers_text.specs.Cut.{cut_of, CutGives}
 use Rattle.sudoers_tree.specs.Line.{Line}
 use Rattle.sudoers_tree.specs.declared.fault.ReadFault.{ReadFault}
-use Rattle.sudoers_tree.specs.declared.fault.ReadFault.TheVariants.{Text, Syntax, Reserved, Duplicate, TooMany, NoMemory}
+use Rattle.sudoers_tree.specs.declared.fault.ReadFault.TheVariants.{Text, Syntax, Reserved, Duplicate, TooMany, NotLoaded, Twice, TooDeep, NoMemory}
 use Rattle.sudoers_tree.specs.internal.Wrapped.{fault_of_text}
 use Rattle.sudoers_tree.specs.Fault.{IsFaultOf}
 use Rattle.sudoers_tree.specs.Reading.{read_behind, read_cut, read_of, IsOutcome, ReadGives}
@@ -31,6 +31,9 @@ gives_fault (Syntax row col why) outcome (inr is) = is
 gives_fault (Reserved k name) outcome (inr is) = is
 gives_fault (Duplicate k name) outcome (inr is) = is
 gives_fault (TooMany k) outcome (inr is) = is
+gives_fault (NotLoaded row name) outcome (inr is) = is
+gives_fault (Twice row name) outcome (inr is) = is
+gives_fault (TooDeep row) outcome (inr is) = is
 gives_fault NoMemory outcome is = tt
 gives_fault fault outcome (inl none) = subst (λ f. ReadGives (Err f) outcome) (sym none) tt
 
@@ -47,4 +50,7 @@ fault_given bytes outcome (Syntax row col why) is gives = inr (subst (IsOutcome 
 fault_given bytes outcome (Reserved k name) is gives = inr (subst (IsOutcome bytes) gives is)
 fault_given bytes outcome (Duplicate k name) is gives = inr (subst (IsOutcome bytes) gives is)
 fault_given bytes outcome (TooMany k) is gives = inr (subst (IsOutcome bytes) gives is)
+fault_given bytes outcome (NotLoaded row name) is gives = inr (subst (IsOutcome bytes) gives is)
+fault_given bytes outcome (Twice row name) is gives = inr (subst (IsOutcome bytes) gives is)
+fault_given bytes outcome (TooDeep row) is gives = inr (subst (IsOutcome bytes) gives is)
 fault_given bytes outcome NoMemory is gives = inl refl

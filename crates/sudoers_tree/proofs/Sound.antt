@@ -8,7 +8,7 @@ use Rattle.sudoers_line.specs.declared.node.Kind.{Kind}
 use Rattle.sudoers_line.specs.declared.node.Kind.TheVariants.{User, Runas, Host, Cmnd}
 use Rattle.sudoers_tree.specs.Line.{Line}
 use Rattle.sudoers_tree.specs.declared.fault.ReadFault.{ReadFault}
-use Rattle.sudoers_tree.specs.declared.fault.ReadFault.TheVariants.{Text, Syntax, Reserved, Duplicate, TooMany, NoMemory}
+use Rattle.sudoers_tree.specs.declared.fault.ReadFault.TheVariants.{Text, Syntax, Reserved, Duplicate, TooMany, NotLoaded, Twice, TooDeep, NoMemory}
 use Rattle.sudoers_tree.specs.Definition.{Definition, is_kind, defined, definitions, definitions_since}
 use Rattle.sudoers_tree.specs.Policy.{alias_limit, count_of, IsFree, AreOnce}
 use Rattle.sudoers_tree.specs.Fault.{is_some, name_fault, AreSound}
@@ -120,6 +120,9 @@ abbrev pub IsOfName : ReadFault → Type 0
 IsOfName (Reserved k name) = Unit {0}
 IsOfName (Duplicate k name) = Unit {0}
 IsOfName (TooMany k) = Unit {0}
+IsOfName (NotLoaded row name) = ⊥
+IsOfName (Twice row name) = ⊥
+IsOfName (TooDeep row) = ⊥
 IsOfName (Text fault) = ⊥
 IsOfName (Syntax row col why) = ⊥
 IsOfName NoMemory = ⊥

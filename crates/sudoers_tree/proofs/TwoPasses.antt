@@ -12,14 +12,14 @@ use Rattle.sudoers_line_reader.specs.Outcome.{IsOutcome as IsLineOutcome}
 use Rattle.sudoers_tree.specs.Line.{Line}
 use Rattle.sudoers_tree.specs.declared.index.Index.{Index}
 use Rattle.sudoers_tree.specs.declared.fault.ReadFault.{ReadFault}
-use Rattle.sudoers_tree.specs.declared.fault.ReadFault.TheVariants.{Text, Syntax, Reserved, Duplicate, TooMany, NoMemory}
+use Rattle.sudoers_tree.specs.declared.fault.ReadFault.TheVariants.{Text, Syntax, Reserved, Duplicate, TooMany, NotLoaded, Twice, TooDeep, NoMemory}
 use Rattle.sudoers_tree.specs.declared.fault.SyntaxFault.{SyntaxFault}
 use Rattle.sudoers_tree.specs.Physical.{row_behind, column_behind}
 use Rattle.sudoers_tree.specs.Definition.{Definition, definitions, definitions_in, definitions_since}
 use Rattle.sudoers_tree.specs.Fault.{syntax_fault}
 use Rattle.sudoers_tree.specs.Policy.{texts}
 use Rattle.sudoers_tree.specs.Reading.{line_behind, line_by, unless_faulty, first_name_fault, or_later, read_behind, with_line}
-use Rattle.sudoers_tree.specs.Files.{fault_at, going_on, read_until}
+use Rattle.sudoers_tree.specs.Files.{going_on, read_until}
 use Rattle.sudoers_tree.specs.Index.{Enters}
 use Rattle.sudoers_tree.proofs.Joined.{lf_append, definitions_push}
 use Rattle.sudoers_tree.proofs.Sound.{first_append}
@@ -33,6 +33,9 @@ not_entered (Syntax row col why) index before ds is = inr is
 not_entered (Reserved k name) index before ds is = inr is
 not_entered (Duplicate k name) index before ds is = inr is
 not_entered (TooMany k) index before ds is = inr is
+not_entered (NotLoaded row name) index before ds is = inr is
+not_entered (Twice row name) index before ds is = inr is
+not_entered (TooDeep row) index before ds is = inr is
 not_entered NoMemory index before ds is = inl refl
 
 -- lines behind others, with the fault of their names, or else that of the line behind them
@@ -42,7 +45,7 @@ by_passes before read =
     (or_later (first_name_fault (definitions before) (definitions_since (length before) read.0)) (option_map syntax_fault read.1))
 
 -- the physical line of a byte of the line behind others
-row_in : (before : List Line) (text : List ℕ) (at : ℕ)
+pub row_in : (before : List Line) (text : List ℕ) (at : ℕ)
     → row_behind (join (texts before) ++ take at text) ≡ row_behind (join (texts before)) + lf_count (take at text)
 row_in before text at = omega (arith, lf_append (join (texts before)) (take at text))
 

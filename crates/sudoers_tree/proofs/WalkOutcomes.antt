@@ -3,7 +3,8 @@ use Rattle.std.proofs.Common.{◌≡◌, ℕ, zero, suc, ◌+◌, Bool, true, fa
 use Rattle.sudoers_tree.specs.Line.{Line}
 use Rattle.sudoers_tree.specs.declared.fault.SyntaxFault.{SyntaxFault}
 use Rattle.sudoers_tree.specs.declared.load_fault.LoadFault.{LoadFault}
-use Rattle.sudoers_tree.specs.declared.load_fault.LoadFault.TheVariants.{TooDeep}
+use Rattle.sudoers_tree.specs.declared.fault.ReadFault.TheVariants.{TooDeep}
+use Rattle.sudoers_tree.specs.declared.load_fault.LoadFault.TheVariants.{InFile}
 use Rattle.sudoers_tree.specs.Fault.{syntax_fault}
 use Rattle.sudoers_tree.specs.Files.{FileReading, fault_of, lines_of, name_of}
 use Rattle.sudoers_tree.specs.Walk.{Site, Walked, and_then, depth_limit, enter, is_on, leads_to, nothing, opened, site, taken, twice, unless_in, visit, visit_each, walk_lines, walk_of}
@@ -70,7 +71,7 @@ lines_are files left visits f n (line ∷ lines) w = by_taken (taken (name_of fi
 
 visits_are : (files : List FileReading) (left : ℕ) → Visits files left
 visits_are files zero at f rest w off =
-    ((λ now e. absurd (ok_err now (TooDeep at.file at.row) e)), (λ fault e. subst (λ r. Enters files zero at (f ∷ rest) w r) e (deep at f rest w off)))
+    ((λ now e. absurd (ok_err now (InFile at.file (TooDeep at.row)) e)), (λ fault e. subst (λ r. Enters files zero at (f ∷ rest) w r) e (deep at f rest w off)))
 visits_are files (suc left) at f rest w off =
     let goes = lines_are files left (visits_are files left) f 0 (lines_of files f) (enter f w) in (
       (λ now e outcome next. more left at f rest w now outcome off (subst (λ r. Goes files left f 0 (lines_of files f) (enter f w) r) e goes) next),

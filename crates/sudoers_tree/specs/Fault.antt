@@ -11,7 +11,7 @@ use Rattle.sudoers_line.specs.Line.{ReadsLine, IsFault}
 use Rattle.sudoers_tree.specs.Line.{Line}
 use Rattle.sudoers_tree.specs.declared.fault.ReadFault.{ReadFault}
 use Rattle.sudoers_tree.specs.declared.fault.SyntaxFault.{SyntaxFault}
-use Rattle.sudoers_tree.specs.declared.fault.ReadFault.TheVariants.{Text, Syntax, Reserved, Duplicate, TooMany, NoMemory}
+use Rattle.sudoers_tree.specs.declared.fault.ReadFault.TheVariants.{Text, Syntax, Reserved, Duplicate, TooMany, NotLoaded, Twice, TooDeep, NoMemory}
 use Rattle.sudoers_tree.specs.Physical.{row_behind, column_behind}
 use Rattle.sudoers_tree.specs.Definition.{Definition, definitions, definitions_in, defined}
 use Rattle.sudoers_tree.specs.Policy.{alias_limit, texts, count_of, SaysSo}
@@ -59,6 +59,9 @@ IsWrongBehind before text (Syntax row col why) = IsSyntaxFault before text row c
 IsWrongBehind before text (Reserved k name) = IsNameFault before text (Reserved k name)
 IsWrongBehind before text (Duplicate k name) = IsNameFault before text (Duplicate k name)
 IsWrongBehind before text (TooMany k) = IsNameFault before text (TooMany k)
+IsWrongBehind before text (NotLoaded row name) = ⊥
+IsWrongBehind before text (Twice row name) = ⊥
+IsWrongBehind before text (TooDeep row) = ⊥
 IsWrongBehind before text (Text fault) = ⊥
 IsWrongBehind before text NoMemory = ⊥
 
@@ -72,11 +75,15 @@ pub record IsLineFault (text : List ℕ) (fault : ReadFault) : Type 0 where
   pub sound : AreSound (definitions before)
   pub wrong : IsWrongBehind before line fault
 
--- The first fault of a text: that of its cut, or else of its first faulty line. Want of memory is none of the text.
+-- The first fault of a text: that of its cut, or else of its first faulty line. Want of memory is none of the text. Nor is a file to
+-- which it leads: the text alone is read.
 abbrev pub IsFaultOf : List ℕ → ReadFault → Type 0
 IsFaultOf text (Text fault) = IsTextFault text fault
 IsFaultOf text (Syntax row col why) = IsLineFault text (Syntax row col why)
 IsFaultOf text (Reserved k name) = IsLineFault text (Reserved k name)
 IsFaultOf text (Duplicate k name) = IsLineFault text (Duplicate k name)
 IsFaultOf text (TooMany k) = IsLineFault text (TooMany k)
+IsFaultOf text (NotLoaded row name) = ⊥
+IsFaultOf text (Twice row name) = ⊥
+IsFaultOf text (TooDeep row) = ⊥
 IsFaultOf text NoMemory = ⊥

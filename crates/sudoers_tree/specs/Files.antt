@@ -1,5 +1,5 @@
 -- Named files, as they are read.
-use Rattle.std.specs.Prelude.{ℕ, ◌+◌, List, [], ◌∷◌, ◌++◌, take, map, slice_get, Option, Some, None, Result, Ok, Err}
+use Rattle.std.specs.Prelude.{ℕ, ◌+◌, List, [], ◌∷◌, ◌++◌, take, slice_get, Option, Some, None, Result, Ok, Err}
 use Rattle.std.specs.List.{AllByRecursion}
 use Rattle.sudoers_text.specs.Line.{join}
 use Rattle.sudoers_text.specs.Fault.{lf_count}
@@ -53,9 +53,6 @@ unfoldable pub reading_of : List ℕ → List (List ℕ) → FileReading
 reading_of name lines = reading_by name (read_until [] lines)
 
 -- ---- files by their numbers, from 0
-
-abbrev pub names : List FileReading → List (List ℕ)
-names files = map (λ (file : FileReading). file.name) files
 
 abbrev pub name_in : Option FileReading → List ℕ
 name_in None = []

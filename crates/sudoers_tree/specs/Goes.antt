@@ -1,11 +1,12 @@
 -- The walk as a relation (sudoers(5), Including other files from within sudoers): the lines of a file, each include line followed by
 -- the walk of the files to which it leads. What comes of it is all that is on the walk then, or its first fault. That the walk that
 -- is computed (`walk_of`) is this one, and no other is, is a law (`walk_is`).
-use Rattle.std.specs.Prelude.{◌≡◌, ℕ, zero, suc, ◌+◌, true, false, List, [], ◌∷◌, Option, Some, None, Result, Ok, Err}
+use Rattle.std.specs.Prelude.{◌≡◌, ℕ, zero, suc, ◌+◌, true, false, List, [], ◌∷◌, Some, None, Result, Ok, Err}
 use Rattle.sudoers_tree.specs.Line.{Line}
 use Rattle.sudoers_tree.specs.declared.fault.SyntaxFault.{SyntaxFault}
 use Rattle.sudoers_tree.specs.declared.load_fault.LoadFault.{LoadFault}
-use Rattle.sudoers_tree.specs.declared.load_fault.LoadFault.TheVariants.{InFile, TooDeep}
+use Rattle.sudoers_tree.specs.declared.fault.ReadFault.TheVariants.{TooDeep}
+use Rattle.sudoers_tree.specs.declared.load_fault.LoadFault.TheVariants.{InFile}
 use Rattle.sudoers_tree.specs.Fault.{syntax_fault}
 use Rattle.sudoers_tree.specs.Files.{FileReading, fault_of, lines_of, name_of}
 use Rattle.sudoers_tree.specs.Walk.{Site, Walked, depth_limit, enter, is_on, leads_to, nothing, opened, site, taken, twice}
@@ -47,7 +48,7 @@ mutual
     again : (left : ℕ) (at : Site) (f : ℕ) (rest : List ℕ) (w : Walked)
         → is_on w f ≡ true → Enters files left at (f ∷ rest) w (Err (twice files at f))
     deep : (at : Site) (f : ℕ) (rest : List ℕ) (w : Walked)
-        → is_on w f ≡ false → Enters files zero at (f ∷ rest) w (Err (TooDeep at.file at.row))
+        → is_on w f ≡ false → Enters files zero at (f ∷ rest) w (Err (InFile at.file (TooDeep at.row)))
     inside : (left : ℕ) (at : Site) (f : ℕ) (rest : List ℕ) (w : Walked) (fault : LoadFault)
         → is_on w f ≡ false → Goes files left f 0 (lines_of files f) (enter f w) (Err fault)
         → Enters files (suc left) at (f ∷ rest) w (Err fault)

@@ -9,7 +9,7 @@ use Rattle.sudoers_tree.specs.Line.{Line}
 use Rattle.sudoers_tree.specs.declared.place.Place.{Place}
 use Rattle.sudoers_tree.specs.declared.index.Index.{Index}
 use Rattle.sudoers_tree.specs.declared.fault.ReadFault.{ReadFault}
-use Rattle.sudoers_tree.specs.declared.fault.ReadFault.TheVariants.{Text, Syntax, Reserved, Duplicate, TooMany, NoMemory}
+use Rattle.sudoers_tree.specs.declared.fault.ReadFault.TheVariants.{Text, Syntax, Reserved, Duplicate, TooMany, NotLoaded, Twice, TooDeep, NoMemory}
 use Rattle.sudoers_tree.specs.Definition.{Definition, definitions, is_kind}
 use Rattle.sudoers_tree.specs.Policy.{alias_limit}
 use Rattle.sudoers_tree.specs.Fault.{is_some}
@@ -62,6 +62,9 @@ Comes (Err (Syntax row col why)) new wanted = wanted ≡ Err (Syntax row col why
 Comes (Err (Reserved k name)) new wanted = wanted ≡ Err (Reserved k name)
 Comes (Err (Duplicate k name)) new wanted = wanted ≡ Err (Duplicate k name)
 Comes (Err (TooMany k)) new wanted = wanted ≡ Err (TooMany k)
+Comes (Err (NotLoaded row name)) new wanted = wanted ≡ Err (NotLoaded row name)
+Comes (Err (Twice row name)) new wanted = wanted ≡ Err (Twice row name)
+Comes (Err (TooDeep row)) new wanted = wanted ≡ Err (TooDeep row)
 Comes (Err NoMemory) new wanted = Unit {0}
 
 -- what came of entering these definitions behind the others
@@ -72,6 +75,9 @@ Enters (Err (Syntax row col why)) index before ds = first_name_fault before ds �
 Enters (Err (Reserved k name)) index before ds = first_name_fault before ds ≡ Some (Reserved k name)
 Enters (Err (Duplicate k name)) index before ds = first_name_fault before ds ≡ Some (Duplicate k name)
 Enters (Err (TooMany k)) index before ds = first_name_fault before ds ≡ Some (TooMany k)
+Enters (Err (NotLoaded row name)) index before ds = first_name_fault before ds ≡ Some (NotLoaded row name)
+Enters (Err (Twice row name)) index before ds = first_name_fault before ds ≡ Some (Twice row name)
+Enters (Err (TooDeep row)) index before ds = first_name_fault before ds ≡ Some (TooDeep row)
 Enters (Err NoMemory) index before ds = Unit {0}
 
 -- the lines that are read, with their names, or the first fault

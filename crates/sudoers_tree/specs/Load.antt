@@ -1,12 +1,11 @@
 -- What comes of files that are loaded: the walk over them, or their first fault.
-use Rattle.std.specs.Prelude.{ℕ, ◌+◌, List, [], ◌∷◌, ◌++◌, length, map, nat_lt, Option, Some, None, Result, Ok, Err, if◌then◌else◌}
+use Rattle.std.specs.Prelude.{ℕ, ◌+◌, Bool, List, [], ◌∷◌, ◌++◌, length, map, nat_lt, Option, Some, None, Result, Ok, Err, if◌then◌else◌}
 use Rattle.std.specs.List.{list_any}
 use Rattle.std.specs.Option.{option_map}
 use Rattle.std.specs.Str.{bytes_eq}
 use Rattle.sudoers_text.specs.Cut.{cut_of}
 use Rattle.sudoers_text.specs.Word.{is_reserved}
 use Rattle.sudoers_text.specs.declared.fault.TextFault.{TextFault}
-use Rattle.sudoers_line.specs.Node.{Node}
 use Rattle.sudoers_tree.specs.Line.{Line}
 use Rattle.sudoers_tree.specs.declared.fault.ReadFault.{ReadFault}
 use Rattle.sudoers_tree.specs.declared.fault.ReadFault.TheVariants.{Text, Reserved}
@@ -23,11 +22,18 @@ use Rattle.sudoers_tree.specs.Walk.{Walked, and_then, is_on, unless_in, walk_of}
 abbrev pub file_limit : ℕ
 file_limit = 256
 
--- the first of these files whose name one before it has, or one of these names is
+-- one of these names is `name`
+abbrev pub is_among : List ℕ → List (List ℕ) → Bool
+is_among name names = list_any (bytes_eq name) names
+
+-- one of these files has this name
+abbrev pub has_name : List ℕ → List NamedFile → Bool
+has_name name files = is_among name (map (λ (file : NamedFile). file.name) files)
+
+-- the first name of these files that an earlier one has too, where these names stand before them
 abbrev pub first_repeated : List (List ℕ) → List NamedFile → Option (List ℕ)
 first_repeated before [] = None
-first_repeated before (file ∷ files) =
-    if list_any (bytes_eq file.name) before then Some file.name else first_repeated (before ++ file.name ∷ []) files
+first_repeated before (file ∷ files) = if is_among file.name before then Some file.name else first_repeated (before ++ file.name ∷ []) files
 
 abbrev pub unless_same : {A : Type 0} → Option (List ℕ) → Result A LoadFault → Result A LoadFault
 unless_same None next = next

@@ -11,7 +11,7 @@ use Rattle.sudoers_line.specs.Node.{Node}
 use Rattle.sudoers_line_reader.specs.Outcome.{outcome_of}
 use Rattle.sudoers_tree.specs.Line.{Line}
 use Rattle.sudoers_tree.specs.declared.fault.ReadFault.{ReadFault}
-use Rattle.sudoers_tree.specs.declared.fault.ReadFault.TheVariants.{Text, Syntax, Reserved, Duplicate, TooMany, NoMemory}
+use Rattle.sudoers_tree.specs.declared.fault.ReadFault.TheVariants.{Text, Syntax, Reserved, Duplicate, TooMany, NotLoaded, Twice, TooDeep, NoMemory}
 use Rattle.sudoers_tree.specs.Physical.{row_behind, column_behind}
 use Rattle.sudoers_tree.specs.Definition.{Definition, definitions, definitions_in}
 use Rattle.sudoers_tree.specs.Policy.{texts, IsPolicy}
@@ -73,4 +73,7 @@ ReadGives (Err (Syntax row col why)) outcome = outcome ≡ Err (Syntax row col w
 ReadGives (Err (Reserved k name)) outcome = outcome ≡ Err (Reserved k name)
 ReadGives (Err (Duplicate k name)) outcome = outcome ≡ Err (Duplicate k name)
 ReadGives (Err (TooMany k)) outcome = outcome ≡ Err (TooMany k)
+ReadGives (Err (NotLoaded row name)) outcome = outcome ≡ Err (NotLoaded row name)
+ReadGives (Err (Twice row name)) outcome = outcome ≡ Err (Twice row name)
+ReadGives (Err (TooDeep row)) outcome = outcome ≡ Err (TooDeep row)
 ReadGives (Err NoMemory) outcome = Unit {0}

@@ -20,9 +20,9 @@ ends_in_tilde (b ∷ c ∷ bytes) = ends_in_tilde (c ∷ bytes)
 abbrev pub base_of : List ℕ → List ℕ
 base_of name = drop (length (folder_of name)) name
 
--- An include of a folder leads to a file of this name in it: one without `.` that does not end in `~`.
+-- An include of a folder leads to a file of this name in it: one without `/` and `.` that does not end in `~`.
 abbrev pub is_base : List ℕ → Bool
-is_base base = not (has_byte 46 base) && not (ends_in_tilde base)
+is_base base = not (has_byte 47 base) && not (has_byte 46 base) && not (ends_in_tilde base)
 
 -- An include of the folder leads to the file `name`. The name of the folder ends in `/`.
 abbrev pub is_in_folder : List ℕ → List ℕ → Bool

@@ -7,7 +7,8 @@ use Rattle.sudoers_tree.specs.Line.{Line}
 use Rattle.sudoers_tree.specs.declared.lead.Lead.{Lead}
 use Rattle.sudoers_tree.specs.declared.fault.ReadFault.{ReadFault}
 use Rattle.sudoers_tree.specs.declared.load_fault.LoadFault.{LoadFault}
-use Rattle.sudoers_tree.specs.declared.load_fault.LoadFault.TheVariants.{InFile, NotLoaded, Twice, TooDeep}
+use Rattle.sudoers_tree.specs.declared.fault.ReadFault.TheVariants.{NotLoaded, Twice, TooDeep}
+use Rattle.sudoers_tree.specs.declared.load_fault.LoadFault.TheVariants.{InFile}
 use Rattle.sudoers_tree.specs.declared.place.Spot.{Spot}
 use Rattle.sudoers_tree.specs.Definition.{definitions, definitions_in}
 use Rattle.sudoers_tree.specs.Reading.{first_name_fault}
@@ -57,7 +58,7 @@ pub record Site : Type 0 where
   pub row : ℕ
 
 abbrev pub twice : List FileReading → Site → ℕ → LoadFault
-twice files at f = Twice at.file at.row (name_of files f)
+twice files at f = InFile at.file (Twice at.row (name_of files f))
 
 -- the first of these files that is on the walk
 abbrev pub first_on : Walked → List ℕ → Option ℕ
@@ -69,7 +70,7 @@ unless_on files at inner None = Ok inner
 unless_on files at inner (Some f) = Err (twice files at f)
 
 abbrev pub unless_missing : List FileReading → Site → Lead → Walked → Option (List ℕ) → Result (List ℕ) LoadFault
-unless_missing files at lead w None = Err (NotLoaded at.file at.row (lead_name lead))
+unless_missing files at lead w None = Err (InFile at.file (NotLoaded at.row (lead_name lead)))
 unless_missing files at lead w (Some inner) = unless_on files at inner (first_on w inner)
 
 -- the files to which a line leads, unless one is not there or is on the walk already
@@ -101,9 +102,9 @@ walk_lines visit files f n (line ∷ lines) w =
     and_then (opened files (site files f n) now (leads_to files f line)) (λ inner.
     and_then (visit_each visit files (site files f n) inner now) (walk_lines visit files f (n + 1) lines)))
 
--- the walk goes on with a file to which a line leads, where so many levels are left
+-- the walk goes on with a file to which a line leads, where files may be nested so many levels deeper
 abbrev pub visit : ℕ → List FileReading → Visit
-visit zero files at f w = Err (TooDeep at.file at.row)
+visit zero files at f w = Err (InFile at.file (TooDeep at.row))
 visit (suc left) files at f w = walk_lines (visit left files) files f 0 (lines_of files f) (enter f w)
 
 -- the walk over all that the first file leads to, or its first fault

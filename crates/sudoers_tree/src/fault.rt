@@ -36,6 +36,15 @@ pub enum ReadFault {
     /// There are more than 4,096 definitions of a kind.
     #[error("too many aliases of a kind")]
     TooMany { kind: Kind },
+    /// A line includes the file `name`, which is not there. It begins on this physical line, from 1.
+    #[error("an included file is not loaded")]
+    NotLoaded { line: usize, name: Items<u8> },
+    /// A line includes the file `name`, which is included already.
+    #[error("a file is included twice")]
+    Twice { line: usize, name: Items<u8> },
+    /// A line includes a file at depth 129.
+    #[error("includes are nested too deep")]
+    TooDeep { line: usize },
     /// A growth of memory was refused.
     #[error("out of memory")]
     NoMemory,

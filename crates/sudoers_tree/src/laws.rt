@@ -1,21 +1,25 @@
 //! Laws of policies. Each is the contract of a function that does nothing.
 
-ghost use Rattle.std.specs.Prelude.{◌≡◌, List, ℕ, false, Ok, Result, Some};
+ghost use Rattle.std.specs.Prelude.{◌≡◌, ◌≤◌, ◌*◌, List, [], ℕ, Option, length, nat_eq, false, Ok, Result, Some};
 ghost use Rattle.sudoers_text.specs.Ended.{has_unended_inside};
 ghost use Rattle.sudoers_text.specs.Line.{join};
 ghost use Rattle.sudoers_text.specs.Whole.{IsLogicalLine};
 ghost use Rattle.sudoers_tree.specs.Line.{Line as LineOf};
 ghost use Rattle.sudoers_tree.specs.Reading.{read_of, IsOutcome};
-ghost use Rattle.std.specs.List.{AllByRecursion};
+ghost use Rattle.std.specs.List.{AllByRecursion, IsDistinct};
 ghost use Rattle.sudoers_text.specs.Cut.{cut_of};
 ghost use Rattle.sudoers_tree.specs.declared.fault.ReadFault.{ReadFault as FaultOf};
 ghost use Rattle.sudoers_line.specs.declared.node.Kind.{Kind as KindOf};
 ghost use Rattle.sudoers_line.specs.Node.{Node as NodeOf};
 ghost use Rattle.sudoers_line.specs.Listed.{listed};
 ghost use Rattle.sudoers_tree.specs.Mention.{members_in, of_kind};
-ghost use Rattle.sudoers_tree.specs.Policy.{texts};
+ghost use Rattle.sudoers_tree.specs.Policy.{IsWalk, texts};
+ghost use Rattle.sudoers_tree.specs.Load.{file_limit, load_of};
+ghost use Rattle.sudoers_text.specs.Fault.{text_limit};
+ghost use Rattle.sudoers_tree.specs.declared.load.NamedFile.{NamedFile as NamedFileOf};
 ghost use Rattle.sudoers_tree.specs.Single.{said};
-ghost use Rattle.sudoers_tree.specs.Files.{FileReading};
+ghost use Rattle.sudoers_tree.specs.Files.{FileReading, Reads, read_until};
+ghost use Rattle.sudoers_tree.specs.declared.fault.SyntaxFault.{SyntaxFault as SyntaxFaultOf};
 ghost use Rattle.sudoers_tree.specs.Goes.{IsWalkOf};
 ghost use Rattle.sudoers_tree.specs.Walk.{Walked, walk_of};
 ghost use Rattle.sudoers_tree.specs.declared.load_fault.LoadFault.{LoadFault as LoadFaultOf};
@@ -97,6 +101,33 @@ pub fn whole_lines_are_read()
     cut_is();
     one_list();
     whole_lines_of_join();
+}
+
+/// What is computed of the lines of a text is how they read, and they read in no other way.
+pub fn reads_is()
+    ensures is { (lines : List (List ℕ)) → Reads lines (read_until [] lines).0 (read_until [] lines).1 }
+    ensures one { (lines : List (List ℕ)) (read : List LineOf) (fault : Option SyntaxFaultOf) → Reads lines read fault → read_until [] lines ≡ (read, fault) }
+{
+    outcome_is();
+    one_reading();
+    no_fault();
+    one_fault();
+}
+
+/// The lines of the walk over files that are loaded are a walk: each says what is kept of it, and their names can stand.
+pub fn loaded_is_walk()
+    ensures { (files : List NamedFileOf) (w : Walked) → load_of files ≡ Ok w → IsWalk w.lines }
+{
+    outcome_is();
+}
+
+/// Each file is on the walk over files that are loaded at most once. All its lines are within the limit of as many texts as there may
+/// be files.
+pub fn loaded_is_within()
+    ensures once { (files : List NamedFileOf) (w : Walked) → load_of files ≡ Ok w → IsDistinct nat_eq w.on }
+    ensures within { (files : List NamedFileOf) (w : Walked) → load_of files ≡ Ok w → length (join (texts w.lines)) ≤ file_limit * text_limit }
+{
+    cut_is();
 }
 
 /// The walk over files that is computed is the walk that is defined, and there is no other.

@@ -5,9 +5,10 @@ ghost use Rattle.sudoers_line_rows.specs.View.{node_shown};
 ghost use Rattle.sudoers_tree.specs.Lead.{folder_of, lead_of, leads, resolved, without_slashes};
 
 use crate::single::read_line;
-use memchr::memrchr;
+use memchr::{memchr2, memrchr};
 use std::alloc::{AllocError, Global};
 use sudoers_line::Items;
+use sudoers_line_reader::laws::outcome_is;
 use sudoers_line_rows::Node;
 
 /// Where an include line leads: to a file or to the files of a folder, by its name (sudoers(5), Including other files from within
@@ -20,7 +21,7 @@ pub enum Lead {
     Dir(Items<u8>),
 }
 
-/// Returns `name` up to its last `/`, which it holds; nothing if there is none.
+/// Returns the folder of the file `name`: its name up to its last `/`, which it holds; nothing if there is none.
 pub fn folder_of(name: &[u8]) -> &[u8]
     ensures { result.now ≡ folder_of name.now }
 {
@@ -81,6 +82,20 @@ pub fn lead_of(alloc: Global, name: &[u8], node: &Node<'_>) -> Result<Option<Lea
 ///
 /// Memory ran out.
 pub fn leads(alloc: Global, name: &[u8], line: &[u8]) -> Result<Option<Lead>, AllocError>
+    ensures { IfOk result (λ lead. lead ≡ leads name.now line.now) }
+{
+    // Each word with which an include begins has one of these bytes.
+    match memchr2(b'@', b'#', line) {
+        Some(_) => lead_said(alloc, name, line),
+        None => {
+            outcome_is();
+            Ok(None)
+        }
+    }
+}
+
+/// Returns where the line `line` of the file `name` leads, by what it says.
+fn lead_said(alloc: Global, name: &[u8], line: &[u8]) -> Result<Option<Lead>, AllocError>
     ensures { IfOk result (λ lead. lead ≡ leads name.now line.now) }
 {
     match read_line(alloc, line)? {

@@ -29,9 +29,9 @@ pub use changed::{append_texts, text_replaced, text_with, text_without};
 pub use fault::{ReadFault, SyntaxFault};
 pub use index::ALIAS_LIMIT;
 pub use kind::LineKind;
-pub use lead::{Lead, lead_of, leads};
+pub use lead::{Lead, folder_of, lead_of, leads};
 pub use line::{Line, LineRow};
-pub use load::{FileWalk, NamedFile};
+pub use load::{FILE_LIMIT, FileWalk, NamedFile, has_name};
 pub use load_fault::LoadFault;
 pub use mention::is_kind;
 pub use place::{Place, Span, Spot};
@@ -47,4 +47,5 @@ pub use sudoers_line_rows::{
     MemberRow, Node, NodeRow, OptionRow, Param, ParamRow, Rows, RunasSpec, Scope, Setting, Tables,
     TagRow, alias_members, list_aliases,
 };
+pub use targets::{base_of, is_base};
 pub use walk::Walk;

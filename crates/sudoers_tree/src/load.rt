@@ -1,12 +1,9 @@
 //! Files that are loaded: the walk over them.
 
-ghost use Rattle.std.specs.Prelude.{◌≡◌, ◌⊎◌, [], map, IfOk, MatchResult, Ok, Err};
-ghost use Rattle.std.specs.List.{list_any};
-ghost use Rattle.std.specs.Str.{bytes_eq};
+ghost use Rattle.std.specs.Prelude.{◌≡◌, ◌⊎◌, [], IfOk, MatchResult, Ok, Err};
 ghost use Rattle.sudoers_tree.specs.declared.load_fault.LoadFault.TheVariants.{NoMemory};
-ghost use Rattle.sudoers_tree.specs.declared.load.NamedFile.{NamedFile as NamedFileOf};
 ghost use Rattle.sudoers_tree.specs.Line.{lines_shown};
-ghost use Rattle.sudoers_tree.specs.Load.{first_repeated, load_of, readings};
+ghost use Rattle.sudoers_tree.specs.Load.{first_repeated, has_name, load_of, readings};
 
 use crate::fault::ReadFault;
 use crate::files::Files;
@@ -21,8 +18,8 @@ use sudoers_line::Items;
 use sudoers_line_rows::Rows;
 use sudoers_text::{TextFault, cut};
 
-/// How many files there may be.
-const FILE_LIMIT: usize = 256;
+/// How many files a policy may have.
+pub const FILE_LIMIT: usize = 256;
 
 /// A file as it is handed in.
 #[derive(Drop)]
@@ -111,8 +108,8 @@ fn first_repeated(alloc: Global, files: &[NamedFile]) -> Result<Option<Items<u8>
 }
 
 /// Returns whether one of the files has this name.
-fn has_name(files: &[NamedFile], name: &[u8]) -> bool
-    ensures { result ≡ list_any (bytes_eq name.now) (map (λ (file : NamedFileOf). file.name) files.now) }
+pub fn has_name(files: &[NamedFile], name: &[u8]) -> bool
+    ensures { result ≡ has_name name.now files.now }
 {
     for file in files {
         if name == file.name.as_slice() {

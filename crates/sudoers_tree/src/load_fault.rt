@@ -8,7 +8,7 @@ use std::alloc::{AllocError, AllocFailed};
 use sudoers_line::Items;
 use thiserror::Error;
 
-/// Why files are no policy. `file` is the name of the file that has the fault, and `line` a physical line of it, from 1.
+/// Why files are no policy. `file` is the name of the file that has the fault.
 #[derive(Debug, Drop, Error)]
 pub enum LoadFault {
     /// There are more than 256 files.
@@ -16,35 +16,10 @@ pub enum LoadFault {
     TooManyFiles,
     /// Two files have one name.
     #[error("two files have one name")]
-    SameName {
-        file: Items<u8>,
-    },
-    /// A file has a fault of its own.
+    SameName { file: Items<u8> },
+    /// A file has a fault.
     #[error("{fault}")]
-    InFile {
-        file: Items<u8>,
-        fault: ReadFault,
-    },
-    /// A line includes the file `name`, which is not there.
-    #[error("an included file is not loaded")]
-    NotLoaded {
-        file: Items<u8>,
-        line: usize,
-        name: Items<u8>,
-    },
-    /// A line includes the file `name`, which is included already.
-    #[error("a file is included twice")]
-    Twice {
-        file: Items<u8>,
-        line: usize,
-        name: Items<u8>,
-    },
-    /// A line includes a file at depth 129.
-    #[error("includes are nested too deep")]
-    TooDeep {
-        file: Items<u8>,
-        line: usize,
-    },
+    InFile { file: Items<u8>, fault: ReadFault },
     /// A growth of memory was refused.
     #[error("out of memory")]
     NoMemory,

@@ -43,24 +43,35 @@ use sudoers_text::{Lines, cut};
 /// A sudoers policy. Contracts see the list of its lines with what they say.
 #[derive(Drop)]
 pub struct Policy {
-    walk: Box<Walk>,
+    lines: Box<Indexed>,
     size: usize,
     alloc: Global,
+}
+
+/// Lines that are read, and the names that those of the walk define.
+#[derive(Drop)]
+struct Indexed {
+    tree: Tree,
+    index: Index,
 }
 
 impl Model for Policy {
     ghost use Rattle.std.specs.Prelude.{◌≡◌, List, length, Ok};
     ghost use Rattle.sudoers_text.specs.Line.{join};
     ghost use Rattle.sudoers_tree.specs.Line.{Line};
-    ghost use Rattle.sudoers_tree.specs.Policy.{texts};
+    ghost use Rattle.sudoers_tree.specs.Definition.{definitions};
+    ghost use Rattle.sudoers_tree.specs.Index.{Indexes};
+    ghost use Rattle.sudoers_tree.specs.Policy.{IsPolicy, texts};
     ghost use Rattle.sudoers_tree.specs.Reading.{read_of};
 
     ghost Value = { List Line };
 
-    ghost view = { λ policy. policy.walk.value };
+    ghost view = { λ policy. policy.lines.value.tree.walk };
 
-    ghost invariant = { λ policy. (read_of (join (texts policy.walk.value)) ≡ Ok policy.walk.value)
-        × (policy.size ≡ length (join (texts policy.walk.value))) };
+    ghost invariant = { λ policy. (read_of (join (texts policy.lines.value.tree.walk)) ≡ Ok policy.lines.value.tree.walk)
+        × (policy.size ≡ length (join (texts policy.lines.value.tree.walk)))
+        × Indexes policy.lines.value.index (definitions policy.lines.value.tree.walk)
+        × IsPolicy policy.lines.value.tree.walk };
 }
 
 impl Policy {
@@ -95,7 +106,7 @@ impl Policy {
         // In one word: the text's outcome, of which there is exactly one.
         ensures outcome { ReadGives result (read_of text.now) }
     {
-        let tree = self.walk.tree();
+        let tree = &self.lines.tree;
         if tree.is_mostly_unused(self.size) {
             return Policy::read(self.alloc, text);
         }
@@ -107,22 +118,21 @@ impl Policy {
         ensures policy { IsPolicy self.now }
         ensures read { read_of (join (texts self.now)) ≡ Ok self.now }
     {
-        read_is();
-        let _ = &self.walk;
+        let _ = &self.lines;
     }
 
     /// Returns the lines in file order, with the names that they define.
-    pub fn walk(&self) -> &Walk
-        ensures { result.now ≡ self.now }
+    pub fn walk(&self) -> Walk<'_>
+        ensures { result ≡ self.now }
     {
-        &self.walk
+        Walk::of(&self.lines.tree, &self.lines.index)
     }
 
     /// A law: the text is within the limit.
     pub fn text_is_within_limit(&self)
         ensures { length (join (texts self.now)) ≤ text_limit }
     {
-        self.walk.is_within_limit();
+        self.walk().is_within_limit();
     }
 
     /// The text, byte for byte.
@@ -134,7 +144,7 @@ impl Policy {
         ensures { IfOk result (λ text. text.items ≡ join (texts self.now)) }
     {
         let mut text = Vec::with_capacity(self.alloc, self.size)?;
-        let lines = self.walk.lines();
+        let lines = self.walk().lines();
         append_texts(lines.tables, lines.rows, &mut text)?;
         Ok(text)
     }
@@ -203,14 +213,14 @@ impl Policy {
     pub fn len(&self) -> usize
         ensures { result ≡ length self.now }
     {
-        self.walk.lines().rows.len()
+        self.walk().lines().rows.len()
     }
 
     /// The lines with what they say.
     pub fn lines(&self) -> Rows<'_, LineRow>
         ensures { lines_shown result ≡ self.now }
     {
-        self.walk.lines()
+        self.walk().lines()
     }
 
     /// The allocator of its lines.
@@ -222,7 +232,7 @@ impl Policy {
     pub fn line(&self, i: usize) -> Option<&[u8]>
         ensures { option_copied result ≡ option_map (λ (line : LineOf). line.text) (slice_get self.now i) }
     {
-        Some(self.walk.line(i)?.text)
+        Some(self.walk().line(i)?.text)
     }
 
     /// The kind of a line.
@@ -236,21 +246,21 @@ impl Policy {
     pub fn node(&self, i: usize) -> Option<Node<'_>>
         ensures { option_map node_shown result ≡ option_map (λ (line : LineOf). line.node) (slice_get self.now i) }
     {
-        self.walk.node(i)
+        self.walk().node(i)
     }
 
     /// Where the name is defined as an alias of this kind.
     pub fn definition(&self, kind: Kind, name: &[u8]) -> Option<Place>
         ensures { result ≡ place_of kind name.now self.now }
     {
-        self.walk.definition(kind, name)
+        self.walk().definition(kind, name)
     }
 
     /// The members of the alias.
     pub fn members(&self, kind: Kind, name: &[u8]) -> Option<Rows<'_, MemberRow>>
         ensures { option_map members_shown result ≡ members_of kind name.now self.now }
     {
-        self.walk.members(kind, name)
+        self.walk().members(kind, name)
     }
 
     /// Where the name stands as a member of a list of this kind, in file order.
@@ -262,7 +272,7 @@ impl Policy {
         ensures { IfOk result (λ spans. spans.items ≡ mentions kind name.now self.now) }
     {
         let mut spans = Vec::new(self.alloc);
-        let lines = self.walk.lines();
+        let lines = self.walk().lines();
         for (number, row) in lines.rows.iter().enumerate() {
             let line = Line::of(lines.tables, row);
             append_mentions(self.alloc, kind, name, number, &line.node, &mut spans)?;
@@ -282,7 +292,7 @@ fn read_knowing(alloc: Global, known: Option<&Tree>, text: &[u8]) -> Result<Poli
     let mut tree = Tree::new(alloc, known, lines.len())?;
     let index = read_walk(alloc, &mut tree, &lines)?;
     Ok(Policy {
-        walk: Box::new(alloc, Walk::of(tree, index))?,
+        lines: Box::new(alloc, Indexed { tree, index })?,
         size: text.len(),
         alloc,
     })

@@ -1,6 +1,7 @@
 //! The files to which an include line leads.
 
 ghost use Rattle.std.specs.Prelude.{◌≡◌, IfOk, MatchOption, OnOk, Some, None};
+ghost use Rattle.sudoers_line.specs.Piece.{has_byte};
 ghost use Rattle.sudoers_tree.specs.Targets.{base_of, ends_in_tilde, files_in, is_base, is_before, is_in_folder, number_of, put_in_order, targets};
 
 use crate::files::Files;
@@ -8,6 +9,13 @@ use crate::lead::{Lead, folder_of};
 use memchr::{memchr, memrchr};
 use std::alloc::{AllocError, Global};
 use std::cmp::Ordering;
+
+/// Returns whether `byte` is among `bytes`.
+fn has_byte(byte: u8, bytes: &[u8]) -> bool
+    ensures { result ≡ has_byte byte bytes.now }
+{
+    memchr(byte, bytes).is_some()
+}
 
 /// Returns whether the last byte is `~`.
 fn ends_in_tilde(name: &[u8]) -> bool
@@ -19,18 +27,16 @@ fn ends_in_tilde(name: &[u8]) -> bool
     }
 }
 
-/// Returns whether an include of a folder leads to a file of the name `base` in it.
-fn is_base(base: &[u8]) -> bool
+/// Returns whether an include of a folder leads to a file of the name `base` in it: one without `/` and `.` that does not end in `~`
+/// (sudoers(5), Including other files from within sudoers).
+pub fn is_base(base: &[u8]) -> bool
     ensures { result ≡ is_base base.now }
 {
-    match memchr(b'.', base) {
-        Some(_) => false,
-        None => !ends_in_tilde(base),
-    }
+    !has_byte(b'/', base) && !has_byte(b'.', base) && !ends_in_tilde(base)
 }
 
-/// Returns `name` without its folder.
-fn base_of(name: &[u8]) -> &[u8]
+/// Returns `name` without its folder, which ends in the last `/`.
+pub fn base_of(name: &[u8]) -> &[u8]
     ensures { result.now ≡ base_of name.now }
 {
     match memrchr(b'/', name) {

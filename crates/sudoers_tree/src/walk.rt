@@ -21,12 +21,12 @@ use sudoers_line_rows::{DefRow, MemberRow, Node, Rows};
 
 /// Lines in file order with what they say, and the names that they define. Contracts see the list of the lines.
 #[derive(Drop)]
-pub struct Walk {
-    tree: Tree,
-    index: Index,
+pub struct Walk<'a> {
+    tree: &'a Tree,
+    index: &'a Index,
 }
 
-impl Model for Walk {
+impl<'a> Model for Walk<'a> {
     ghost use Rattle.std.specs.Prelude.{List, length, ◌≤◌};
     ghost use Rattle.sudoers_text.specs.Line.{join};
     ghost use Rattle.sudoers_text.specs.Fault.{text_limit};
@@ -37,19 +37,19 @@ impl Model for Walk {
 
     ghost Value = { List Line };
 
-    ghost view = { λ walk. walk.tree.walk };
+    ghost view = { λ walk. walk.tree.now.walk };
 
-    ghost invariant = { λ walk. IsWalk walk.tree.walk × Indexes walk.index (definitions walk.tree.walk)
-        × (length (join (texts walk.tree.walk)) ≤ text_limit) };
+    ghost invariant = { λ walk. IsWalk walk.tree.now.walk × Indexes walk.index.now (definitions walk.tree.now.walk)
+        × (length (join (texts walk.tree.now.walk)) ≤ text_limit) };
 }
 
-impl Walk {
+impl<'a> Walk<'a> {
     /// Returns the walk of `tree`, the names of whose lines are those of `index`.
-    pub(crate) fn of(tree: Tree, index: Index) -> Walk
-        requires walk { IsWalk tree.walk }
-        requires index { Indexes index (definitions tree.walk) }
-        requires within { length (join (texts tree.walk)) ≤ text_limit }
-        ensures { result ≡ tree.walk }
+    pub(crate) fn of(tree: &'a Tree, index: &'a Index) -> Walk<'a>
+        requires walk { IsWalk tree.now.walk }
+        requires index { Indexes index.now (definitions tree.now.walk) }
+        requires within { length (join (texts tree.now.walk)) ≤ text_limit }
+        ensures { result ≡ tree.now.walk }
     {
         Walk { tree, index }
     }
@@ -68,22 +68,15 @@ impl Walk {
         let _ = &self.tree;
     }
 
-    /// Returns the tables and rows of the lines.
-    pub(crate) fn tree(&self) -> &Tree
-        ensures { result.now.walk ≡ self.now }
-    {
-        &self.tree
-    }
-
     /// Returns the lines with what they say.
-    pub fn lines(&self) -> Rows<'_, LineRow>
+    pub fn lines(&self) -> Rows<'a, LineRow>
         ensures { lines_shown result ≡ self.now }
     {
         self.tree.walk()
     }
 
     /// Returns the line with the number `i`, from 0.
-    pub(crate) fn line(&self, i: usize) -> Option<Line<'_>>
+    pub(crate) fn line(&self, i: usize) -> Option<Line<'a>>
         ensures { option_map line_shown result ≡ slice_get self.now i }
     {
         let lines = self.tree.walk();
@@ -94,7 +87,7 @@ impl Walk {
     }
 
     /// Returns what the line with the number `i`, from 0, says.
-    pub(crate) fn node(&self, i: usize) -> Option<Node<'_>>
+    pub(crate) fn node(&self, i: usize) -> Option<Node<'a>>
         ensures { option_map node_shown result ≡ option_map (λ (line : LineOf). line.node) (slice_get self.now i) }
     {
         Some(self.line(i)?.node)
@@ -108,7 +101,7 @@ impl Walk {
     }
 
     /// Returns the members of the alias `name` of this kind.
-    pub fn members(&self, kind: Kind, name: &[u8]) -> Option<Rows<'_, MemberRow>>
+    pub fn members(&self, kind: Kind, name: &[u8]) -> Option<Rows<'a, MemberRow>>
         ensures { option_map members_shown result ≡ members_of kind name.now self.now }
     {
         let place = self.definition(kind, name)?;

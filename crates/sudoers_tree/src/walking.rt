@@ -6,7 +6,8 @@ ghost use Rattle.sudoers_tree.specs.Files.{fault_of, lines_of, name_of};
 ghost use Rattle.sudoers_tree.specs.Fault.{syntax_fault};
 ghost use Rattle.sudoers_tree.specs.Line.{Line as LineOf, lines_shown};
 ghost use Rattle.sudoers_tree.specs.Load.{unless_off, walked_over};
-ghost use Rattle.sudoers_tree.specs.declared.load_fault.LoadFault.TheVariants.{InFile, NotLoaded, NoMemory, TooDeep};
+ghost use Rattle.sudoers_tree.specs.declared.fault.ReadFault.TheVariants.{NotLoaded, TooDeep};
+ghost use Rattle.sudoers_tree.specs.declared.load_fault.LoadFault.TheVariants.{InFile, NoMemory};
 ghost use Rattle.sudoers_tree.specs.Targets.{lead_name};
 ghost use Rattle.sudoers_tree.specs.Walk.{and_then, enter, first_on, is_on, leads_to, nothing, opened, site, taken, twice, unless_in, visit, visit_each, walk_lines};
 ghost use Rattle.sudoers_tree.specs.internal.Walking.{Comes, IsWalking, walked};
@@ -78,32 +79,38 @@ impl Walking {
     fn twice(&self, alloc: Global, at: Spot, file: usize) -> Result<LoadFault, AllocError>
         ensures { IfOk result (λ fault. fault ≡ twice self.now.files.files (site self.now.files.files at.file at.line) file) }
     {
-        Ok(LoadFault::Twice {
+        Ok(LoadFault::InFile {
             file: self.name(alloc, at.file)?,
-            line: self.files.row(at),
-            name: self.name(alloc, file)?,
+            fault: ReadFault::Twice {
+                line: self.files.row(at),
+                name: self.name(alloc, file)?,
+            },
         })
     }
 
     /// Returns the fault that the line at `at` leads to a file that is not there.
     fn not_loaded(&self, alloc: Global, at: Spot, lead: Lead) -> Result<LoadFault, AllocError>
-        ensures { IfOk result (λ fault. fault ≡ NotLoaded (name_of self.now.files.files at.file) (site self.now.files.files at.file at.line).row (lead_name lead)) }
+        ensures { IfOk result (λ fault. fault ≡ InFile (name_of self.now.files.files at.file) (NotLoaded (site self.now.files.files at.file at.line).row (lead_name lead))) }
     {
         let (Lead::File(name) | Lead::Dir(name)) = lead;
-        Ok(LoadFault::NotLoaded {
+        Ok(LoadFault::InFile {
             file: self.name(alloc, at.file)?,
-            line: self.files.row(at),
-            name,
+            fault: ReadFault::NotLoaded {
+                line: self.files.row(at),
+                name,
+            },
         })
     }
 
     /// Returns the fault that the line at `at` includes a file that is nested too deep.
     fn too_deep(&self, alloc: Global, at: Spot) -> Result<LoadFault, AllocError>
-        ensures { IfOk result (λ fault. fault ≡ TooDeep (name_of self.now.files.files at.file) (site self.now.files.files at.file at.line).row) }
+        ensures { IfOk result (λ fault. fault ≡ InFile (name_of self.now.files.files at.file) (TooDeep (site self.now.files.files at.file at.line).row)) }
     {
-        Ok(LoadFault::TooDeep {
+        Ok(LoadFault::InFile {
             file: self.name(alloc, at.file)?,
-            line: self.files.row(at),
+            fault: ReadFault::TooDeep {
+                line: self.files.row(at),
+            },
         })
     }
 
@@ -204,7 +211,7 @@ impl Walking {
     }
 
     #[cycle(walk)]
-    /// Goes on with a file, below which so many levels are left.
+    /// Goes on with a file. Below it files may be nested `left` levels deep.
     fn take_file(&mut self, alloc: Global, left: usize, file: usize) -> Result<(), LoadFault>
         requires { IsWalking self.old }
         ensures { Comes result self.old self.new
@@ -220,7 +227,7 @@ impl Walking {
     }
 
     #[cycle(walk)]
-    /// Goes on with the files to which the line at `at` leads, below whose file so many levels are left.
+    /// Goes on with the files to which the line at `at` leads. Below its file files may be nested `left` levels deep.
     fn follow(&mut self, alloc: Global, left: usize, at: Spot) -> Result<(), LoadFault>
         requires { IsWalking self.old }
         ensures { (line : LineOf) → slice_get (lines_of self.old.files.files at.file) at.line ≡ Some line
@@ -240,7 +247,7 @@ impl Walking {
 
     #[tactic(auto, using(crate::proofs::Visits::visit_below))]
     #[cycle(walk)]
-    /// Goes on with a file to which the line at `at` leads, where so many levels are left.
+    /// Goes on with a file to which the line at `at` leads, where files may be nested `left` levels deeper.
     fn visit(&mut self, alloc: Global, left: usize, at: Spot, file: usize) -> Result<(), LoadFault>
         requires { IsWalking self.old }
         ensures { Comes result self.old self.new (visit left self.old.files.files (site self.old.files.files at.file at.line) file (walked self.old)) }

@@ -11,4 +11,7 @@ edit_of_read (read.Syntax line col why) = edit.NotPolicy (read.Syntax line col w
 edit_of_read (read.Reserved kind name) = edit.NotPolicy (read.Reserved kind name)
 edit_of_read (read.Duplicate kind name) = edit.NotPolicy (read.Duplicate kind name)
 edit_of_read (read.TooMany kind) = edit.NotPolicy (read.TooMany kind)
+edit_of_read (read.NotLoaded line name) = edit.NotPolicy (read.NotLoaded line name)
+edit_of_read (read.Twice line name) = edit.NotPolicy (read.Twice line name)
+edit_of_read (read.TooDeep line) = edit.NotPolicy (read.TooDeep line)
 edit_of_read read.NoMemory = edit.NoMemory

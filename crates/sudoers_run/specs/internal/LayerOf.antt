@@ -25,6 +25,9 @@ layer_of_read (read.Syntax line col why) = layer.Policy (read.Syntax line col wh
 layer_of_read (read.Reserved kind name) = layer.Policy (read.Reserved kind name)
 layer_of_read (read.Duplicate kind name) = layer.Policy (read.Duplicate kind name)
 layer_of_read (read.TooMany kind) = layer.Policy (read.TooMany kind)
+layer_of_read (read.NotLoaded line name) = layer.Policy (read.NotLoaded line name)
+layer_of_read (read.Twice line name) = layer.Policy (read.Twice line name)
+layer_of_read (read.TooDeep line) = layer.Policy (read.TooDeep line)
 layer_of_read read.NoMemory = layer.NoMemory
 
 abbrev pub layer_of_script : ScriptFault → LayerFault

@@ -10,7 +10,7 @@ use Rattle.sudoers_check.proofs.checking.reached.Goals as goal
 
 pub reached-requires : goal.reached-requires
 reached-requires c =
-    let ds : List Definition = definitions c.args.numbers.now.walk.now in
+    let ds : List Definition = definitions c.args.numbers.now.walk in
     let lines : List Line = lines_shown c.args.lines.now in
     let roots : c.as_slice.result.now ≡ roots_since ds 0 lines = c.as_slice.ensures.value ∙ c.requires.roots in
     subst (λ g. AreNodes g c.as_slice.result.now) (sym c.requires.graph) (subst (AreNodes (graph_of ds)) (sym roots) (are_roots ds lines))

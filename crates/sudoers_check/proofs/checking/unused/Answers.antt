@@ -8,9 +8,9 @@ use Rattle.sudoers_check.proofs.checking.unused.Goals as goal
 
 pub returns : goal.returns
 returns c =
-    let lines : List Line = c.walk-walk.result.now in
+    let lines : List Line = c.in_ok-numbers.numbers.walk in
     let marks : c.as_slice.result.now ≡ map (is_used lines) (definitions lines) =
     c.as_slice.ensures.value ∙ c.in_ok-reached.ensures ∙ ap (λ ls. map (is_used ls) (definitions ls)) c.lines.ensures in
-    subst (λ (ls : List Line). IfOk c.unmarked.result (λ places. places.items ≡ map (λ (d : Definition). (d.kind, d.place)) (unused_of ls))) c.walk-walk.ensures
+    subst (λ (ls : List Line). IfOk c.unmarked.result (λ places. places.items ≡ map (λ (d : Definition). (d.kind, d.place)) (unused_of ls))) (c.in_ok-numbers.ensures ∙ c.walk.ensures)
     (subst (λ ds. IfOk c.unmarked.result (λ places. places.items ≡ map (λ (d : Definition). (d.kind, d.place)) ds))
     (ap (λ ms. picked false ms (definitions lines)) marks ∙ picked_others (is_unused lines) (definitions lines)) c.unmarked.ensures)

@@ -17,14 +17,14 @@ returns-in-Ok-clause-straight c =
     let laws = c.chains_are.ensures in
     let lines = c.args.policy.now in
     IfOk-weaker c.rewrite_acyclic.result _ (λ new. has_round lines ≡ false)
-    (λ new is. no_round lines (laws.unused lines) (laws.used lines) (laws.cyclic lines) (laws.straight lines) (straight_of lines c.walk.result.now c.walk.ensures c.in-Ok.ensures.straight)) c.rewrite_acyclic.ensures.lines
+    (λ new is. no_round lines (laws.unused lines) (laws.used lines) (laws.cyclic lines) (laws.straight lines) (straight_of lines c.walk.result c.walk.ensures c.in-Ok.ensures.straight)) c.rewrite_acyclic.ensures.lines
 
 pub returns-in-Ok-clause-fault : goal.returns-in-Ok-clause-fault
 returns-in-Ok-clause-fault c =
     let laws = c.chains_are.ensures in
     let lines = c.args.policy.now in
     let changes = changes_shown c.args.changes.now in
-    let none = no_round lines (laws.unused lines) (laws.used lines) (laws.cyclic lines) (laws.straight lines) (straight_of lines c.walk.result.now c.walk.ensures c.in-Ok.ensures.straight) in
+    let none = no_round lines (laws.unused lines) (laws.used lines) (laws.cyclic lines) (laws.straight lines) (straight_of lines c.walk.result c.walk.ensures c.in-Ok.ensures.straight) in
     IfErr-weaker c.rewrite_acyclic.result _ (IsWhole changes.expand (has_round lines) (member_count (rewritten changes lines)))
     (λ fault why. elim why [
       | inl n ↦ inl n

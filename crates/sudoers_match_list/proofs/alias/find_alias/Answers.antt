@@ -6,10 +6,10 @@ use Rattle.sudoers_match_list.proofs.alias.find_alias.Goals as goal
 
 pub returns-in_err-members-clause-number : goal.returns-in_err-members-clause-number
 returns-in_err-members-clause-number c =
-    absurd (has_members c.args.kind c.args.numbers.now.walk.now c.in-Alias.name.now c.in_ok-number.number
+    absurd (has_members c.args.kind c.args.numbers.now.walk c.in-Alias.name.now c.in_ok-number.number
     (sym c.of.ensures ∙ c.in_ok-number.was) (ap (option_map members_shown) (sym c.in_err-members.was) ∙ c.members.ensures))
 
 pub returns-clause-alias : goal.returns-clause-alias
 returns-clause-alias c =
-    alias_is c.args.kind c.args.numbers.now.walk.now c.in-Alias.name.now c.in_ok-number.number (members_shown c.in_ok-members.members)
+    alias_is c.args.kind c.args.numbers.now.walk c.in-Alias.name.now c.in_ok-number.number (members_shown c.in_ok-members.members)
     (sym c.of.ensures ∙ c.in_ok-number.was) (ap (option_map members_shown) (sym c.in_ok-members.was) ∙ c.members.ensures)

@@ -11,7 +11,7 @@ use Rattle.sudoers_match_list.proofs.cycle.has_reachable_cycle.Goals as goal
 
 pub returns-then-cycle : goal.returns-then-cycle
 returns-then-cycle c =
-    let lines : List Line = c.args.numbers.now.walk.now in
+    let lines : List Line = c.args.numbers.now.walk in
     let held = c.lines-lines.result in
     let i = c.loop-row.row-index in
     let line : Line = line_in held.tables.now (get_or held.rows.now i _) in
@@ -23,7 +23,7 @@ returns-then-cycle c =
 
 pub loop-row-preserved : goal.loop-row-preserved
 loop-row-preserved c =
-    let lines : List Line = c.args.numbers.now.walk.now in
+    let lines : List Line = c.args.numbers.now.walk in
     let held = c.lines-lines.result in
     let i = c.loop-row.row-index in
     let line : Line = line_in held.tables.now (get_or held.rows.now i _) in
@@ -37,7 +37,7 @@ loop-row-preserved c =
 
 pub returns : goal.returns
 returns c =
-    let lines : List Line = c.args.numbers.now.walk.now in
+    let lines : List Line = c.args.numbers.now.walk in
     let held = c.lines-lines.result in (
       λ e. absurd (false≢true e),
       λ h. absurd

@@ -46,7 +46,7 @@ returns-in_err-request-clause-asked c =
     let same : c.from_residual-in_err-request.result ≡ Err fault = search rules in
     subst (Told w c.args.file.now lines people who) (sym same)
     (default_refused w c.args.file.now lines people who (nobody_of w.target (sym c.is_some.ensures ∙ c.if-is_some.false)) (nobody_of w.group (sym c.is_some-else-is_some.ensures ∙ c.if-is_some-2.false))
-    first told (acyclic_of c.args.policy.now c.walk.result.now c.walk.ensures c.in_ok-policy.ensures.straight) user (subst (λ (ls : List Line). IsRunasDefault ls first.who user) (c.in_ok-policy.ensures.walk ∙ c.walk.ensures) c.in_ok-default.ensures)
+    first told (acyclic_of c.args.policy.now c.walk.result c.walk.ensures c.in_ok-policy.ensures.straight) user (subst (λ (ls : List Line). IsRunasDefault ls first.who user) (c.in_ok-policy.ensures.walk ∙ c.walk.ensures) c.in_ok-default.ensures)
     fault c.in_err-request.ensures.told)
 
 pub answer_text-requires-2 : goal.answer_text-requires-2
@@ -69,6 +69,6 @@ returns-clause-asked c =
     let told : first_told w people who w.target ≡ Ok first =
     ap (λ (n : Bor (List ℕ)). request_told people who n.now (text_shown w.group) w.words.now w.moment.now) (sym c.unwrap_or-named.ensures) ∙ c.in_ok-first.ensures.told in
     default_answered w c.args.file.now lines people who (nobody_of w.target (sym c.is_some.ensures ∙ c.if-is_some.false)) (nobody_of w.group (sym c.is_some-else-is_some.ensures ∙ c.if-is_some-2.false))
-    first told (acyclic_of c.args.policy.now c.walk.result.now c.walk.ensures c.in_ok-policy.ensures.straight) user (subst (λ (ls : List Line). IsRunasDefault ls first.who user) (c.in_ok-policy.ensures.walk ∙ c.walk.ensures) c.in_ok-default.ensures)
+    first told (acyclic_of c.args.policy.now c.walk.result c.walk.ensures c.in_ok-policy.ensures.straight) user (subst (λ (ls : List Line). IsRunasDefault ls first.who user) (c.in_ok-policy.ensures.walk ∙ c.walk.ensures) c.in_ok-default.ensures)
     request c.in_ok-request.ensures.told c.answer_text-2.result
     (subst (λ (ls : List Line). Answered w c.args.file.now ls request c.answer_text-2.result) (c.in_ok-policy.ensures.walk ∙ c.walk.ensures) c.answer_text-2.ensures.answered)

@@ -1,4 +1,4 @@
-use Rattle.std.proofs.Common.{◌≡◌, ◌∙◌, sym}
+use Rattle.std.proofs.Common.{sym}
 use Rattle.sudoers_tree.proofs.Folders.{folder_last, folder_none}
 use Rattle.sudoers_tree.proofs.lead.folder_of.Goals as goal
 

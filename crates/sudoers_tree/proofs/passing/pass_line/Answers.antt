@@ -1,10 +1,8 @@
-use Rattle.std.proofs.Common.{◌≡◌, ◌⊎◌, ◌++◌, ◌∷◌, [], ◌∙◌, List, length, Option, Some, Ok, Err, sym, ap, subst, rules}
+use Rattle.std.proofs.Common.{◌≡◌, ◌++◌, ◌∷◌, [], ◌∙◌, List, length, Option, Some, Ok, Err, sym, ap, subst, rules}
 use Rattle.std.proofs.lemmas.List.{length-map}
 use Rattle.sudoers_tree.specs.Line.{Line, line_in, line_shown}
 use Rattle.sudoers_tree.specs.declared.fault.ReadFault.{ReadFault}
-use Rattle.sudoers_tree.specs.declared.fault.ReadFault.TheVariants.{NoMemory}
 use Rattle.sudoers_tree.specs.Definition.{definitions, definitions_in}
-use Rattle.sudoers_tree.specs.Reading.{first_name_fault}
 use Rattle.sudoers_tree.specs.Index.{Enters, Indexes}
 use Rattle.sudoers_tree.specs.internal.Passing.{Passes}
 use Rattle.sudoers_tree.proofs.Joined.{definitions_push}

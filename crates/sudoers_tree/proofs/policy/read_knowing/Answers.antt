@@ -4,6 +4,9 @@ use Rattle.sudoers_tree.specs.declared.fault.ReadFault.{ReadFault}
 use Rattle.sudoers_tree.specs.declared.fault.ReadFault.TheVariants.{NoMemory}
 use Rattle.sudoers_tree.specs.Line.{Line}
 use Rattle.sudoers_tree.specs.internal.Wrapped.{fault_of_text}
+use Rattle.sudoers_tree.specs.declared.policy.Indexed.{Indexed}
+use Rattle.sudoers_tree.specs.Definition.{definitions}
+use Rattle.sudoers_tree.specs.Index.{Indexes}
 use Rattle.sudoers_tree.specs.Fault.{IsFaultOf}
 use Rattle.sudoers_tree.specs.Reading.{read_of, IsOutcome, ReadGives}
 use Rattle.sudoers_tree.proofs.ReadText.{not_cut, is_cut, faulty, fault_given}
@@ -35,32 +38,26 @@ returns-in_err-index-clause-fault c =
 is_read : (text : List ℕ) (walk : List Line) → IsOutcome text (read_of text) → read_of text ≡ Ok walk → IsOutcome text (Ok walk)
 is_read text walk is outcome = subst (IsOutcome text) outcome is
 
-pub of-requires-clause-walk : goal.of-requires-clause-walk
-of-requires-clause-walk c =
-    let outcome = is_cut c.args.text.now c.in_ok-lines.lines c.in_ok-lines.ensures.outcome ∙ c.in_ok-index.ensures.0 in
-    (is_read c.args.text.now c.read_walk.new.tree.walk (c.read_is.ensures c.args.text.now) outcome).0.walk
-
-pub of-requires-clause-within : goal.of-requires-clause-within
-of-requires-clause-within c =
-    let outcome = is_cut c.args.text.now c.in_ok-lines.lines c.in_ok-lines.ensures.outcome ∙ c.in_ok-index.ensures.0 in
-    (is_read c.args.text.now c.read_walk.new.tree.walk (c.read_is.ensures c.args.text.now) outcome).0.cut.fits
-
 pub returns-clause-outcome : goal.returns-clause-outcome
 returns-clause-outcome c =
     is_cut c.args.text.now c.in_ok-lines.lines c.in_ok-lines.ensures.outcome ∙ c.in_ok-index.ensures.0
-    ∙ ap (λ lines. Ok lines) (sym c.of.ensures ∙ sym c.in_ok-new.ensures.ok)
+    ∙ ap (λ (held : Indexed). Ok held.tree.walk) (sym c.in_ok-new.ensures.ok)
 
 pub returns-clause-policy : goal.returns-clause-policy
 returns-clause-policy c =
     let outcome =
     is_cut c.args.text.now c.in_ok-lines.lines c.in_ok-lines.ensures.outcome ∙ c.in_ok-index.ensures.0
-    ∙ ap (λ lines. Ok lines) (sym c.of.ensures ∙ sym c.in_ok-new.ensures.ok) in
-    is_read c.args.text.now c.in_ok-new.field-0.value (c.read_is.ensures c.args.text.now) outcome
+    ∙ ap (λ (held : Indexed). Ok held.tree.walk) (sym c.in_ok-new.ensures.ok) in
+    is_read c.args.text.now c.in_ok-new.field-0.value.tree.walk (c.read_is.ensures c.args.text.now) outcome
 
 pub invariant_of-result : goal.invariant_of-result
 invariant_of-result c =
     let outcome =
     is_cut c.args.text.now c.in_ok-lines.lines c.in_ok-lines.ensures.outcome ∙ c.in_ok-index.ensures.0
-    ∙ ap (λ lines. Ok lines) (sym c.of.ensures ∙ sym c.in_ok-new.ensures.ok) in
-    let is = is_read c.args.text.now c.in_ok-new.field-0.value (c.read_is.ensures c.args.text.now) outcome in
-    (ap read_of is.1 ∙ outcome, ap length (sym is.1))
+    ∙ ap (λ (held : Indexed). Ok held.tree.walk) (sym c.in_ok-new.ensures.ok) in
+    let is = is_read c.args.text.now c.in_ok-new.field-0.value.tree.walk (c.read_is.ensures c.args.text.now) outcome in (
+      ap read_of is.1 ∙ outcome,
+      ap length (sym is.1),
+      subst (λ (held : Indexed). Indexes held.index (definitions held.tree.walk)) (sym c.in_ok-new.ensures.ok) c.in_ok-index.ensures.1,
+      is.0,
+    )

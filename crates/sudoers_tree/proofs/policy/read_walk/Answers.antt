@@ -1,5 +1,4 @@
-use Rattle.std.proofs.Common.{◌≡◌, ◌∙◌, ◌⊎◌, inl, inr, List, ℕ, [], ◌++◌, Ok, Err, Some, None, sym, ap, subst, rules}
-use Rattle.sudoers_tree.specs.Line.{Line}
+use Rattle.std.proofs.Common.{◌≡◌, ◌∙◌, ◌⊎◌, inr, List, ℕ, [], ◌++◌, Ok, Err, Some, None, sym, ap, subst, rules}
 use Rattle.sudoers_tree.specs.declared.fault.ReadFault.{ReadFault}
 use Rattle.sudoers_tree.specs.declared.fault.ReadFault.TheVariants.{NoMemory}
 use Rattle.sudoers_tree.specs.Definition.{definitions}

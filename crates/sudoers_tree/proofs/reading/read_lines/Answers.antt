@@ -1,4 +1,4 @@
-use Rattle.std.proofs.Common.{◌≡◌, ◌≤◌, ◌+◌, ◌<◌, ◌∙◌, ℕ, List, [], length, drop, slice_get, Some, None, Fits, w64, Err, sym, ap, ap₂, subst, rules, arith}
+use Rattle.std.proofs.Common.{◌≡◌, ◌∙◌, length, Some, Err, sym, ap, ap₂, subst, rules, arith}
 use Rattle.sudoers_tree.specs.Files.{fault_at}
 use Rattle.sudoers_line.specs.declared.fault.LineFault.TheVariants.{Syntax}
 use Rattle.sudoers_line_reader.specs.Outcome.{LineGives, outcome_of}

@@ -1,4 +1,3 @@
-use Rattle.std.proofs.Common.{◌≡◌, ◌<◌, length, sym}
 use Rattle.sudoers_tree.proofs.Folders.{folder_last, folder_none}
 use Rattle.sudoers_tree.proofs.Numbered.{base_behind, base_whole}
 use Rattle.sudoers_tree.proofs.targets.base_of.Goals as goal

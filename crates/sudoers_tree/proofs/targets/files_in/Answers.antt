@@ -1,4 +1,4 @@
-use Rattle.std.proofs.Common.{◌≡◌, ◌∙◌, ◌≤◌, ◌<◌, ◌-◌, ◌+◌, ℕ, List, true, false, length, drop, sym, ap, rules, arith}
+use Rattle.std.proofs.Common.{◌≡◌, ◌∙◌, ◌<◌, ◌-◌, ◌+◌, ℕ, List, true, false, length, drop, sym, ap, rules, arith}
 use Rattle.sudoers_tree.specs.Files.{name_of}
 use Rattle.sudoers_tree.specs.Targets.{files_in, is_in_folder, put_in_order}
 use Rattle.sudoers_tree.proofs.Numbered.{in_folder, out_of_folder}

@@ -1,4 +1,4 @@
-use Rattle.std.proofs.Common.{◌≡◌, ◌∙◌, ◌<◌, true, false, length, sym, ap, rules, arith}
+use Rattle.std.proofs.Common.{◌≡◌, ◌∙◌, ◌<◌, true, false, length, sym, rules}
 use Rattle.std.specs.Str.{bytes_eq}
 use Rattle.sudoers_tree.specs.Files.{name_of}
 use Rattle.sudoers_tree.proofs.Numbered.{number_here, number_later}

@@ -1,4 +1,4 @@
-use Rattle.std.proofs.Common.{◌≡◌, ◌∙◌, ◌<◌, ◌++◌, ◌∷◌, [], ℕ, List, true, false, length, take, drop, slice_get, Some, sym, ap, rules}
+use Rattle.std.proofs.Common.{◌≡◌, ◌∙◌, ◌<◌, ◌++◌, ℕ, List, true, false, length, take, drop, slice_get, Some, sym, ap, rules}
 use Rattle.std.proofs.lemmas.Option.{slice_get-get_or}
 use Rattle.sudoers_tree.specs.Targets.{is_before, put_in_order}
 use Rattle.sudoers_tree.proofs.Numbered.{at_end, before_one, behind_one}

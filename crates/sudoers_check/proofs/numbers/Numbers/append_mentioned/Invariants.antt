@@ -5,5 +5,5 @@ use Rattle.sudoers_check.proofs.numbers.Numbers.append_mentioned.Given as goal
 
 abbrev pub invariant-loop-mention : goal.invariant-loop-mention
 invariant-loop-mention l =
-    l.numbers.items ++ numbers_among (definitions l.self.walk.now) (drop l.mention-index l.mention-items)
-    ≡ l.initial.numbers.items ++ numbers_among (definitions l.self.walk.now) l.mention-items
+    l.numbers.items ++ numbers_among (definitions l.self.walk) (drop l.mention-index l.mention-items)
+    ≡ l.initial.numbers.items ++ numbers_among (definitions l.self.walk) l.mention-items

@@ -9,7 +9,7 @@ use Rattle.sudoers_check.proofs.numbers.Numbers.links.Goals as goal
 
 pub from_nodes-graph-requires : goal.from_nodes-graph-requires
 from_nodes-graph-requires c =
-    let ds : List Definition = definitions c.args.self.now.walk.now in
+    let ds : List Definition = definitions c.args.self.now.walk in
     let held = c.args.lines.now in
     let so_far : List (List ℕ) = map (λ edges. edges.items) c.loop-number.nodes.items in
     let none = drop_of_length-le held.rows.now c.loop-number-test.false in

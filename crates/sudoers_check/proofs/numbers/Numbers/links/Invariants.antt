@@ -6,7 +6,7 @@ use Rattle.sudoers_check.proofs.numbers.Numbers.links.Given as goal
 
 abbrev pub invariant-loop-number : goal.invariant-loop-number
 invariant-loop-number l =
-    let ds = definitions l.self.walk.now in
+    let ds = definitions l.self.walk in
     let left = map (line_in l.lines.tables.now) (drop l.number l.lines.rows.now) in
     let all = map (line_in l.lines.tables.now) l.lines.rows.now in
     record {

@@ -12,5 +12,5 @@ invariant_of-result-clause-count_is c =
     let t = c.lines-lines.result.tables.now in
     let rows = c.lines-lines.result.rows.now in
     let none : drop c.loop-line.line rows ≡ _ = drop_all c.loop-line.line rows (search rules) in
-    let whole : total (map (line_in t) rows) ≡ total c.args.walk.now = ap total c.lines-lines.ensures in
-    omega (arith, c.loop-line.invariant.2, ap (λ left. total (map (line_in t) left)) none, whole, since_length 0 c.args.walk.now)
+    let whole : total (map (line_in t) rows) ≡ total c.args.walk = ap total c.lines-lines.ensures in
+    omega (arith, c.loop-line.invariant.2, ap (λ left. total (map (line_in t) left)) none, whole, since_length 0 c.args.walk)

@@ -5,5 +5,5 @@ use Rattle.sudoers_check.proofs.numbers.Numbers.of_aliases.Given as goal
 
 abbrev pub invariant-loop-alias : goal.invariant-loop-alias
 invariant-loop-alias l =
-    l.numbers.items ++ numbers_named (definitions l.self.walk.now) (drop l.alias-index l.aliases)
-    ≡ numbers_named (definitions l.self.walk.now) l.aliases
+    l.numbers.items ++ numbers_named (definitions l.self.walk) (drop l.alias-index l.aliases)
+    ≡ numbers_named (definitions l.self.walk) l.aliases

@@ -24,7 +24,7 @@ returns-in_err-number c =
     let name = text_in t c.in-Alias.name in
     let not_found : c.of.result ≡ None = search rules in
     let number : number_of k name (definitions lines) ≡ None =
-    ap (λ ls. number_of k name (definitions ls)) (sym c.numbers.ensures) ∙ ap (λ x. number_of k x (definitions c.numbers.result.now.walk.now)) (sym c.text.ensures) ∙ sym c.of.ensures ∙ not_found in
+    ap (λ ls. number_of k name (definitions ls)) (sym c.numbers.ensures) ∙ ap (λ x. number_of k x (definitions c.numbers.result.now.walk)) (sym c.text.ensures) ∙ sym c.of.ensures ∙ not_found in
     let none : c.from_residual.result ≡ None = search rules in
     subst (λ r. MatchOption r (alias_of k lines (atom_in t c.args.atom) ≡ None) (IsChain k lines t (atom_in t c.args.atom))) (sym none)
     (ap (λ a. alias_of k lines (atom_in t a)) c.in-Alias.is ∙ alias_none k lines (atom.Alias name) number)
@@ -38,7 +38,7 @@ returns-in_err-shortcut c =
     let n = c.in_ok-number.number in
     let found : c.of.result ≡ Some n = search rules in
     let number : number_of k name (definitions lines) ≡ Some n =
-    ap (λ ls. number_of k name (definitions ls)) (sym c.numbers.ensures) ∙ ap (λ x. number_of k x (definitions c.numbers.result.now.walk.now)) (sym c.text.ensures) ∙ sym c.of.ensures ∙ found in
+    ap (λ ls. number_of k name (definitions ls)) (sym c.numbers.ensures) ∙ ap (λ x. number_of k x (definitions c.numbers.result.now.walk)) (sym c.text.ensures) ∙ sym c.of.ensures ∙ found in
     let within = number_within k lines (atom.Alias name) n number in
     let past : length self.shortcuts.items ≤ n = search rules in
     absurd (omega (arith, within, past, self.shortcuts_are.size))
@@ -64,7 +64,7 @@ returns c =
     let n = c.in_ok-number.number in
     let found : c.of.result ≡ Some n = search rules in
     let number : number_of k name (definitions lines) ≡ Some n =
-    ap (λ ls. number_of k name (definitions ls)) (sym c.numbers.ensures) ∙ ap (λ x. number_of k x (definitions c.numbers.result.now.walk.now)) (sym c.text.ensures) ∙ sym c.of.ensures ∙ found in
+    ap (λ ls. number_of k name (definitions ls)) (sym c.numbers.ensures) ∙ ap (λ x. number_of k x (definitions c.numbers.result.now.walk)) (sym c.text.ensures) ∙ sym c.of.ensures ∙ found in
     let s = c.in_ok-shortcut.shortcut.now in
     let r = c.in_ok-first.first.now in
     let q = c.in_ok-last.last.now in

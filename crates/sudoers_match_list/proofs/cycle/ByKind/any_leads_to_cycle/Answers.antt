@@ -9,7 +9,7 @@ use Rattle.sudoers_match_list.proofs.cycle.ByKind.any_leads_to_cycle.Goals as go
 
 pub returns-then-cycle : goal.returns-then-cycle
 returns-then-cycle c =
-    let lines = c.args.numbers.now.walk.now in
+    let lines = c.args.numbers.now.walk in
     let all = c.args.aliases.now in
     let i = c.loop-alias.alias-index in
     let a : AliasMember = c.alias-item.result in
@@ -24,7 +24,7 @@ returns-then-cycle c =
 
 pub loop-alias-preserved : goal.loop-alias-preserved
 loop-alias-preserved c =
-    let lines = c.args.numbers.now.walk.now in
+    let lines = c.args.numbers.now.walk in
     let all = c.args.aliases.now in
     let i = c.loop-alias.alias-index in
     let a : AliasMember = c.alias-item.result in
@@ -39,7 +39,7 @@ loop-alias-preserved c =
 
 pub returns : goal.returns
 returns c =
-    let lines = c.args.numbers.now.walk.now in (
+    let lines = c.args.numbers.now.walk in (
       c.loop-alias.invariant.known,
       λ h. none_of (λ (x : AliasMember). LeadsToCycle x.kind lines (called x.name)) c.args.aliases.now c.loop-alias.alias-index c.loop-alias-test.false
           c.loop-alias.invariant.none h.alias h.among h.leads,

@@ -6,6 +6,6 @@ use Rattle.sudoers_match_list.proofs.cycle.ByKind.any_leads_to_cycle.Given as go
 
 abbrev pub invariant-loop-alias : goal.invariant-loop-alias
 invariant-loop-alias l = record {
-  known : AreRemembered l.numbers.walk.now l.self;
-  none : (j : ℕ) → j < l.alias-index → (a : AliasMember) → slice_get l.aliases j ≡ Some a → LeadsToCycle a.kind l.numbers.walk.now (called a.name) → ⊥;
+  known : AreRemembered l.numbers.walk l.self;
+  none : (j : ℕ) → j < l.alias-index → (a : AliasMember) → slice_get l.aliases j ≡ Some a → LeadsToCycle a.kind l.numbers.walk (called a.name) → ⊥;
 }

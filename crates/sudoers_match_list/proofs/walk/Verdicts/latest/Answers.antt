@@ -12,11 +12,11 @@ use Rattle.sudoers_match_list.proofs.walk.Verdicts.latest.Goals as goal
 use Rattle.sudoers_match_list.proofs.walk.Verdicts.latest.Goals.{in-None, in-Some+in_ok-hit-in-Some+in-Latest}
 
 pub loop-row-init : goal.loop-row-init
-loop-row-init g c = record { verdicts = c.requires; latest = latest_none c.args.kind c.args.numbers.now.walk.now (g.K.MemberKind.test c.args.asked.now) }
+loop-row-init g c = record { verdicts = c.requires; latest = latest_none c.args.kind c.args.numbers.now.walk (g.K.MemberKind.test c.args.asked.now) }
 
 pub returns-in-Cyclic : goal.returns-in-Cyclic
 returns-in-Cyclic g c =
-    let kd = c.args.kind in let lines = c.args.numbers.now.walk.now in let test = g.K.MemberKind.test c.args.asked.now in
+    let kd = c.args.kind in let lines = c.args.numbers.now.walk in let test = g.K.MemberKind.test c.args.asked.now in
     let ms = c.args.members.now in let m = member_shown c.member-member.result in
     to_cycle kd lines test (members_shown ms) c.loop-row.row-index m
     (read_map (member_in ms.tables.now) ms.rows.now c.loop-row.row-index _ c.loop-row-test.true m c.member-member.ensures)
@@ -26,7 +26,7 @@ returns-in-Cyclic g c =
 
 pub loop-row-preserved : goal.loop-row-preserved
 loop-row-preserved g c =
-    let kd = c.args.kind in let lines = c.args.numbers.now.walk.now in let test = g.K.MemberKind.test c.args.asked.now in
+    let kd = c.args.kind in let lines = c.args.numbers.now.walk in let test = g.K.MemberKind.test c.args.asked.now in
     let ms = c.args.members.now in let m = member_shown c.member-member.result in let i = c.loop-row.row-index in
     let at = read_map (member_in ms.tables.now) ms.rows.now i _ c.loop-row-test.true m c.member-member.ensures in
     let so_far = c.loop-row.invariant in

@@ -6,6 +6,6 @@ use Rattle.sudoers_match_list.proofs.walk.Verdicts.latest.Given as goal
 
 abbrev pub invariant-loop-row : goal.invariant-loop-row
 invariant-loop-row g l = record {
-  verdicts : Remembers l.kind l.numbers.walk.now (g.K.MemberKind.test l.asked) l.self;
-  latest : IsLatest l.kind l.numbers.walk.now (g.K.MemberKind.test l.asked) (take l.row-index (map (member_in l.members.tables.now) l.members.rows.now)) l.latest;
+  verdicts : Remembers l.kind l.numbers.walk (g.K.MemberKind.test l.asked) l.self;
+  latest : IsLatest l.kind l.numbers.walk (g.K.MemberKind.test l.asked) (take l.row-index (map (member_in l.members.tables.now) l.members.rows.now)) l.latest;
 }

@@ -10,7 +10,7 @@ use Rattle.sudoers_match_list.proofs.walk.Verdicts.settle.Goals.{in-New+in_ok-en
 pub loop-step-init : goal.loop-step-init
 loop-step-init g c =
     let kd = c.args.kind in
-    let lines = c.args.numbers.now.walk.now in
+    let lines = c.args.numbers.now.walk in
     let test = g.K.MemberKind.test c.args.asked.now in
     let self = c.args.self.now in
     let stand : slice_get self.standings.items c.args.alias.now.number ≡ Some c.index.result.now =
@@ -23,13 +23,13 @@ loop-step-init g c =
 
 pub returns-then-not-branch : goal.returns-then-not-branch
 returns-then-not-branch g c =
-    finds c.args.kind c.args.numbers.now.walk.now (g.K.MemberKind.test c.args.asked.now) c.loop-step.self c.args.alias.now.number c.in-Some.step c.pop.new.self.items c.loop-step.invariant c.in-Some.ensures.items
+    finds c.args.kind c.args.numbers.now.walk (g.K.MemberKind.test c.args.asked.now) c.loop-step.self c.args.alias.now.number c.in-Some.step c.pop.new.self.items c.loop-step.invariant c.in-Some.ensures.items
     (c.in_ok-look.ensures.cycle c.if-not-branch.true)
 
 pub returns-in-Decided : goal.returns-in-Decided
 returns-in-Decided g c =
     let kd = c.args.kind in
-    let lines = c.args.numbers.now.walk.now in
+    let lines = c.args.numbers.now.walk in
     let test = g.K.MemberKind.test c.args.asked.now in
     let self = c.loop-step.self in
     let left : c.pop.new.self.items ≡ [] = search rules in
@@ -42,7 +42,7 @@ returns-in-Decided g c =
 pub returns-in_default-index : goal.returns-in_default-index
 returns-in_default-index g c =
     let kd = c.args.kind in
-    let lines = c.args.numbers.now.walk.now in
+    let lines = c.args.numbers.now.walk in
     let test = g.K.MemberKind.test c.args.asked.now in
     let self = c.loop-step.self in
     let left : c.pop.new.self.items ≡ [] = search rules in

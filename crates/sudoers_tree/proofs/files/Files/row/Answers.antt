@@ -1,4 +1,4 @@
-use Rattle.std.proofs.Common.{◌≡◌, ◌∙◌, ◌<◌, ℕ, List, length, min, slice_get, Some, None, sym, ap, rules, arith}
+use Rattle.std.proofs.Common.{◌≡◌, ◌∙◌, ◌<◌, List, length, min, slice_get, None, sym, rules, arith}
 use Rattle.sudoers_tree.specs.Line.{Line, line_shown}
 use Rattle.sudoers_tree.specs.Files.{lines_of}
 use Rattle.sudoers_tree.proofs.Numbered.{item_at}

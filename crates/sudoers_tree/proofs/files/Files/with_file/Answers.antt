@@ -1,10 +1,10 @@
-use Rattle.std.proofs.Common.{◌≡◌, ◌∙◌, ◌≤◌, ◌++◌, ◌∷◌, [], List, ℕ, length, map, sym, ap, ap₂, rules, arith}
+use Rattle.std.proofs.Common.{◌≡◌, ◌∙◌, ◌≤◌, ◌++◌, ◌∷◌, [], List, length, map, ap, ap₂, arith}
 use Rattle.sudoers_text.specs.Line.{join}
 use Rattle.sudoers_text.specs.Fault.{text_limit}
 use Rattle.sudoers_tree.specs.Line.{Line}
 use Rattle.sudoers_tree.specs.Policy.{texts}
 use Rattle.sudoers_tree.specs.declared.files.Part.{Part}
-use Rattle.sudoers_tree.specs.Files.{FileReading, read_until, reading_of}
+use Rattle.sudoers_tree.specs.Files.{read_until, reading_of}
 use Rattle.sudoers_tree.specs.internal.Files.{Read, reading_in}
 use Rattle.sudoers_tree.specs.internal.Tree.{TreeLines}
 use Rattle.sudoers_tree.proofs.Parts.{parts_with, read_fits, reading_by, readings_with}

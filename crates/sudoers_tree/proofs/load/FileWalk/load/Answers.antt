@@ -1,10 +1,9 @@
-use Rattle.std.proofs.Common.{◌≡◌, ◌⊎◌, inl, inr, ◌∙◌, ◌≤◌, [], List, length, nat_lt, true, false, None, Ok, Err, MatchResult, sym, ap, subst, rules, arith}
+use Rattle.std.proofs.Common.{◌≡◌, ◌⊎◌, inr, ◌∙◌, ◌≤◌, [], List, length, nat_lt, true, false, None, Ok, Err, MatchResult, sym, ap, subst, rules, arith}
 use Rattle.std.proofs.lemmas.Bool.Decides.{nat_tests}
 use Rattle.sudoers_tree.specs.declared.load.NamedFile.{NamedFile}
 use Rattle.sudoers_tree.specs.declared.load_fault.LoadFault.{LoadFault}
 use Rattle.sudoers_tree.specs.declared.load_fault.LoadFault.TheVariants.{NoMemory}
 use Rattle.sudoers_tree.specs.Files.{FileReading}
-use Rattle.sudoers_tree.specs.Walk.{Walked}
 use Rattle.sudoers_tree.specs.Load.{file_limit, first_repeated, load_of, walked_over}
 use Rattle.sudoers_tree.specs.internal.Walking.{walked}
 use Rattle.sudoers_tree.proofs.Loads.{Stops, all_walked, loads_as, not_read, not_walked, same_name, too_many}

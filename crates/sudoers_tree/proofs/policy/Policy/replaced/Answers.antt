@@ -15,7 +15,7 @@ returns-clause-lines c =
     let text : c.as_slice.result.now ≡ join lines =
     c.as_slice.ensures.value ∙ c.in_ok-text.ensures
     ∙ ap (λ before. join (replaced c.args.at c.args.line.now (texts before))) c.lines.ensures in
-    c.whole_lines_are_read.ensures lines c.drop.inside.walk.value
+    c.whole_lines_are_read.ensures lines c.drop.inside.lines.value.tree.walk
     (whole_replaced (texts c.args.self.now) c.args.at c.args.line.now c.lines_are_whole.ensures c.requires.line) c.requires.ended
     (ap read_of (sym text) ∙ c.in_ok-self-inside.ensures.outcome ∙ ap Ok (sym c.drop.view_is))
 

@@ -1,6 +1,6 @@
 use Rattle.std.proofs.Common.{◌≡◌, ◌∙◌, ◌<◌, List, true, false, length, sym, rules}
 use Rattle.sudoers_tree.specs.Files.{FileReading}
-use Rattle.sudoers_tree.specs.Walk.{Walked, is_on}
+use Rattle.sudoers_tree.specs.Walk.{is_on}
 use Rattle.sudoers_tree.specs.internal.Walking.{walked}
 use Rattle.sudoers_tree.proofs.OffWalk.{file_faulty, file_on, file_sound}
 use Rattle.sudoers_tree.proofs.walking.Walking.look_off.Goals as goal

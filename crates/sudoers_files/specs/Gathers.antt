@@ -1,0 +1,35 @@
+-- The files of a policy (sudoers(5), Including other files from within sudoers): the root, and behind it, where each line leads, the
+-- files that are there, each once. What is gathered is this, and nothing else, by the laws `gather_is`.
+use Rattle.std.specs.Prelude.{◌≡◌, ℕ, ◌≤◌, ◌<◌, true, false, List, [], ◌∷◌, ◌++◌, length, Some, None, Result, Ok, Err}
+use Rattle.sudoers_tree.specs.declared.load.NamedFile.{NamedFile}
+use Rattle.sudoers_tree.specs.Load.{file_limit, has_name}
+use Rattle.sudoers_files.specs.declared.fault.GatherFault.{GatherFault}
+use Rattle.sudoers_files.specs.declared.fault.GatherFault.TheVariants.{NoRoot, TooManyFiles}
+use Rattle.sudoers_files.specs.Shelf.{front_of}
+use Rattle.sudoers_files.specs.Included.{included}
+
+mutual
+  -- what comes of the file of this name, behind the files that are found
+  pub data Visits (files : List NamedFile) : List NamedFile → List ℕ → Result (List NamedFile) GatherFault → Type 0 where
+    again : (found : List NamedFile) (name : List ℕ) → has_name name found ≡ true → Visits files found name (Ok found)
+    absent : (found : List NamedFile) (name : List ℕ) → has_name name found ≡ false → front_of name files ≡ None → Visits files found name (Ok found)
+    full : (found : List NamedFile) (name bytes : List ℕ) → has_name name found ≡ false → front_of name files ≡ Some bytes
+        → file_limit ≤ length found → Visits files found name (Err TooManyFiles)
+    new : (found : List NamedFile) (name bytes : List ℕ) (outcome : Result (List NamedFile) GatherFault)
+        → has_name name found ≡ false → front_of name files ≡ Some bytes → length found < file_limit
+        → Follows files (found ++ record { name = name; bytes = bytes } ∷ []) (included files (record { name = name; bytes = bytes })) outcome
+        → Visits files found name outcome
+
+  -- what comes of the files of these names, one after another
+  pub data Follows (files : List NamedFile) : List NamedFile → List (List ℕ) → Result (List NamedFile) GatherFault → Type 0 where
+    end : (found : List NamedFile) → Follows files found [] (Ok found)
+    stops : (found : List NamedFile) (name : List ℕ) (names : List (List ℕ)) (fault : GatherFault)
+        → Visits files found name (Err fault) → Follows files found (name ∷ names) (Err fault)
+    onward : (found now : List NamedFile) (name : List ℕ) (names : List (List ℕ)) (outcome : Result (List NamedFile) GatherFault)
+        → Visits files found name (Ok now) → Follows files now names outcome → Follows files found (name ∷ names) outcome
+
+-- What comes of these files from the root on.
+pub data Gathers (files : List NamedFile) (root : List ℕ) : Result (List NamedFile) GatherFault → Type 0 where
+  no_root : front_of root files ≡ None → Gathers files root (Err NoRoot)
+  found : (bytes : List ℕ) (outcome : Result (List NamedFile) GatherFault) → front_of root files ≡ Some bytes
+      → Visits files [] root outcome → Gathers files root outcome

@@ -1,0 +1,30 @@
+-- The names of the files to which the lines of a file lead.
+use Rattle.std.specs.Prelude.{ℕ, List, [], ◌∷◌, ◌++◌, Option, Some, None, Result, Ok, Err}
+use Rattle.sudoers_text.specs.Cut.{cut_of}
+use Rattle.sudoers_text.specs.declared.fault.TextFault.{TextFault}
+use Rattle.sudoers_tree.specs.declared.load.NamedFile.{NamedFile}
+use Rattle.sudoers_tree.specs.declared.lead.Lead.{Lead}
+use Rattle.sudoers_tree.specs.declared.lead.Lead.TheVariants.{File, Dir}
+use Rattle.sudoers_tree.specs.Lead.{leads}
+use Rattle.sudoers_files.specs.Shelf.{names_in}
+use Rattle.sudoers_files.specs.Folder.{led_in}
+
+-- where a line leads, among these files: to a named file, which may not be there; to those files of a folder that are there
+abbrev pub led_by : List NamedFile → Option Lead → List (List ℕ)
+led_by files None = []
+led_by files (Some (File name)) = name ∷ []
+led_by files (Some (Dir dir)) = led_in dir (names_in dir files)
+
+-- where these lines of the file `name` lead, one after another
+abbrev pub included_by : List NamedFile → List ℕ → List (List ℕ) → List (List ℕ)
+included_by files name [] = []
+included_by files name (line ∷ lines) = led_by files (leads name line) ++ included_by files name lines
+
+-- the lines of a text; none, if it cannot be cut
+abbrev pub lines_of : Result (List (List ℕ)) TextFault → List (List ℕ)
+lines_of (Ok lines) = lines
+lines_of (Err fault) = []
+
+-- the names of the files to which a file leads, in the order of its lines
+abbrev pub included : List NamedFile → NamedFile → List (List ℕ)
+included files file = included_by files file.name (lines_of (cut_of file.bytes))

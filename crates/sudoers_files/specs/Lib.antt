@@ -1,0 +1,6 @@
+pub mod Shelf
+pub mod Folder
+pub mod Included
+pub mod Gather
+pub mod Gathers
+pub mod internal

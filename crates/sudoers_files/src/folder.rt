@@ -1,0 +1,59 @@
+//! The files of a folder that is included.
+
+ghost use Rattle.std.specs.Prelude.{◌≡◌, ◌++◌, ◌∷◌, [], ℕ, Vec, map, IfOk, OnOk};
+ghost use Rattle.std.specs.declared.alloc.Global.{Global as GlobalOf};
+ghost use Rattle.sudoers_files.specs.Folder.{in_order, led_in, name_in, with_base};
+
+use std::alloc::{AllocError, Global};
+use std::collections::BTreeSet;
+use sudoers_tree::{Items, is_base};
+
+/// Returns the name of the file of the name `base` in the folder `dir`.
+fn name_in(alloc: Global, dir: &[u8], base: &[u8]) -> Result<Items<u8>, AllocError>
+    ensures { IfOk result (λ name. name ≡ name_in dir.now base.now) }
+{
+    let mut name = Vec::from_slice(alloc, dir)?;
+    name.push(b'/')?;
+    name.extend_from_slice(base)?;
+    Ok(Items::from_vec(name))
+}
+
+/// Returns those of the names `bases` to which an include of their folder leads, in the order of their bytes.
+fn in_order(alloc: Global, bases: &[Items<u8>]) -> Result<BTreeSet<Vec<u8>>, AllocError>
+    ensures { IfOk result (λ order. map (λ (base : Vec ℕ GlobalOf). base.items) order.keys ≡ in_order [] bases.now) }
+{
+    let mut order = BTreeSet::new(alloc);
+    for base in bases {
+        put(alloc, base.as_slice(), &mut order)?;
+    }
+    Ok(order)
+}
+
+/// Inserts the name `base` into names in the order of their bytes, if an include of its folder leads to it.
+fn put(alloc: Global, base: &[u8], order: &mut BTreeSet<Vec<u8>>) -> Result<(), AllocError>
+    ensures { OnOk result (map (λ (name : Vec ℕ GlobalOf). name.items) order.new.keys
+        ≡ with_base base.now (map (λ (name : Vec ℕ GlobalOf). name.items) order.old.keys)) }
+{
+    if !is_base(base) {
+        return Ok(());
+    }
+    order.insert(Vec::from_slice(alloc, base)?)?;
+    Ok(())
+}
+
+/// Returns the names of the files in the folder `dir` to which an include of it leads, in the order of their bytes. In the folder the
+/// files have the names `bases`.
+///
+/// # Errors
+///
+/// Memory ran out.
+pub fn led_in(alloc: Global, dir: &[u8], bases: &[Items<u8>]) -> Result<Vec<Items<u8>>, AllocError>
+    ensures { IfOk result (λ names. names.items ≡ led_in dir.now bases.now) }
+{
+    let mut order = in_order(alloc, bases)?;
+    let mut names = Vec::with_capacity(alloc, order.len())?;
+    while let Some(base) = order.pop_first() {
+        names.push(name_in(alloc, dir, base.as_slice())?)?;
+    }
+    Ok(names)
+}

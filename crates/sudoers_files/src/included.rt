@@ -1,0 +1,113 @@
+//! The files to which the lines of a file lead.
+
+ghost use Rattle.std.specs.Prelude.{◌≡◌, ◌++◌, List, Some, IfErr, IfOk, OnOk};
+ghost use Rattle.sudoers_text.specs.Cut.{cut_of};
+ghost use Rattle.sudoers_tree.specs.declared.load.NamedFile.{NamedFile as NamedFileOf};
+ghost use Rattle.sudoers_tree.specs.Lead.{leads};
+ghost use Rattle.sudoers_files.specs.Gather.{Asks, IsOutside};
+ghost use Rattle.sudoers_files.specs.Shelf.{names_in};
+ghost use Rattle.sudoers_files.specs.Included.{included_by, led_by, lines_of};
+
+use crate::fault::GatherFault;
+use crate::files::Files;
+use crate::folder::led_in;
+use std::alloc::{AllocError, Global};
+use sudoers_text::{Lines, TextFault, cut};
+use sudoers_tree::{Items, Lead, leads};
+
+/// Returns those lines of a file that lead somewhere. The file has the name `name` and these bytes.
+///
+/// # Errors
+///
+/// Memory ran out.
+pub fn include_lines(alloc: Global, name: &[u8], bytes: &[u8]) -> Result<Vec<Items<u8>>, AllocError>
+    ensures { (files : List NamedFileOf) → IfOk result (λ kept. included_by files name.now kept.items ≡ included_by files name.now (lines_of (cut_of bytes.now))) }
+{
+    match cut(alloc, bytes) {
+        Ok(lines) => lines_that_lead(alloc, name, &lines),
+        Err(TextFault::NoMemory) => Err(AllocError),
+        Err(_) => Ok(Vec::new(alloc)),
+    }
+}
+
+/// Returns those of these lines of the file `name` that lead somewhere.
+fn lines_that_lead(
+    alloc: Global,
+    name: &[u8],
+    lines: &Lines<'_>,
+) -> Result<Vec<Items<u8>>, AllocError>
+    ensures { (files : List NamedFileOf) → IfOk result (λ kept. included_by files name.now kept.items ≡ included_by files name.now lines.now) }
+{
+    let mut kept = Vec::new(alloc);
+    for number in 0..lines.len() {
+        let Some(line) = lines.get(number) else {
+            return Ok(kept);
+        };
+        keep(alloc, name, line, &mut kept)?;
+    }
+    Ok(kept)
+}
+
+/// Appends the line `line` of the file `name` to the lines `kept`, if it leads somewhere.
+fn keep(
+    alloc: Global,
+    name: &[u8],
+    line: &[u8],
+    kept: &mut Vec<Items<u8>>,
+) -> Result<(), AllocError>
+    ensures { (files : List NamedFileOf) → OnOk result (included_by files name.now kept.new.items
+        ≡ included_by files name.now kept.old.items ++ led_by files (leads name.now line.now)) }
+{
+    let Some(_) = leads(alloc, name, line)? else {
+        return Ok(());
+    };
+    kept.push(Items::from_slice(alloc, line)?)?;
+    Ok(())
+}
+
+/// Returns the names of the files in the folder `dir`, as [`Files::names`] does.
+fn names_in<F: Files>(
+    alloc: Global,
+    files: &mut F,
+    dir: &[u8],
+) -> Result<Vec<Items<u8>>, GatherFault>
+    ensures told { (known : List NamedFileOf) → (F.shelf files.old).files ≡ Some known
+        → IfOk result (λ names. names.items ≡ names_in dir.now known) }
+    ensures asks { Asks result (F.shelf files.old) (F.shelf files.new) }
+    ensures named { IfErr result IsOutside }
+{
+    match files.names(alloc, dir) {
+        Ok(names) => Ok(names),
+        Err(fault) => Err(fault.into()),
+    }
+}
+
+/// Returns the names of the files to which the line `line` of the file `name` leads.
+///
+/// # Errors
+///
+/// `Device`, if a folder cannot be read; memory ran out.
+pub fn led_by<F: Files>(
+    alloc: Global,
+    files: &mut F,
+    name: &[u8],
+    line: &[u8],
+) -> Result<Vec<Items<u8>>, GatherFault>
+    ensures told { (known : List NamedFileOf) → (F.shelf files.old).files ≡ Some known
+        → IfOk result (λ names. names.items ≡ led_by known (leads name.now line.now)) }
+    ensures asks { Asks result (F.shelf files.old) (F.shelf files.new) }
+    ensures named { IfErr result IsOutside }
+{
+    let mut names = Vec::new(alloc);
+    match leads(alloc, name, line)? {
+        None => Ok(names),
+        Some(Lead::File(name)) => {
+            names.push(name)?;
+            Ok(names)
+        }
+        Some(Lead::Dir(dir)) => {
+            let bases = names_in(alloc, files, dir.as_slice())?;
+            Ok(led_in(alloc, dir.as_slice(), bases.as_slice())?)
+        }
+    }
+}

@@ -1,0 +1,17 @@
+//! The files of a policy: a root, and the files that it includes.
+#![tactic(auto)]
+
+mod disk;
+mod fault;
+mod files;
+mod folder;
+mod gathering;
+mod included;
+pub mod laws;
+mod memory;
+
+pub use disk::FilesOnDisk;
+pub use fault::{FileFault, GatherFault};
+pub use files::Files;
+pub use gathering::gather;
+pub use memory::FilesInMemory;
