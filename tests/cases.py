@@ -4,7 +4,8 @@ The files of a case, each of which may be missing:
 
     words        the command words, one a line (none)
     stdin        standard input (empty)
-    policy       a file that the words may name: the program runs in the folder
+    policy       a file that the words may name: the program runs in the folder. An include in it names a folder that is
+                 not there; tests/including.py has policies of several files
     passwd       files of users and groups, likewise
     group
     stdout       standard output, byte for byte (empty)

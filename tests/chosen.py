@@ -1,5 +1,6 @@
 """The cases that run with refused growths and failing devices: chosen from the folders and tables, or made here."""
 
+import os
 from dataclasses import dataclass, replace
 
 import cases
@@ -21,6 +22,21 @@ class Input:
     device: int = 0
 
 
+def command_of(case):
+    """Returns the command of a case. Without words it is `edit`."""
+    return os.fsdecode(case.words[0]) if case.words else "edit"
+
+
+def read_fault(case):
+    """What a run has to answer whose input fails.
+
+    The policy of a command that follows include lines is a file of a device, and its error is `Failed`. The input of
+    `edit`, and passwd and group of `list`, have `Read`.
+    """
+    command = command_of(case)
+    return fault("Read" if command == "edit" or command == "list" and case.device else "Failed")
+
+
 EDIT = Input((), 4_000_000, fault("InputTooLarge"))
 SHOW = Input(("show", "-"), 1_048_576, fault("-: TooLarge"))
 CHECK = Input(("check", "-"), 1_048_576, Wanted(b"-: TooLarge\n", status=1))
@@ -31,6 +47,8 @@ FILTER = Input(("convert", "-f", "sudoers", "-m", "user=bob", "-p", "-"), 1_048_
 
 # The policy of `list` is standard input. Then the program opens `passwd` and `group`, which have these numbers.
 PASSWD, GROUP = 3, 4
+# A policy that has a name is the first file that is opened, and so is each included file after it, since one is closed then.
+POLICY_FILE = 3
 PEOPLE = (
     ("passwd", b"root:x:0:0:::\nbob:x:1000:1000:::\n"),
     ("group", b"adm:x:4:bob\n"),
@@ -309,6 +327,25 @@ def many_people_case():
     wanted = Wanted(b"-:1:%d: allowed by: (u40 : g40) /a\n" % (policy.index(b"/a") + 1))
     files = (("passwd", passwd), ("group", group))
     return cases.Case("why_with_eighty_rows_of_people", words, policy, wanted, files=files)
+
+
+def many_files_case(*words):
+    """`check` or `show` of a policy of 21 files, ten of a folder and ten in each other, so that every list grows often."""
+    numbers = range(10, 20)
+    files = [("main", b"@includedir d\n@include a10\n")]
+    files += [(f"d/{n}", b"User_Alias D%d = x\n" % n) for n in numbers]
+    files += [(f"a{n}", b"@include a%d\nUser_Alias A%d = B%d\n" % (n + 1, n, n)) for n in numbers[:-1]]
+    files += [("a19", b"User_Alias A19 = B19\n")]
+    rows = [(n, 1 if n == 19 else 2) for n in reversed(numbers)]
+    notes = [b"a%d:%d:18: undefined User_Alias B%d\n" % (n, row, n) for n, row in rows]
+    notes += [b"d/%d:1:12: unused User_Alias D%d\n" % (n, n) for n in numbers]
+    notes += [b"a%d:%d:12: unused User_Alias A%d\n" % (n, row, n) for n, row in rows]
+    shown = [b"file 1 main\n1 include 1\n2 include 2\n"]
+    shown += [b"file %d d/%d\n1 alias 1\n1.1 User_Alias D%d 1\n" % (n - 8, n, n) for n in numbers]
+    shown += [b"file %d a%d\n1 include 1\n2 alias 2\n2.1 User_Alias A%d 1\n" % (n + 2, n, n) for n in numbers[:-1]]
+    shown += [b"file 21 a19\n1 alias 1\n1.1 User_Alias A19 1\n"]
+    wanted = {"check": b"".join(notes) + b"main: parsed OK\n", "show": b"".join(shown)}
+    return cases.Case(f"{words[0]}_of_21_files", words, b"", Wanted(wanted[words[0]]), files=tuple(files), device=POLICY_FILE)
 
 
 def people_at_the_limit(name, device):

@@ -28,7 +28,7 @@ FOLDER = "sub"
 COMMANDS = ("check", "convert", "edit", "help", "list", "show")
 OPTIONS_OF_LIST = (
     *("-U", "--other-user", "-u", "--user", "-g", "--group", "--passwd", "--group-file"),
-    *("--host", "--moment", "--interfaces", "--why", "-h", "--help"),
+    *("--host", "--moment", "--interfaces", "--root", "--why", "-h", "--help"),
 )
 ALL_FILES = (*FILES, FOLDER)
 FORMS = ("json", "sudoers")
@@ -47,17 +47,25 @@ ROWS = (
     (("check", "w"), ("web team",)),
     (("check", "p"), ("policy",)),
     (("check", "x"), ()),
-    (("check", "-"), ("-h", "--help", "-q", "-s")),
+    (("check", "-"), ("-h", "--help", "-q", "-s", "--root")),
+    (("check", "--r"), ("--root",)),
+    (("check", "--root", ""), (FOLDER,)),
+    (("check", "--root", "p"), ()),
+    (("check", "--root=s"), (FOLDER,)),
+    (("check", "--root", "sub", "p"), ("policy",)),
+    (("check", "-q", "--root=sub", "w"), ("web team",)),
     (("check", "-q", ""), ALL_FILES),
     (("check", "-q", "-s", "a"), ("a file with blanks",)),
     (("check", "policy", ""), ()),
     (("co",), ("convert",)),
     (
         ("convert", "-"),
-        ("-e", "--expand-aliases", "-f", "--form", "-h", "--help", "-m", "--match", "-p", "--prune-matches"),
+        ("-e", "--expand-aliases", "-f", "--form", "-h", "--help", "-m", "--match", "-p", "--prune-matches", "--root"),
     ),
     (("convert", "--f"), ("--form",)),
     (("convert", "--m"), ("--match",)),
+    (("convert", "--root", "s"), (FOLDER,)),
+    (("convert", "-f", "json", "--root", "sub", ""), ALL_FILES),
     (("convert", "-e", "--p"), ("--prune-matches",)),
     (("convert", "-f", ""), FORMS),
     (("convert", "-f", "j"), ("json",)),
@@ -97,6 +105,9 @@ ROWS = (
     (("list", "--host", ""), ()),
     (("list", "--moment", "p"), ()),
     (("list", "--interfaces", ""), ()),
+    (("list", "--root", ""), (FOLDER,)),
+    (("list", "--root=s"), (FOLDER,)),
+    (("list", "--root", "sub", "p"), ("policy",)),
     (("list", "-U", "roo"), ("root",)),
     (("list", "--user", "roo"), ("root",)),
     (("list", "-g", "roo"), ("root",)),
@@ -115,7 +126,9 @@ ROWS = (
     (("list", "policy", "/bin/ls", "-"), ()),
     (("show", ""), ALL_FILES),
     (("show", "s"), ("sub",)),
-    (("show", "--"), ("--help",)),
+    (("show", "--"), ("--help", "--root")),
+    (("show", "--root", "s"), (FOLDER,)),
+    (("show", "--root", "sub", "s"), (FOLDER,)),
     (("show", "policy", "w"), ()),
     (("edit", ""), ()),
     (("edit", "--"), ("--help",)),
@@ -126,10 +139,10 @@ ROWS = (
 
 # zsh offers the options if there is nothing else to offer.
 ZSH_ROWS = {
-    ("check", "policy", ""): ("-h", "--help", "-q", "-s"),
+    ("check", "policy", ""): ("-h", "--help", "-q", "-s", "--root"),
     ("convert", "-f", "sudoers", "policy", ""): (
         *("-e", "--expand-aliases", "-h", "--help"),
-        *("-m", "--match", "-p", "--prune-matches"),
+        *("-m", "--match", "-p", "--prune-matches", "--root"),
     ),
     ("edit", ""): ("-h", "--help"),
 }
@@ -290,7 +303,7 @@ def run_lists(program, tally):
     tally.note("completed commands", difference("commands", commands_of_help(whole), set(COMMANDS)))
     options = dict(ROWS)
     wanted = {name: set(options[name, "-"]) for name in ("check", "convert", "list")}
-    wanted |= {name: {"-h", "--help"} for name in ("edit", "show")}
+    wanted |= {"edit": {"-h", "--help"}, "show": {"-h", "--help", "--root"}}
     tally.note("completed options", difference("options", options_of_help(whole), set(options[("-",)])))
     for name, text in each.items():
         tally.note(f"completed options of {name}", difference("options", options_of_help(text), wanted.get(name)))

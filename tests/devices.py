@@ -14,8 +14,10 @@ from chosen import (
     GROUP,
     PASSWD,
     Chosen,
+    command_of,
     inputs_at_the_limit,
     many_definitions_case,
+    many_files_case,
     many_lines_case,
     many_listed_lines_case,
     many_moves_case,
@@ -23,6 +25,7 @@ from chosen import (
     many_people_case,
     many_printed_lines_case,
     many_rewritten_lines_case,
+    read_fault,
 )
 from preload import Preloaded
 from program import Wanted, fault
@@ -105,7 +108,7 @@ def refuse_growths(stand, case, wanted, **settings):
 def refuse_growths_and_more(stand, case, given):
     """Every growth of runs whose devices fail too."""
     refuse_growths(stand, case, case.wanted, interrupt_read=1)
-    refuse_growths(stand, case, fault("Read"), fail_read=2)
+    refuse_growths(stand, case, read_fault(case), fail_read=2)
     refuse_growths(stand, case, given.too_large, endless=1)
     for room in (0, 5):
         failed = Wanted(case.wanted.stdout[:room], fault("Write").stderr, 1)
@@ -130,7 +133,7 @@ def check_memory_and_devices(stand, given):
 def fail_reads(stand, case, piece):
     """Each read, of at most so many bytes, fails in turn; each read is interrupted in turn."""
     how = f"reads of {piece or 'any'} bytes, "
-    stand.until_none_is_met(case, how + "failed read", "fail_read", lambda _: fault("Read"), short_read=piece)
+    stand.until_none_is_met(case, how + "failed read", "fail_read", lambda _: read_fault(case), short_read=piece)
     stand.until_none_is_met(case, how + "interrupted read", "interrupt_read", lambda _: case.wanted, short_read=piece)
 
 
@@ -158,7 +161,7 @@ def last_allowed_read(stand, case, given):
     past = {"interrupt_reads": READ_CALLS, "fail_read": READ_CALLS + 1}
     spare = READ_CALLS - given.limit - 1
     for what, settings, wanted in (
-        ("last read fails", last, fault("Read")),
+        ("last read fails", last, read_fault(case)),
         ("the read after the last would fail", past, fault("NoEnd")),
         ("last read passes the limit", {"interrupt_reads": spare, "endless": 1, "short_read": 1}, given.too_large),
         ("last read meets the limit", {"interrupt_reads": spare + 1, "endless": 1, "short_read": 1}, fault("NoEnd")),
@@ -209,6 +212,9 @@ def check_reads(stand, read, some, given):
         endless_input(stand, input_given)
     for case in inputs_at_the_limit():
         read_byte_by_byte(stand, case)
+    for case in (many_files_case("check", "main"), many_files_case("show", "main")):
+        for piece in (0, 7):
+            fail_reads(stand, case, piece)
 
 
 # ---- standard output -------------------------------------------------------------
@@ -314,11 +320,6 @@ def run_writes(program, tally):
     run_under_library(program, tally, lambda stand, chosen: check_writes(stand, chosen.read))
 
 
-def command_of(case):
-    """Returns the command of a case. Without words it is `edit`."""
-    return os.fsdecode(case.words[0]) if case.words else "edit"
-
-
 def run_memory_of(program, tally, is_asked):
     """Runs the commands that `is_asked` names with growths of memory refused."""
 
@@ -344,9 +345,10 @@ def run_memory_of_files(program, tally):
 
 
 def run_memory_of_many(program, tally):
-    """Runs the program on many lines, definitions and notes with growths of memory refused."""
+    """Runs the program on many lines, definitions, notes and files with growths of memory refused."""
     many = (many_lines_case(), many_moves_case(), many_definitions_case(), many_notes_case(), many_printed_lines_case())
     many += (many_rewritten_lines_case(), many_listed_lines_case(), many_people_case())
+    many += (many_files_case("check", "main"), many_files_case("show", "main"))
     run_under_library(program, tally, lambda stand, _: check_memory(stand, many))
 
 

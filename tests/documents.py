@@ -45,7 +45,7 @@ PATTERNS = ("README.md", "docs/*.md", "crates/*/README.md", "tests/README.md", "
 SECONDS = 60
 
 # How many lines a document has at most, where it is short on purpose.
-LIMITS = {"README.md": 160, "docs/ARCHITECTURE.md": 115, "docs/AUDIT.md": 90}
+LIMITS = {"README.md": 160, "docs/ARCHITECTURE.md": 115, "docs/AUDIT.md": 92}
 
 # Commands of `console` blocks, and what runs them: a word of each command line, in order, has to be its beginning.
 ELSEWHERE = (

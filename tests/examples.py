@@ -1,4 +1,4 @@
-"""The examples: each policy passes `check -s`, and its script leads to the stored texts and back.
+"""The examples: each policy passes `check -s`, and its script leads to the stored texts and back. One has several files.
 
 `visudo -c` has to accept the policies too, where it is installed.
 """
@@ -13,6 +13,9 @@ from program import Answer, Wanted, run
 
 FOLDER = os.path.join(os.path.dirname(os.path.dirname(os.path.abspath(__file__))), "examples")
 MARK = b"%%\n"
+
+# The policy of several files. It has no script, because `edit` reads one text.
+SITE = "site"
 
 
 def read(name, file):
@@ -43,6 +46,20 @@ def run_checks(program, tally, name, visudo):
         tally.note(f"example {name}, visudo on {file}", [] if done.returncode == 0 else [f"visudo: {done.stderr!r}"])
 
 
+def run_site(program, tally, visudo):
+    """`check -s` accepts the policy of several files and notes the one unused alias, and `visudo -c` accepts it."""
+    folder = os.path.join(FOLDER, SITE)
+    noted = Wanted(b"sudoers.d/web:4:12: unused User_Alias INTERNS\nsudoers: parsed OK\n")
+    tally.note(f"example {SITE}, check", noted.problems(run(program, ("check", "-s", "sudoers"), folder=folder)))
+    if visudo is None:
+        tally.skip(f"example {SITE}, visudo", "visudo is not installed")
+        return
+    with tempfile.TemporaryDirectory() as scratch:
+        copy = shutil.copytree(folder, os.path.join(scratch, SITE))
+        done = subprocess.run([visudo, "-q", "-c", "-f", os.path.join(copy, "sudoers")], check=False, capture_output=True)
+    tally.note(f"example {SITE}, visudo", [] if done.returncode == 0 else [f"visudo: {done.stderr!r}"])
+
+
 def run_demo(program, tally):
     """`scripts/demo` shows the policy, its lines, the edited policy and the way back."""
     demo = os.path.join(os.path.dirname(FOLDER), "scripts", "demo")
@@ -56,7 +73,8 @@ def run_all(program, tally):
     """Runs each example, and the demonstration."""
     run_demo(program, tally)
     visudo = shutil.which("visudo", path=os.environ.get("PATH", "") + ":/usr/sbin")
+    run_site(program, tally, visudo)
     for name in sorted(os.listdir(FOLDER)):
-        if os.path.isdir(os.path.join(FOLDER, name)):
+        if os.path.isdir(os.path.join(FOLDER, name)) and name != SITE:
             run_edit(program, tally, name)
             run_checks(program, tally, name, visudo)

@@ -208,6 +208,9 @@ def run_case(program, case, tally, **who):
 def run_all(_program, tally):
     """Runs all cases."""
     built = os.path.join(TOP, "crates", PROGRAM, "out", PROGRAM)
+    if not os.path.exists(built):
+        tally.note("gathering", [f"no program: run `rt run < /dev/null` in crates/{PROGRAM}"])
+        return
     for case in CASES:
         run_case(built, case, tally)
     if os.geteuid() != 0:

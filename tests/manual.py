@@ -39,6 +39,9 @@ FAULTS = (
     "PeopleFault",
     "WhoFault",
     "AskFault",
+    "FileFault",
+    "GatherFault",
+    "LoadFault",
     "LayerFault",
     "ToolFault",
 )
@@ -55,16 +58,12 @@ TERMS = (
     (r'script_text line \(codes "(.*)"\)', r"script:LINE: \1"),
     (r'edit_name place \(codes "(.*)"\)', r"edit N: \1"),
     (r"file_name f", "PEOPLE"),
-    (r"(text_of_\w+|cvt_name|filter_name|who_name|ask_name) .*", "ERROR"),
+    (r"(text_of_\w+|cvt_name|filter_name|who_name|ask_name|gather_name) .*", "ERROR"),
 )
 CARRIED = "ERROR"
 
-# The texts that no command prints, because none reads included files.
-NOT_PRINTED = {
-    "FILE:LINE:1: include NAME not loaded",
-    "FILE:LINE:1: include NAME twice",
-    "FILE:LINE:1: includes nested too deep",
-}
+# The text that no command prints, because no two files that are gathered have one name.
+NOT_PRINTED = {"SameName"}
 
 # The files that PEOPLE stands for in a text.
 PEOPLE = ("passwd", "group")
@@ -206,21 +205,27 @@ def text_of(term):
 
 
 def texts():
-    """Returns the text of each variant, as FaultText.antt states it: (type, variant) -> text."""
+    """Returns the text of each variant, as FaultText.antt states it: (type, variant) -> text.
+
+    A variant that holds another, which has a text of its own, carries that text.
+    """
     source = read("crates/sudoers_run/specs/FaultText.antt")
     types = {short: name for name, short in re.findall(r"declared\.\w+\.(\w+)\.TheVariants as (\w+)", source)}
     found = {}
     for row in re.sub(r"\n +", " ", source).splitlines():
-        match = re.match(r"(?:text_of_\w+|why_name|(?:cvt|filter|who|ask)_name) .*?\b(\w+)\.(\w+)[^=]*= (.*)", row)
-        if match and match[1] in types:
-            found[types[match[1]], match[2]] = "".join(map(text_of, match[3].split(" ++ ")))
+        match = re.match(r"(?:text_of_\w+|(?:why|cvt|filter|who|ask|gather)_name) ([^=]*\.[^=]*)= (.*)", row)
+        if match is None:
+            continue
+        *outer, inner = [(types[type_], variant) for type_, variant in re.findall(r"\b(\w+)\.(\w+)", match[1])]
+        found.update({variant: CARRIED for variant in outer})
+        found[inner] = "".join(map(text_of, match[2].split(" ++ ")))
     return found
 
 
 def notes():
     """Returns the texts of the notes and of the last line of `check`, as Report.antt states them."""
     source = read("crates/sudoers_check/specs/Report.antt")
-    words = re.findall(r'note_text file \(codes "(\w+)"\)', source)
+    words = re.findall(r'note_text policy \(codes "(\w+)"\)', source)
     verdicts = re.findall(r'^verdict \w+ = codes "(.*)\\n"', source, re.M)
     return [f"FILE:LINE:COL: {word} KIND NAME" for word in words] + ["FILE" + verdict for verdict in verdicts]
 

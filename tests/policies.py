@@ -169,6 +169,12 @@ def drawn_name(name):
     return drawn_text(name) or "⟨⟩"
 
 
+def drawn_spot(files, spot):
+    """A line of the walk as its file and its number there, and the physical line of the file on which it begins if that is another."""
+    number, row = spot["line"] + 1, spot["row"]
+    return f"{drawn_name(files[spot['file']][0])} {number}" + f" row {row}" * (row != number)
+
+
 def drawn_walk(files, line):
     """The lines of the walk over files, each as its file and its number there, and the files on it."""
     on, spots, *texts = line.split("\t")
@@ -179,14 +185,31 @@ def drawn_walk(files, line):
         name, whole = files[number]
         if b"".join(text for spot, text in zip(spots, texts) if spot["file"] == number) != whole:
             return f"the lines of {drawn_name(name)} are not its text"
-    lines = ", ".join(f"{drawn_name(files[spot['file']][0])} {spot['line'] + 1}" for spot in spots)
+    lines = ", ".join(drawn_spot(files, spot) for spot in spots)
     return f"{lines or 'no line'} | {', '.join(drawn_name(files[number][0]) for number in on)}"
 
 
 def drawn_load(files, line):
     """What comes of files, each a name and a text: their walk, or their error."""
-    if line.startswith("["):
-        return drawn_walk(files, line)
+    return drawn_walk(files, line) if line.startswith("[") else drawn_load_fault(line)
+
+
+def drawn_files(line):
+    """The names and texts of files. The lines of each have to be its text."""
+    fields = line.split("\t")
+    if fields.pop() or len(fields) % 3:
+        raise ValueError(line)
+    files = []
+    for name, text, lines in (fields[i : i + 3] for i in range(0, len(fields), 3)):
+        name, text = bytes_of(name), bytes_of(text)
+        if b"".join(map(bytes_of, re.findall(r"\[.*?\]", lines))) != text:
+            return f"the lines of {drawn_name(name)} are not its text"
+        files.append((name, text))
+    return files
+
+
+def drawn_load_fault(line):
+    """The error of files that are no policy."""
     fault = said.read(line)
     if isinstance(fault, str):
         return fault
@@ -198,6 +221,13 @@ def drawn_load(files, line):
         return f"{file}: {drawn_fault(inner)}"
     name = [drawn_name(bytes(items(inner["name"])))] if "name" in inner else []
     return " ".join([inner[""], file, str(inner["line"]), *name])
+
+
+def drawn_report(line):
+    """The text of a report, or the error of the files that have none."""
+    if line.startswith(("TooManyFiles", "SameName {", "InFile {")):
+        return drawn_load_fault(line)
+    return drawn_bytes(line)
 
 
 def drawn_calls(outcome, count):

@@ -61,7 +61,9 @@ def run(program, words=(), stdin=b"", environment=None, stdout=subprocess.PIPE, 
     if files:
         with tempfile.TemporaryDirectory(prefix="sudoers_tool_tests_") as made:
             for name, text in files:
-                with open(os.path.join(made, name), "wb") as file:
+                path = os.path.join(made, name)
+                os.makedirs(os.path.dirname(path), exist_ok=True)
+                with open(path, "wb") as file:
                     file.write(text)
             return run(program, words, stdin, environment, stdout, made)
     how = {"input": stdin} if isinstance(stdin, bytes) else {"stdin": stdin}

@@ -3,6 +3,7 @@
 import os
 import threading
 
+from chosen import command_of, read_fault
 from program import Wanted, fault, run
 
 CLOSED = 'exec "$@" <&-'
@@ -13,7 +14,7 @@ def run_reads(program, tally, case, too_large):
     """A folder and an endless pipe as standard input; to the pipe `too_large` has to come."""
     folder = os.open("/", os.O_RDONLY)
     try:
-        problems = fault("Read").problems(run(program, case.words, folder, folder=case.folder, files=case.files))
+        problems = read_fault(case).problems(run(program, case.words, folder, folder=case.folder, files=case.files))
     finally:
         os.close(folder)
     tally.note(f"{case.name}, a folder as standard input", problems)
@@ -21,9 +22,10 @@ def run_reads(program, tally, case, too_large):
 
 
 def run_closed(program, tally, case):
-    """A closed standard input, which is no file that the words name."""
+    """A closed standard input, which is no file that the words name. `list` sees it when it opens passwd."""
     words = ("-c", CLOSED, "sh", program, *case.words)
-    problems = fault("Read").problems(run("/bin/sh", words, folder=case.folder, files=case.files))
+    wanted = fault("Read") if command_of(case) == "list" else read_fault(case)
+    problems = wanted.problems(run("/bin/sh", words, folder=case.folder, files=case.files))
     tally.note(f"{case.name}, a closed standard input", problems)
 
 

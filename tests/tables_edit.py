@@ -8,7 +8,8 @@ The words of a group's head say what its rows are. Two rows, a case and its answ
     line-of FILE        where a text leads as a line of this file: `file NAME`, `folder NAME` or `nowhere`;
                         `says nothing` if it leads nowhere because it is no line that says something
     load                files `NAME: TEXT` with ` | ` between two, the root first; and the lines of their walk, each by
-                        its file and its number there, from 1, and behind ` | ` the files on the walk; or the error
+                        its file and its number there, from 1, with `row N` if it begins on another physical line of
+                        the file, and behind ` | ` the files on the walk; or the error
     gather ROOT         files as for `load`; and those that are gathered from this root on, or the error, and behind ` | `
                         how often the files are asked. Each of these calls fails in turn
     read                `read`, or the error
@@ -21,7 +22,8 @@ The words of a group's head say what its rows are. Two rows, a case and its answ
 
 Rows of another form:
 
-    report, strict      the policy, and as many rows as its report has, on the file `f` or, by `report as FILE`, another
+    report, strict      the policy, and as many rows as its report has, on the file `policy`; or the error of the policy
+    report of files     files as for `load`, and as many rows as their report has, or their error; so for `strict` too
     time                a piece, and what follows: a policy of 4096 pieces takes about as long to check as 16 of 256
     undefined           a policy, and then names, which it defines in no kind
     unmentioned         the same, with names that it mentions in no kind
@@ -46,6 +48,7 @@ import subprocess
 
 import said
 from policies import (
+    INCLUDE_FAULTS,
     KINDS,
     Line,
     bytes_of,
@@ -53,6 +56,7 @@ from policies import (
     drawn_calls,
     drawn_change,
     drawn_definition,
+    drawn_files,
     drawn_gather,
     drawn_leads,
     drawn_line_fault,
@@ -60,6 +64,7 @@ from policies import (
     drawn_notes,
     drawn_outcome,
     drawn_policy,
+    drawn_report,
     drawn_says,
     drawn_spans,
     drawn_unused,
@@ -86,6 +91,7 @@ from tally import difference
 
 SUBJECT = b"e"
 VERDICTS = (": parsed OK", ": faults found")
+CHECKS = {"notes": b"k", "unused": b"u", "is fine": b"f"}  # what is asked of a policy beside its report
 PARTS = 16  # how many smaller policies are as much as the large one
 TIMES = 4  # how many times as long as its parts a policy may take
 ENOUGH = 0.2  # so many seconds can be compared
@@ -309,9 +315,11 @@ def files_of(row):
 
 
 def load(name, _words, _text, row, answer):
-    """The walk over files, or their error."""
+    """The walk over files, and the files themselves; or their error."""
     files, parts = files_of(row)
     calls = [("load", call(b"f"), wanted_row(answer), lambda line: drawn_load(files, line))]
+    if " | " in answer:
+        calls.append(("files", call(b"n"), files, drawn_files))
     yield from cases_of_calls(name, b"t", parts, calls)
 
 
@@ -435,43 +443,69 @@ def cases_of_pairs(group):
             raise NoRow(f"row {at}: {error}") from None
 
 
-def cases_of_report(name, text, strict, file, report):
-    """The report of a policy, and that of its text."""
-    wanted = b"".join(text_of(row) + b"\n" for row in report)
-    body = part(file) + (b"s" if strict else b"")
+def is_load_error(row):
+    """Whether a row is the error of files that a line includes."""
+    return row.startswith(INCLUDE_FAULTS)
+
+
+def wanted_report(report):
+    """The text of a report that has these rows, or the error that is in its place."""
+    if is_load_error(report[0]):
+        return wanted_row(report[0])
+    return b"".join(text_of(row) + b"\n" for row in report)
+
+
+def cases_of_report(name, row, strict, report):
+    """The report of a policy, and that of an editor of it."""
+    text, wanted = text_of(row), wanted_report(report)
+    asking = call(b"p", b"s" if strict else b"")
     is_fine = report[-1].endswith(VERDICTS[0])
 
     def fine(line):
         """The two verdicts, and the length of the text; those that the case does not say are as wanted."""
         loose_is_fine, strict_is_fine, size = said.read(line)
-        return loose_is_fine, strict_is_fine if strict else is_fine, len(wanted) if strict or file != b"f" else size
+        return loose_is_fine, strict_is_fine if strict else is_fine, len(wanted) if strict else size
 
-    calls = [
-        ("report", call(b"p", body), wanted, drawn_bytes),
-        ("is fine", call(b"f"), (True, is_fine, len(wanted)), fine),
-    ]
+    calls = [("report", asking, wanted, drawn_report)]
+    if is_load_error(report[0]):
+        calls += [(what, call(byte), wanted, drawn_report) for what, byte in CHECKS.items()]
+    else:
+        calls.append(("is fine", call(b"f"), (True, is_fine, len(wanted)), fine))
     yield from cases_of_calls(name, b"p", text, calls)
-    yield from cases_of_calls(name, b"e", text, [("of an editor", call(b"p", body), wanted, drawn_bytes)])
+    yield from cases_of_calls(name, b"e", text, [("of an editor", asking, wanted, drawn_report)])
+
+
+def cases_of_report_of_files(name, row, strict, report):
+    """The report of the policy of files."""
+    _, parts = files_of(row)
+    asking = call(b"p", b"s" if strict else b"")
+    yield from cases_of_calls(name, b"t", parts, [("report", asking, wanted_report(report), drawn_report)])
+
+
+def is_of_files(group):
+    """Whether a group of reports is one of files."""
+    return group.words[-2:] == ("of", "files")
+
+
+def sorts_of_report(group):
+    """The sorts of report that a group asks for; none if it is no group of reports."""
+    words = group.words[:-2] if is_of_files(group) else group.words
+    return words if set(words) <= {"report", "strict"} else ()
 
 
 def cases_of_reports(group):
     """The cases of a group of policies and their reports."""
-    words, file = list(group.words), b"f"
-    if "as" in words:
-        at = words.index("as")
-        if len(words) != at + 2:
-            raise NoRow(f"{' '.join(words)}: no one file")
-        words, file = words[:at], text_of(words[at + 1])
+    cases_of_one = cases_of_report_of_files if is_of_files(group) else cases_of_report
     policy, report = None, []
     for at, row in group.rows:
         if policy is None:
             policy = at, row
             continue
         report.append(row)
-        if row.endswith(VERDICTS):
-            for word in words:
-                name = f"{name_of(group, *policy)}: {word}"
-                yield from cases_of_report(name, text_of(policy[1]), word == "strict", file, report)
+        if row.endswith(VERDICTS) or is_load_error(report[0]):
+            for sort in sorts_of_report(group):
+                name = f"{name_of(group, *policy)}: {sort}"
+                yield from cases_of_one(name, policy[1], sort == "strict", report)
             policy, report = None, []
     if policy is not None:
         raise NoRow(f"row {policy[0]}: a report without its last row")
@@ -572,7 +606,7 @@ def cases_of_group(group, frames):
         sort, known = CALLS[word]
         at, text, calls = calls_of(group, known)
         yield from cases_of_calls(name_of(group, at, "calls"), sort, text, calls)
-    elif word in ("report", "strict") and {word, *words[:1]} <= {"report", "strict", "as"}:
+    elif sorts_of_report(group):
         yield from cases_of_reports(group)
     elif set(group.words) <= {"undefined", "unmentioned"}:
         yield from cases_of_names(group)

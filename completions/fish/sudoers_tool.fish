@@ -13,7 +13,8 @@ function __sudoers_tool_plain_words
         else if test -z "$no_options"; and test "$word" = --
             set no_options yes
         else if test -z "$no_options"; and string match --quiet -- '-?*' $word
-            # These options of convert and list take the next word.
+            # These options take the next word.
+            contains -- "$plain[1]" check convert list show; and test $word = --root; and set option $word
             contains -- convert $plain; and contains -- $word -f --form -m --match; and set option $word
             contains -- list $plain; and contains -- $word -U --other-user -u --user -g --group; and set option $word
             contains -- list $plain; and contains -- $word --passwd --group-file --host --moment --interfaces; and set option $word
@@ -75,8 +76,8 @@ end
 complete -c sudoers_tool -f
 complete -c sudoers_tool -n __sudoers_tool_help -s h -l help -d 'Print help'
 complete -c sudoers_tool -n __fish_use_subcommand -s V -l version -d 'Print the version'
-complete -c sudoers_tool -n __fish_use_subcommand -a check -d 'Check a policy'
-complete -c sudoers_tool -n __fish_use_subcommand -a convert -d 'Print the rules of a policy anew, as a policy or as JSON, without comments and includes'
+complete -c sudoers_tool -n __fish_use_subcommand -a check -d 'Check a policy with the files that it includes'
+complete -c sudoers_tool -n __fish_use_subcommand -a convert -d 'Print the rules of a policy and of the files that it includes anew, as one policy or as JSON'
 complete -c sudoers_tool -n __fish_use_subcommand -a edit -d 'Apply an edit script to a policy'
 complete -c sudoers_tool -n __fish_use_subcommand -a help -d 'Print help'
 complete -c sudoers_tool -n __fish_use_subcommand -a list -d 'Print what a user may run on a host, or whether a command is allowed'
@@ -96,6 +97,8 @@ complete -c sudoers_tool -n __sudoers_tool_option_of_list -l host -x -d 'Long na
 complete -c sudoers_tool -n __sudoers_tool_option_of_list -l moment -x -d 'Moment in UTC, as 20260101120000Z'
 complete -c sudoers_tool -n __sudoers_tool_option_of_list -l interfaces -x -d 'Addresses of the host, as 10.1.2.9/24'
 complete -c sudoers_tool -n __sudoers_tool_option_of_list -l why -d 'Print the rule that decides'
+complete -c sudoers_tool -n '__fish_seen_subcommand_from check convert show' -l root -x -a '(__fish_complete_directories)' -d 'Folder below which names that begin with / are read'
+complete -c sudoers_tool -n __sudoers_tool_option_of_list -l root -x -a '(__fish_complete_directories)' -d 'Folder below which names that begin with / are read'
 complete -c sudoers_tool -n '__sudoers_tool_argument_of check convert list show' -F
 complete -c sudoers_tool -n __sudoers_tool_word_of_list -F
 complete -c sudoers_tool -n '__sudoers_tool_argument_of help' -a 'check convert edit list show'

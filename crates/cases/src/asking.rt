@@ -3,14 +3,12 @@
 use crate::drawn::{
     allow_word, push_answered, push_ask_fault, push_debug, push_group_places, push_text,
 };
-use crate::edited::push_edited;
 use std::alloc::{AllocError, Global};
-use sudoers_edit::Editor;
 use sudoers_list::list;
 use sudoers_match::{Request, answer, host_groups, runas_default};
 use sudoers_match_list::{Commands, Groups, Hosts, MemberKind, Users, decide};
 use sudoers_match_member::{CommandLine, Group, Person, Who};
-use sudoers_tree::{Kind, Policy, ReadFault};
+use sudoers_tree::{Kind, LoadFault, Policy};
 
 /// What is asked of a policy.
 #[derive(Clone, Copy)]
@@ -33,11 +31,9 @@ pub enum Question<'a> {
     Allowed(&'a Request),
     /// Which row decides a request.
     Row(&'a Request),
-    /// Which row decides a request after the edits of a script.
-    Edited(&'a [u8], &'a Request),
 }
 
-/// Adds what the policy `text` answers to `question`; `no policy` if it is none.
+/// Adds what the policy of the one file `text` answers to `question`; `no policy` if it is none.
 pub fn push_answer(
     alloc: Global,
     text: &[u8],
@@ -45,23 +41,19 @@ pub fn push_answer(
     answers: &mut String,
 ) -> Result<(), AllocError> {
     match Policy::read(alloc, text) {
-        Ok(policy) => {
-            let mut editor = Editor::new(policy);
-            push_of_editor(alloc, &mut editor, question, answers)
-        }
-        Err(ReadFault::NoMemory) => Err(AllocError),
+        Ok(policy) => push_of_policy(alloc, &policy, question, answers),
+        Err(LoadFault::NoMemory) => Err(AllocError),
         Err(_) => answers.push_str("no policy"),
     }
 }
 
-/// Adds what the policy of `editor` answers to `question`.
-fn push_of_editor(
+/// Adds what `policy` answers to `question`.
+fn push_of_policy(
     alloc: Global,
-    editor: &mut Editor,
+    policy: &Policy,
     question: Question<'_>,
     answers: &mut String,
 ) -> Result<(), AllocError> {
-    let policy = editor.policy();
     match question {
         Question::OfUser(kind, user) => push_said::<Users>(alloc, policy, kind, user, answers),
         Question::OfGroup(group) => push_said::<Groups>(alloc, policy, Kind::Runas, group, answers),
@@ -74,7 +66,6 @@ fn push_of_editor(
         Question::Listing(who) => push_listing(alloc, policy, who, answers),
         Question::Allowed(request) => push_allowed(alloc, policy, request, answers),
         Question::Row(request) => push_answered(answer(alloc, policy, request), answers),
-        Question::Edited(script, request) => push_edited(alloc, editor, script, request, answers),
     }
 }
 
@@ -86,7 +77,7 @@ fn push_said<K: MemberKind>(
     asked: &K::Asked,
     answers: &mut String,
 ) -> Result<(), AllocError> {
-    let Some(members) = policy.members(kind, b"A") else {
+    let Some(members) = policy.walk().members(kind, b"A") else {
         return answers.push_str("no alias");
     };
     match decide::<K>(alloc, policy, kind, &members, asked) {

@@ -6,10 +6,10 @@ ghost use Rattle.sudoers_tree.specs.Policy.{texts};
 use sudoers_text::laws::{lines_stand_alone, whole_line_is};
 use sudoers_text::{ends_in_lf, is_logical_line};
 use sudoers_tree::laws::policy_is_cut;
-use sudoers_tree::{Policy, ReadFault};
+use sudoers_tree::{OneFile, ReadFault};
 
 /// Puts a line into a policy. `None` if it is no line, or a line without LF would stand before another.
-pub fn with_line(policy: &mut Policy, at: usize, line: &[u8]) -> Option<Result<(), ReadFault>> {
+pub fn with_line(policy: &mut OneFile, at: usize, line: &[u8]) -> Option<Result<(), ReadFault>> {
     if at < policy.len() {
         put_before(policy, at, line)
     } else if at > 0 {
@@ -20,7 +20,7 @@ pub fn with_line(policy: &mut Policy, at: usize, line: &[u8]) -> Option<Result<(
 }
 
 /// A law: no line of a policy without LF stands before another.
-fn are_ended(policy: &Policy)
+fn are_ended(policy: &OneFile)
     ensures { has_unended_inside (texts policy.now) ≡ false }
 {
     policy.is_policy();
@@ -30,7 +30,7 @@ fn are_ended(policy: &Policy)
 
 /// Puts a line that ends in LF before another.
 #[tactic(auto, using(crate::proofs::EndedLines::before))]
-fn put_before(policy: &mut Policy, at: usize, line: &[u8]) -> Option<Result<(), ReadFault>> {
+fn put_before(policy: &mut OneFile, at: usize, line: &[u8]) -> Option<Result<(), ReadFault>> {
     whole_line_is();
     are_ended(policy);
     if at < policy.len() && is_logical_line(line) && ends_in_lf(line) {
@@ -42,7 +42,7 @@ fn put_before(policy: &mut Policy, at: usize, line: &[u8]) -> Option<Result<(), 
 
 /// Puts a line after the last one, which ends in LF.
 #[tactic(auto, using(crate::proofs::EndedLines::after_last))]
-fn put_last(policy: &mut Policy, at: usize, line: &[u8]) -> Option<Result<(), ReadFault>> {
+fn put_last(policy: &mut OneFile, at: usize, line: &[u8]) -> Option<Result<(), ReadFault>> {
     whole_line_is();
     are_ended(policy);
     let count = policy.len();
@@ -58,7 +58,7 @@ fn put_last(policy: &mut Policy, at: usize, line: &[u8]) -> Option<Result<(), Re
 
 /// Puts the first line into a policy of none.
 #[tactic(auto, using(crate::proofs::EndedLines::alone))]
-fn put_first(policy: &mut Policy, line: &[u8]) -> Option<Result<(), ReadFault>> {
+fn put_first(policy: &mut OneFile, line: &[u8]) -> Option<Result<(), ReadFault>> {
     whole_line_is();
     if policy.len() == 0 && is_logical_line(line) {
         Some(policy.with_line(0, line))
@@ -69,7 +69,11 @@ fn put_first(policy: &mut Policy, line: &[u8]) -> Option<Result<(), ReadFault>> 
 
 /// Replaces a line. `None` if it is no line that ends in LF, or there is none at the place.
 #[tactic(auto, using(crate::proofs::EndedLines::in_place))]
-pub fn line_replaced(policy: &mut Policy, at: usize, line: &[u8]) -> Option<Result<(), ReadFault>> {
+pub fn line_replaced(
+    policy: &mut OneFile,
+    at: usize,
+    line: &[u8],
+) -> Option<Result<(), ReadFault>> {
     whole_line_is();
     are_ended(policy);
     if at < policy.len() && is_logical_line(line) && ends_in_lf(line) {
@@ -81,7 +85,7 @@ pub fn line_replaced(policy: &mut Policy, at: usize, line: &[u8]) -> Option<Resu
 
 /// Takes a line out. `None` if there is none at the place.
 #[tactic(auto, using(crate::proofs::EndedLines::without))]
-pub fn without_line(policy: &mut Policy, at: usize) -> Option<Result<(), ReadFault>> {
+pub fn without_line(policy: &mut OneFile, at: usize) -> Option<Result<(), ReadFault>> {
     are_ended(policy);
     if at < policy.len() {
         Some(policy.without_line(at))

@@ -5,17 +5,35 @@ use laws_edit::answer_of;
 use std::alloc::{AllocError, Global};
 use sudoers_edit::{Edit, Editor, read_script};
 use sudoers_match::Request;
+use sudoers_tree::{OneFile, ReadFault};
 
-/// Adds what the editor's policy answers to `request` after the edits of `script`; `no script` if it is none, `refused` if an edit is.
+/// Adds what the policy `text` answers to `request` after the edits of `script`; `no policy` or `no script` if it is none, `refused` if
+/// an edit is.
 pub fn push_edited(
     alloc: Global,
-    editor: &mut Editor,
+    text: &[u8],
     script: &[u8],
     request: &Request,
     answers: &mut String,
 ) -> Result<(), AllocError> {
+    match OneFile::read(alloc, text) {
+        Ok(policy) => push_of_policy(alloc, policy, script, request, answers),
+        Err(ReadFault::NoMemory) => Err(AllocError),
+        Err(_) => answers.push_str("no policy"),
+    }
+}
+
+/// Adds what `policy` answers to `request` after the edits of `script`; `no script` if it is none, `refused` if an edit is.
+fn push_of_policy(
+    alloc: Global,
+    policy: OneFile,
+    script: &[u8],
+    request: &Request,
+    answers: &mut String,
+) -> Result<(), AllocError> {
+    let mut editor = Editor::new(policy);
     match read_script(alloc, script) {
-        Ok(edits) => push_after(alloc, editor, edits.as_slice(), request, answers),
+        Ok(edits) => push_after(alloc, &mut editor, edits.as_slice(), request, answers),
         Err(_) => answers.push_str("no script"),
     }
 }

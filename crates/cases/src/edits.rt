@@ -8,7 +8,7 @@ use crate::policies;
 use crate::scripts::{self, push_script};
 use std::alloc::{AllocError, Global};
 use sudoers_edit::{Editor, read_script};
-use sudoers_tree::{Policy, ReadFault};
+use sudoers_tree::{OneFile, ReadFault};
 
 /// What calls are of.
 #[derive(Drop)]
@@ -16,7 +16,7 @@ enum Target<'a> {
     /// The text itself.
     Text(&'a [u8]),
     /// The policy that it is.
-    Policy(Policy),
+    Policy(OneFile),
     /// An editor of that policy.
     Editor(Editor),
     /// The text is no policy, and this answers each call.
@@ -29,7 +29,7 @@ impl Target<'_> {
         if !matches!(sort, b'p' | b'e') {
             return Target::Text(text);
         }
-        match Policy::read(alloc, text) {
+        match OneFile::read(alloc, text) {
             Ok(policy) if sort == b'p' => Target::Policy(policy),
             Ok(policy) => Target::Editor(Editor::new(policy)),
             Err(fault) => Target::Fault(fault),

@@ -85,7 +85,12 @@ pub fn push_answer(
 
 /// Adds what is gathered of the files of the disk.
 pub fn push_on_disk(rt: &HostRuntime, body: &[u8], answers: &mut String) -> Result<(), AllocError> {
-    push_gathered(rt.alloc(), body, FilesOnDisk::new(rt.clone()?), answers)
+    push_gathered(
+        rt.alloc(),
+        body,
+        FilesOnDisk::new(rt.clone()?, String::new(rt.alloc())),
+        answers,
+    )
 }
 
 /// Adds the names of the files that are gathered, or the fault; and how often the files were asked. The body of the call has the

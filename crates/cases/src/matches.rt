@@ -5,6 +5,7 @@
 
 use crate::asking::{self, Question};
 use crate::drawn::push_shown;
+use crate::edited::push_edited;
 use crate::frames::{Call, part_of};
 use crate::given::{
     command_of, group_of, interfaces_of, network_of, person_of, request_of, user_of, who_of,
@@ -138,5 +139,5 @@ fn push_row_after_edits(
 ) -> Result<(), AllocError> {
     let (script, parts) = part_of(parts);
     let request = request_of(alloc, parts)?;
-    asking::push_answer(alloc, policy, Question::Edited(script, &request), answers)
+    push_edited(alloc, policy, script, &request, answers)
 }

@@ -1,16 +1,16 @@
-//! Calls of a policy.
+//! Calls of a policy of one text.
 
 use crate::changes::{line_replaced, with_line, without_line};
 use crate::drawn::push_debug;
-use crate::frames::{Call, next_call, number_of, part_of};
+use crate::frames::{Call, next_call, number_of};
+use crate::loads::{self, Topic, report_topic};
 use std::alloc::{AllocError, Global};
-use sudoers_check::{check, report_text, unused};
-use sudoers_tree::{Kind, Policy, append_texts, lf_count, text_replaced, text_with, text_without};
+use sudoers_tree::{Kind, OneFile, append_texts, lf_count, text_replaced, text_with, text_without};
 
 /// Adds the answer to a call of `policy`.
 pub fn push_answer(
     alloc: Global,
-    policy: &mut Policy,
+    policy: &mut OneFile,
     call: Call<'_>,
     answers: &mut String,
 ) -> Result<(), AllocError> {
@@ -28,7 +28,7 @@ pub fn push_answer(
 /// Adds the answer to a call that changes nothing.
 pub fn push_query(
     alloc: Global,
-    policy: &Policy,
+    policy: &OneFile,
     call: Call<'_>,
     answers: &mut String,
 ) -> Result<(), AllocError> {
@@ -43,22 +43,22 @@ pub fn push_query(
         // A kind of alias and a name.
         b'd' => push_definition(policy, call.body, answers),
         b'm' => push_mentions(policy, call.body, answers),
-        b'k' => push_notes(alloc, policy, answers),
-        b'u' => push_unused(alloc, policy, answers),
-        // The name of a file, and `s` for a strict report.
-        b'p' => push_report(alloc, policy, call.body, answers),
-        b'f' => push_fine(alloc, policy, answers),
+        b'k' => push_checked(alloc, policy, Topic::Notes, answers),
+        b'u' => push_checked(alloc, policy, Topic::Unused, answers),
+        // `s` for a strict report.
+        b'p' => push_checked(alloc, policy, report_topic(call.body), answers),
+        b'f' => push_checked(alloc, policy, Topic::Fine, answers),
         _ => push_changed_text(alloc, policy, call, answers),
     }
 }
 
 /// Adds the text of `policy`.
-fn push_text(policy: &Policy, answers: &mut String) -> Result<(), AllocError> {
+fn push_text(policy: &OneFile, answers: &mut String) -> Result<(), AllocError> {
     push_debug(&policy.text()?, answers)
 }
 
 /// Adds the text of a line, its kind, and what it says.
-fn push_line(policy: &Policy, at: usize, answers: &mut String) -> Result<(), AllocError> {
+fn push_line(policy: &OneFile, at: usize, answers: &mut String) -> Result<(), AllocError> {
     push_debug(&policy.line(at), answers)?;
     answers.push('\t')?;
     push_debug(&policy.line_kind(at), answers)?;
@@ -67,7 +67,7 @@ fn push_line(policy: &Policy, at: usize, answers: &mut String) -> Result<(), All
 }
 
 /// Adds all lines, with a tab behind each.
-fn push_lines(policy: &Policy, answers: &mut String) -> Result<(), AllocError> {
+fn push_lines(policy: &OneFile, answers: &mut String) -> Result<(), AllocError> {
     for at in 0..policy.len() {
         push_line(policy, at, answers)?;
         answers.push('\t')?;
@@ -76,7 +76,7 @@ fn push_lines(policy: &Policy, answers: &mut String) -> Result<(), AllocError> {
 }
 
 /// Adds the physical lines on which the lines begin, with a space behind each.
-fn push_first_rows(policy: &Policy, answers: &mut String) -> Result<(), AllocError> {
+fn push_first_rows(policy: &OneFile, answers: &mut String) -> Result<(), AllocError> {
     let mut row: usize = 1;
     for at in 0..policy.len() {
         write!(answers, "{row} ")?;
@@ -87,7 +87,7 @@ fn push_first_rows(policy: &Policy, answers: &mut String) -> Result<(), AllocErr
 }
 
 /// Adds where a name is defined, its members, and the text of the line.
-fn push_definition(policy: &Policy, named: &[u8], answers: &mut String) -> Result<(), AllocError> {
+fn push_definition(policy: &OneFile, named: &[u8], answers: &mut String) -> Result<(), AllocError> {
     let (kind, name) = name_of(named);
     let place = policy.definition(kind, name);
     let line = place.and_then(|place| policy.line(place.line));
@@ -99,48 +99,25 @@ fn push_definition(policy: &Policy, named: &[u8], answers: &mut String) -> Resul
 }
 
 /// Adds where a name is mentioned.
-fn push_mentions(policy: &Policy, named: &[u8], answers: &mut String) -> Result<(), AllocError> {
+fn push_mentions(policy: &OneFile, named: &[u8], answers: &mut String) -> Result<(), AllocError> {
     let (kind, name) = name_of(named);
     push_debug(&policy.mentions(kind, name)?, answers)
 }
 
-/// Adds the notes of the report.
-fn push_notes(alloc: Global, policy: &Policy, answers: &mut String) -> Result<(), AllocError> {
-    push_debug(&check(alloc, policy)?, answers)
-}
-
-/// Adds the unused definitions.
-fn push_unused(alloc: Global, policy: &Policy, answers: &mut String) -> Result<(), AllocError> {
-    push_debug(&unused(alloc, policy)?, answers)
-}
-
-/// Adds the text of the report. `asked` is the name of a file, and `s` for a strict report.
-fn push_report(
+/// Adds what the policy of one file answers that has the text of `policy`, or its fault.
+fn push_checked(
     alloc: Global,
-    policy: &Policy,
-    asked: &[u8],
+    policy: &OneFile,
+    topic: Topic,
     answers: &mut String,
 ) -> Result<(), AllocError> {
-    let (file, strict) = part_of(asked);
-    let report = check(alloc, policy)?;
-    let text = report_text(alloc, &report, file, strict == b"s".as_slice())?;
-    push_debug(&text, answers)
-}
-
-/// Adds whether the report is fine, and is with strictness, and how long its text is.
-fn push_fine(alloc: Global, policy: &Policy, answers: &mut String) -> Result<(), AllocError> {
-    let report = check(alloc, policy)?;
-    let text = report_text(alloc, &report, b"f", false)?;
-    push_debug(
-        &(report.is_fine(false), report.is_fine(true), text.len()),
-        answers,
-    )
+    loads::push_of_text(alloc, policy.text()?.as_slice(), topic, answers)
 }
 
 /// Adds the text with a line changed, or after another text; `unknown` if this is not known.
 fn push_changed_text(
     alloc: Global,
-    policy: &Policy,
+    policy: &OneFile,
     call: Call<'_>,
     answers: &mut String,
 ) -> Result<(), AllocError> {
@@ -156,7 +133,7 @@ fn push_changed_text(
 }
 
 /// Returns `front`, and the text of `policy` after it.
-fn text_after(alloc: Global, policy: &Policy, front: &[u8]) -> Result<Vec<u8>, AllocError> {
+fn text_after(alloc: Global, policy: &OneFile, front: &[u8]) -> Result<Vec<u8>, AllocError> {
     let lines = policy.lines();
     let mut text = Vec::from_slice(alloc, front)?;
     append_texts(lines.tables, lines.rows, &mut text)?;

@@ -2,7 +2,8 @@
 
 use crate::drawn::{push_debug, push_shown};
 use crate::frames::{Call, next_call};
-use crate::{gathers, loads};
+use crate::gathers;
+use crate::loads::{self, Topic, report_topic};
 use std::alloc::{AllocError, Global};
 use sudoers_edit::{Edit, Edits, MAX_EDITS, ScriptFault, Text, read_script, write_script};
 use sudoers_tree::{ALIAS_LIMIT, Kind, lead_of, leads, read_line};
@@ -19,8 +20,12 @@ pub fn push_answer(
         b'l' => push_debug(&read_line(alloc, text)?, answers),
         // The name of a file: where the text leads as a line of that file.
         b'i' => push_leads(alloc, call.body, text, answers),
-        // What comes of the files that the text is, a name and a text each.
-        b'f' => loads::push_answer(alloc, text, answers),
+        // The walk over the files that the text is, a name and a text each.
+        b'f' => loads::push_of_files(alloc, text, Topic::Walk, answers),
+        // Those files themselves.
+        b'n' => loads::push_of_files(alloc, text, Topic::Files, answers),
+        // `s` for a strict report: that on those files.
+        b'p' => loads::push_of_files(alloc, text, report_topic(call.body), answers),
         // Which call fails, and the name of the root: what is gathered of the files that the text is.
         b'g' => gathers::push_answer(alloc, call.body, text, answers),
         // How many edits the text spells as a script.

@@ -10,7 +10,8 @@ ghost use Rattle.sudoers_match.specs.Answer.{IsAnswer, answer_shown, argument_li
 
 use std::alloc::Global;
 use sudoers_edit::Editor;
-use sudoers_match::{Answer, AskFault, Request, answer};
+use sudoers_match::{Answer, AskFault, Request, find_answer, find_default};
+use sudoers_match_list::Acyclic;
 
 /// Returns the answer to `request` of the policy of `editor`, as it stands: of the last row that fits. The edits of the journal lead to
 /// that policy from the first one, whether they were applied one by one or in a list that was refused in the middle, and whether
@@ -34,5 +35,10 @@ pub fn answer_of<'a>(
 {
     let policy = editor.policy();
     policy.is_policy();
-    answer(alloc, policy, request)
+    let acyclic = Acyclic::new(alloc, policy.walk())?;
+    let default = find_default(alloc, &acyclic, &request.who)?;
+    match find_answer(alloc, &acyclic, request, default)? {
+        Some(found) => Ok(Some(found.answer)),
+        None => Ok(None),
+    }
 }

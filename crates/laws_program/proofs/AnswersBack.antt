@@ -1,6 +1,6 @@
 -- An answer of what is read of printed rules is an answer of the policy.
 use Rattle.laws_program.proofs.Common.{◌≡◌, ◌↔◌, ℕ, true, List, [], ◌∷◌, Option, Ok, map, refl, sym, ap, subst, ◌∙◌, Atom, Kind, Cmnd, HostGroup, Member, Line}
-use Rattle.laws_program.proofs.Common.{IsPolicy, read_of, read_back, IsSameMember, AllSame, IsSame, IsSameGroup, AllAlike, AreAlike, Request, MatchesSame}
+use Rattle.laws_program.proofs.Common.{IsSound, read_of, read_back, IsSameMember, AllSame, IsSame, IsSameGroup, AllAlike, AreAlike, Request, MatchesSame}
 use Rattle.laws_program.proofs.Common.{AreDefaultsAlike, AreRowsAlike, AreRowsEqual, Answer, Fits, told, IsAnswer, Head, no_head, Row, row_of, CommandRows}
 use Rattle.laws_program.proofs.Common.{GroupRows, SpecRows, AreRows, Spec, specs_of, all_turned, joined_alike, last_alike, turned_both, effective_group}
 use Rattle.laws_program.proofs.Common.{rules_of, lines_of, printed, fits, said_by}
@@ -68,7 +68,7 @@ module _ (lines read : List Line) (lists : (k : Kind) (ms ns : List Member) → 
 -- ---- answers
 
 module _ (reads : ReadLaw) (law : ListLaw) (answers : AnswerLaw) (fit : FitLaw) (one : OneLaw) (hits : MatchesSame read_back) (lines read : List Line)
-    (is : IsPolicy lines) (size : fits (rules_of lines) ≡ true) (e : read_of (printed (rules_of lines)) ≡ Ok read) (q : Request) where
+    (is : IsSound lines) (size : fits (rules_of lines) ≡ true) (e : read_of (printed (rules_of lines)) ≡ Ok read) (q : Request) where
   pub answer_back : (answer : Option Answer) → IsAnswer read q answer → IsAnswer lines q answer
   answer_back answer b =
       let same = same_read reads lines read is size e in

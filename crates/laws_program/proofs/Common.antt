@@ -64,9 +64,10 @@ pub use Rattle.sudoers_text.specs.declared.fault.TextFault.TheVariants.{Nul}
 pub use Rattle.sudoers_tree.specs.Definition.{Definition, defined, defines, definitions, definitions_from, definitions_in, definitions_since, is_kind}
 pub use Rattle.sudoers_tree.specs.Line.{Line}
 pub use Rattle.sudoers_tree.specs.Mention.{in_group, in_scope, of_runas}
-pub use Rattle.sudoers_tree.specs.Policy.{AreOnce, IsFree, IsPolicy, SaysSo, alias_limit, count_of, texts}
+pub use Rattle.sudoers_tree.specs.Policy.{AreOnce, IsFree, IsPolicy, IsWalk, SaysSo, alias_limit, count_of, texts}
 pub use Rattle.sudoers_tree.specs.Reading.{IsOutcome, read_of}
 pub use Rattle.sudoers_tree.specs.declared.fault.ReadFault.{ReadFault}
 pub use Rattle.sudoers_match_list.specs.Alike.{AllAlike, AreAliasesAlike, AreAlike, IsRewritten}
 pub use Rattle.sudoers_match_list.specs.Flat.{Signed, alias_of, none, one, signed}
 pub use Rattle.sudoers_match_list.specs.Flattened.{flattened, replaced_by, replaced_once, replaced_times, turned_member}
+pub use Rattle.laws_program.specs.Sound.{IsSound}

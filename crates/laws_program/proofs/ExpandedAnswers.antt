@@ -1,5 +1,5 @@
 -- With its aliases replaced, a policy answers the same.
-use Rattle.laws_program.proofs.Common.{◌≡◌, ◌↔◌, ℕ, List, Option, refl, subst, Atom, Line, IsPolicy, HasReachableCycle, Who, AllAlike, GroupPlace, Request}
+use Rattle.laws_program.proofs.Common.{◌≡◌, ◌↔◌, ℕ, List, Option, refl, subst, Atom, Line, IsSound, HasReachableCycle, Who, AllAlike, GroupPlace, Request}
 use Rattle.laws_program.proofs.Common.{MatchesSame, AreDefaultsAlike, AreRowsAlike, SaysSame, Answer, Answers, Fits, told, IsAnswer, defaults_of}
 use Rattle.laws_program.proofs.Common.{IsRunasDefault, AreHostGroups, IsLast, Row, AreRows, specs_of, all_turned, last_alike, turned_both, some_rows, FlatLaw}
 use Rattle.laws_program.proofs.Common.{rows_one, expanded}
@@ -35,7 +35,7 @@ pub record IsLikeExpanded (lines others : List Line) : Type 0 where
 pub expanded_itself : (lines : List Line) → IsLikeExpanded lines (expanded lines)
 expanded_itself lines = record { keep = expanded_keeps lines; specs = refl; settings = refl }
 
-module _ (laws : ListLaws) (lines others : List Line) (policy : IsPolicy lines) (straight : HasReachableCycle lines → ⊥) (like : IsLikeExpanded lines others) where
+module _ (laws : ListLaws) (lines others : List Line) (policy : IsSound lines) (straight : HasReachableCycle lines → ⊥) (like : IsLikeExpanded lines others) where
   pub settings_there : AreDefaultsAlike as_it_was lines others
   settings_there = settings_alike laws lines others policy like.keep straight like.settings
 

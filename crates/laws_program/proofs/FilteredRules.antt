@@ -1,5 +1,5 @@
 -- The text that is printed of rewritten rules is read.
-use Rattle.laws_program.proofs.Common.{◌≡◌, true, List, sym, subst, AllByRecursion, Line, definitions, IsPolicy, IsWritable, Rules, rules_of, lines_of, printed}
+use Rattle.laws_program.proofs.Common.{◌≡◌, true, List, sym, subst, AllByRecursion, Line, definitions, IsSound, IsWritable, Rules, rules_of, lines_of, printed}
 use Rattle.laws_program.proofs.Common.{fits, IsReadAs, Changes, used_rules}
 use Rattle.laws_program.proofs.ReadLines.{PrintLaw, AloneLaw, CutLaw, ReadLaw, OneLaw, MayStand, rules_read_of}
 use Rattle.laws_program.proofs.RuleLines.{GivenLaw, readable_lines, rules_of_readable}
@@ -22,7 +22,7 @@ pub record LineLaws : Type 0 where
   pub one : OneLaw
 
 -- The printed text is read as lines that say what the rules say.
-pub rewritten_read : LineLaws → (c : Changes) (lines : List Line) → IsPolicy lines → fits (used_rules (rewritten c lines)) ≡ true
+pub rewritten_read : LineLaws → (c : Changes) (lines : List Line) → IsSound lines → fits (used_rules (rewritten c lines)) ≡ true
     → IsReadAs (printed (used_rules (rewritten c lines))) (lines_of (used_rules (rewritten c lines)))
 rewritten_read l c lines policy =
     let may : MayStand (definitions lines) = record { free = policy.walk.free; once = policy.walk.once; few = policy.walk.few } in

@@ -1,7 +1,7 @@
 -- Lists with their aliases replaced say in the new policy what the lists said.
 use Rattle.laws_program.proofs.Common.{◌≡◌, ◌⊎◌, inl, inr, ℕ, suc, ◌+◌, ◌≤◌, List, [], ◌∷◌, ◌++◌, length, map, Option, Some, None, refl, sym, ap, ap₂, subst}
 use Rattle.laws_program.proofs.Common.{◌∙◌, arith, AllByRecursion, Kind, Runas, Atom, Member, RunasSpec, Node, Line, Definition, definitions_in}
-use Rattle.laws_program.proofs.Common.{definitions_since, definitions, defined, IsPolicy, Signed, signed, alias_of, none, one, flattened, AreAlike}
+use Rattle.laws_program.proofs.Common.{definitions_since, definitions, defined, IsSound, Signed, signed, alias_of, none, one, flattened, AreAlike}
 use Rattle.laws_program.proofs.Common.{AreRunasListsAlike, AreRunasAlike, IsStraight, all_append, expanded_node, expanded_runas, times_empty, expanded}
 use Rattle.std.specs.Option.{option_map}
 use Rattle.sudoers_line.specs.declared.node.Atom.TheVariants as atom
@@ -83,7 +83,7 @@ same_signed (s ∷ fs) = ap (λ gs. s ∷ gs) (same_signed fs)
 
 -- ---- a list with a member still has one
 
-module _ (lines : List Line) (policy : IsPolicy lines) where
+module _ (lines : List Line) (policy : IsSound lines) where
   pub still_some : (k : Kind) (m : Member) (ms : List Member) → (n : Member) × (ns : List Member) × (flattened k lines (m ∷ ms) ≡ n ∷ ns)
   still_some k m ms = by (flattened k lines (m ∷ ms)) refl (longer k lines (have_members k lines policy.walk) (length (definitions lines)) (m ∷ ms))
     where
@@ -94,7 +94,7 @@ module _ (lines : List Line) (policy : IsPolicy lines) where
   still_none : (k : Kind) → flattened k lines [] ≡ []
   still_none k = times_empty k lines (length (definitions lines))
 
-module _ (laws : ListLaws) (lines others : List Line) (policy : IsPolicy lines) (keep : KeepUndefined lines others) where
+module _ (laws : ListLaws) (lines others : List Line) (policy : IsSound lines) (keep : KeepUndefined lines others) where
   -- No member of the list is a defined alias.
   pub none_defined : (k : Kind) (ms : List Member) (fs : List Signed) → IsFlat k lines ms fs
       → AllByRecursion (λ (m : Member). alias_of k others m.atom ≡ None) (flattened k lines ms)

@@ -1,7 +1,7 @@
 -- What a filter leaves can be read, and definitions stay.
 use Rattle.laws_program.proofs.Common.{◌≡◌, ◌≢◌, ℕ, ◌+◌, Bool, true, false, ◌||◌, List, [], ◌∷◌, ◌++◌, map, Option, Some, None, refl, ap₂, ◌∙◌, cond}
 use Rattle.laws_program.proofs.Common.{AllByRecursion, filter, Kind, User, Host, Member, HostGroup, Node, Line, Definition, definitions_in, definitions_since}
-use Rattle.laws_program.proofs.Common.{definitions, IsPolicy, AreSome, IsMemberOf, IsGroup, IsReadable, has_one, allows_one, Changes}
+use Rattle.laws_program.proofs.Common.{definitions, IsSound, AreSome, IsMemberOf, IsGroup, IsReadable, has_one, allows_one, Changes}
 use Rattle.sudoers_line.specs.Node as node
 use Rattle.laws_print.specs.Writable.{IsUserMember, IsHostMember}
 use Rattle.laws_print.proofs.Kept.{all_of}
@@ -75,7 +75,7 @@ module _ (fewer : FewerLaw) (lines : List Line) (f : Filter) where
 
 -- ---- all changes
 
-module _ (sign : SignLaw) (fewer : FewerLaw) (c : Changes) (lines : List Line) (policy : IsPolicy lines) (readable : AreReadable lines) where
+module _ (sign : SignLaw) (fewer : FewerLaw) (c : Changes) (lines : List Line) (policy : IsSound lines) (readable : AreReadable lines) where
   filtered_may : (f : Option Filter) (n : Node) → IsReadable n → IsReadable (filtered_by lines f c.prune n)
   filtered_may None n is = is
   filtered_may (Some f) n is = left_may fewer lines f c.prune n is

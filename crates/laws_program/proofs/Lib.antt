@@ -1,3 +1,4 @@
+mod Sounds
 mod Common
 mod Clean
 mod PrintedHeads

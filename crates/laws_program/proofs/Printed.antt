@@ -1,5 +1,5 @@
 -- What is read of the printed rules of a policy with its aliases replaced answers as the policy.
-use Rattle.laws_program.proofs.Common.{◌≡◌, ◌↔◌, ℕ, true, List, Option, Ok, refl, sym, subst, ◌∙◌, Kind, Member, Line, IsPolicy, read_of, HasReachableCycle}
+use Rattle.laws_program.proofs.Common.{◌≡◌, ◌↔◌, ℕ, true, List, Option, Ok, refl, sym, subst, ◌∙◌, Kind, Member, Line, IsSound, read_of, HasReachableCycle}
 use Rattle.laws_program.proofs.Common.{Who, read_back, IsSameMember, AllSame, IsSame, AllAlike, AreAlike, GroupPlace, Request, MatchesSame, AreDefaultsAlike}
 use Rattle.laws_program.proofs.Common.{AreRowsEqual, SaysSame, Answer, Fits, told, IsAnswer, IsRunasDefault, AreHostGroups, IsLast, Row, AreRows, all_turned}
 use Rattle.laws_program.proofs.Common.{last_alike, turned_both, some_rows, FlatLaw, rows_one, Rules, rules_of, lines_of, printed, fits, said_by, IsReadAs}
@@ -68,10 +68,10 @@ rest_like lines = record {
 
 -- what the law of printed rules says
 abbrev pub ReadLaw : Type 0
-ReadLaw = (lines : List Line) → IsPolicy lines → fits (used_rules (expanded lines)) ≡ true
+ReadLaw = (lines : List Line) → IsSound lines → fits (used_rules (expanded lines)) ≡ true
     → IsReadAs (printed (used_rules (expanded lines))) (lines_of (used_rules (expanded lines)))
 
-read_same : ReadLaw → (lines read : List Line) → IsPolicy lines → fits (used_rules (expanded lines)) ≡ true → read_of (printed (used_rules (expanded lines))) ≡ Ok read
+read_same : ReadLaw → (lines read : List Line) → IsSound lines → fits (used_rules (expanded lines)) ≡ true → read_of (printed (used_rules (expanded lines))) ≡ Ok read
     → AllSame IsSame (lines_of (rules_of (rest_of lines))) (said_by read)
 read_same reads lines read policy size e =
     let is = reads lines policy size in
@@ -79,7 +79,7 @@ read_same reads lines read policy size e =
     subst (λ (r : Rules). AllSame IsSame (lines_of r) (said_by read)) (sym (kept_rules (expanded lines)))
     (subst (λ (ls : List Line). AllSame IsSame (lines_of (used_rules (expanded lines))) (said_by ls)) one is.same)
 
-module _ (reads : ReadLaw) (law : ListLaw) (hits : MatchesSame read_back) (laws : ListLaws) (lines read : List Line) (policy : IsPolicy lines)
+module _ (reads : ReadLaw) (law : ListLaw) (hits : MatchesSame read_back) (laws : ListLaws) (lines read : List Line) (policy : IsSound lines)
     (straight : HasReachableCycle lines → ⊥) (size : fits (used_rules (expanded lines)) ≡ true) (e : read_of (printed (used_rules (expanded lines))) ≡ Ok read) where
   same : AllSame IsSame (lines_of (rules_of (rest_of lines))) (said_by read)
   same = read_same reads lines read policy size e
@@ -108,7 +108,7 @@ module _ (reads : ReadLaw) (law : ListLaw) (hits : MatchesSame read_back) (laws 
         (read_again law hits (rest_of lines) read same equal q fits one_flat one mid.0 mid.1 other b)
 
 -- None of its reachable aliases is cyclic.
-pub printed_straight : ReadLaw → (lines read : List Line) → IsPolicy lines → (HasReachableCycle lines → ⊥) → fits (used_rules (expanded lines)) ≡ true
+pub printed_straight : ReadLaw → (lines read : List Line) → IsSound lines → (HasReachableCycle lines → ⊥) → fits (used_rules (expanded lines)) ≡ true
     → read_of (printed (used_rules (expanded lines))) ≡ Ok read → HasReachableCycle read → ⊥
 printed_straight reads lines read policy straight size e h =
     straight (cycle_back lines ((cycle_both (rest_of lines) read (read_same reads lines read policy size e)).1 h))

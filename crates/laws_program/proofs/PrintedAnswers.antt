@@ -1,5 +1,5 @@
 -- Printed rules answer as the policy.
-use Rattle.laws_program.proofs.Common.{◌≡◌, ◌↔◌, ℕ, true, List, Option, Ok, Atom, Kind, Member, Line, IsPolicy, read_of, Who, read_back, IsSameMember, AllSame}
+use Rattle.laws_program.proofs.Common.{◌≡◌, ◌↔◌, ℕ, true, List, Option, Ok, Atom, Kind, Member, Line, IsSound, read_of, Who, read_back, IsSameMember, AllSame}
 use Rattle.laws_program.proofs.Common.{IsSame, AllAlike, AreAlike, AreAliasesAlike, IsRewritten, Request, MatchesSame, AreDefaultsAlike, AreRowsEqual}
 use Rattle.laws_program.proofs.Common.{AreSpecsAlike, Answer, Answers, IsAnswer, IsRunasDefault, AreHostGroups, Row, specs_of, GroupPlace, rules_of, lines_of}
 use Rattle.laws_program.proofs.Common.{printed, fits, said_by}
@@ -33,7 +33,7 @@ module _ (law : ListLaw) (lines read : List Line) (same : AllSame IsSame (lines_
   pub defaults_there : AreDefaultsAlike read_back lines read
   defaults_there = settings_alike lines read lists_alike same
 
-pub same_answer : ReadLaw → ListLaw → AnswerLaw → MatchesSame read_back → (lines read : List Line) → IsPolicy lines → fits (rules_of lines) ≡ true
+pub same_answer : ReadLaw → ListLaw → AnswerLaw → MatchesSame read_back → (lines read : List Line) → IsSound lines → fits (rules_of lines) ≡ true
     → read_of (printed (rules_of lines)) ≡ Ok read → (q : Request) (answer : Option Answer) → IsAnswer lines q answer → IsAnswer read q answer
 same_answer reads law answers hits lines read is size e q answer a =
     let same = same_read reads lines read is size e in
@@ -44,13 +44,13 @@ same_answer reads law answers hits lines read is size e q answer a =
       answers = answers read_back lines read hits (defaults_there law lines read same) q a.rows found.0 answer found.2 a.answers;
     }
 
-pub same_runas_default : ReadLaw → ListLaw → DefaultLaw → MatchesSame read_back → (lines read : List Line) → IsPolicy lines → fits (rules_of lines) ≡ true
+pub same_runas_default : ReadLaw → ListLaw → DefaultLaw → MatchesSame read_back → (lines read : List Line) → IsSound lines → fits (rules_of lines) ≡ true
     → read_of (printed (rules_of lines)) ≡ Ok read → (who : Who) (name : List ℕ) → IsRunasDefault lines who name ↔ IsRunasDefault read who name
 same_runas_default reads law defaults hits lines read is size e who name =
     let same = same_read reads lines read is size e in
     defaults read_back lines read hits (defaults_there law lines read same) who name
 
-pub same_host_groups : ReadLaw → ListLaw → GroupLaw → MatchesSame read_back → (lines read : List Line) → IsPolicy lines → fits (rules_of lines) ≡ true
+pub same_host_groups : ReadLaw → ListLaw → GroupLaw → MatchesSame read_back → (lines read : List Line) → IsSound lines → fits (rules_of lines) ≡ true
     → read_of (printed (rules_of lines)) ≡ Ok read → (who : Who) (places : List GroupPlace) → AreHostGroups lines who places ↔ AreHostGroups read who places
 same_host_groups reads law groups hits lines read is size e who places =
     let same = same_read reads lines read is size e in

@@ -1,7 +1,7 @@
 -- The printed text of the rules of a policy is a policy.
 use Rattle.laws_program.proofs.Common.{◌≡◌, ℕ, ◌≤◌, ◌&&◌, true, nat_le, List, [], ◌∷◌, ◌++◌, length, map, Result, Ok, refl, sym, ap, subst, ◌∙◌, arith}
 use Rattle.laws_program.proofs.Common.{AllByRecursion, list_all, join, Nul, text_limit, line_limit, Kind, Node, Line, ReadFault, Definition, definitions}
-use Rattle.laws_program.proofs.Common.{alias_limit, texts, count_of, SaysSo, IsFree, AreOnce, IsPolicy, read_of, IsOutcome, printed_line, printed_lines}
+use Rattle.laws_program.proofs.Common.{alias_limit, texts, count_of, SaysSo, IsFree, AreOnce, IsSound, IsPolicy, read_of, IsOutcome, printed_line, printed_lines}
 use Rattle.laws_program.proofs.Common.{IsWritable, AllSame, IsSame, rules_of, lines_of, printed, fits, said_by, IsReadAs}
 use Rattle.std.proofs.Common.{◌<◌}
 use Rattle.std.proofs.lemmas.Bool.{and_parts, leb-true}
@@ -127,6 +127,6 @@ pub rules_read_of : PrintLaw → AloneLaw → CutLaw → ReadLaw → OneLaw → 
 rules_read_of print alone cut read one lines may written size = read_back print alone cut read one lines (lines_of (rules_of lines)) may refl written size
 
 -- The printed text of the rules of a policy is read as lines that say the same.
-pub rules_read : PrintLaw → AloneLaw → CutLaw → ReadLaw → OneLaw → ((lines : List Line) → IsPolicy lines → AllByRecursion IsWritable (lines_of (rules_of lines))) → (lines : List Line) → IsPolicy lines → fits (rules_of lines) ≡ true → IsReadAs (printed (rules_of lines)) (lines_of (rules_of lines))
+pub rules_read : PrintLaw → AloneLaw → CutLaw → ReadLaw → OneLaw → ((lines : List Line) → IsSound lines → AllByRecursion IsWritable (lines_of (rules_of lines))) → (lines : List Line) → IsSound lines → fits (rules_of lines) ≡ true → IsReadAs (printed (rules_of lines)) (lines_of (rules_of lines))
 rules_read print alone cut read one written lines is size =
     rules_read_of print alone cut read one lines (record { free = is.walk.free; once = is.walk.once; few = is.walk.few }) (written lines is) size

@@ -1,7 +1,7 @@
 -- What is read can be written with its aliases replaced.
 use Rattle.laws_program.proofs.Common.{◌≡◌, ℕ, zero, suc, ◌+◌, Bool, List, [], ◌∷◌, ◌++◌, length, map, Option, Some, None, refl, ap, subst, AllByRecursion}
 use Rattle.laws_program.proofs.Common.{flat_map, Kind, User, Runas, Host, Cmnd, Atom, Member, Def, RunasSpec, CmdSpec, HostGroup, Scope, Node, Line, Definition}
-use Rattle.laws_program.proofs.Common.{definitions_from, definitions_in, definitions_since, definitions, IsPolicy, alias_of, turned_member, replaced_by}
+use Rattle.laws_program.proofs.Common.{definitions_from, definitions_in, definitions_since, definitions, IsSound, alias_of, turned_member, replaced_by}
 use Rattle.laws_program.proofs.Common.{replaced_once, replaced_times, flattened, all_append, AreSome, IsMemberOf, IsWritableDef, IsRunasList, IsOptionValue}
 use Rattle.laws_program.proofs.Common.{IsCmd, IsGroup, IsReadable, expanded_runas, with_member, expanded_command, expanded_group, expanded_list, expanded_scope}
 use Rattle.laws_program.proofs.Common.{expanded_node, expanded}
@@ -50,7 +50,7 @@ some_by P (y ∷ ys) x rest e all = all
 
 -- ---- lists
 
-module _ (sign : SignLaw) (lines : List Line) (policy : IsPolicy lines) (readable : AreReadable lines) where
+module _ (sign : SignLaw) (lines : List Line) (policy : IsSound lines) (readable : AreReadable lines) where
   turned_may : (k : Kind) (negated : Bool) (ms : List Member) → AllByRecursion (IsMemberOf k) ms → AllByRecursion (IsMemberOf k) (map (turned_member negated) ms)
   turned_may k negated [] all = tt
   turned_may k negated (m ∷ ms) all = (sign k m (turned_member negated m).negated all.0, turned_may k negated ms all.1)

@@ -1,6 +1,6 @@
 -- The rows of a policy with its aliases replaced.
 use Rattle.laws_program.proofs.Common.{◌≡◌, inl, inr, ℕ, suc, List, [], ◌∷◌, ◌++◌, map, Option, None, refl, sym, ap, subst, ◌∙◌, AllByRecursion, flat_map, User}
-use Rattle.laws_program.proofs.Common.{Host, Cmnd, CmdSpec, Member, RunasSpec, Line, IsPolicy, Has, alias_of, Signed, signed, none, one, flattened, AllAlike}
+use Rattle.laws_program.proofs.Common.{Host, Cmnd, CmdSpec, Member, RunasSpec, Line, IsSound, Has, alias_of, Signed, signed, none, one, flattened, AllAlike}
 use Rattle.laws_program.proofs.Common.{AreAlike, AreRunasAlike, AreRowsAlike, Head, inherit, Row, row_of, CommandRows, expanded_runas, with_member}
 use Rattle.laws_program.proofs.Common.{expanded_command}
 use Rattle.std.specs.Option.{option_map}
@@ -73,7 +73,7 @@ module _ (lines others : List Line) (i j : ℕ) (users hosts : List Member)
         let first = first_head lines others h c r same g x head in
         one_more x ms all.0 g n first (next_members ms all.1 (inherit g (with_member r c x)) (suc n) first)
 
-  module _ (laws : ListLaws) (policy : IsPolicy lines) (keep : KeepUndefined lines others) where
+  module _ (laws : ListLaws) (policy : IsSound lines) (keep : KeepUndefined lines others) where
     -- Each row of the commands of a list has its like.
     pub commands_alike : (cs : List CmdSpec) → ((c : CmdSpec) → Has cs c → CommandIsStraight lines c) → (h g : Head) (k n : ℕ) → IsExpandedHead lines others h g
         → (rows : List Row) → AreJoined (CommandRows lines i j users hosts) k (filled h cs) rows → HaveLikes rows n (filled g (flat_map (expanded_command lines) cs))

@@ -1,7 +1,7 @@
 -- Each line of the rules of a policy can be written.
 use Rattle.laws_print.proofs.Kept.{all_of}
 use Rattle.laws_program.proofs.Common.{◌≡◌, ℕ, false, List, [], ◌∷◌, ◌++◌, map, refl, AllByRecursion, flat_map, Kind, Def, Node, has_byte, join, Nul, Line}
-use Rattle.laws_program.proofs.Common.{texts, SaysSo, IsPolicy, IsWritableDef, IsWritable, IsReadable, specs_in, one_def, defs_in, rules_of, lines_of}
+use Rattle.laws_program.proofs.Common.{texts, SaysSo, IsSound, IsWritableDef, IsWritable, IsReadable, specs_in, one_def, defs_in, rules_of, lines_of}
 use Rattle.sudoers_line.specs.Node as node
 use Rattle.sudoers_line.specs.Line.{ReadsLine}
 use Rattle.sudoers_cvt.specs.Rules.{defaults_in}
@@ -40,12 +40,9 @@ from_each : (from : Node → List Node) → ((n : Node) → IsReadable n → All
 from_each from each [] all = tt
 from_each from each (line ∷ lines) all = all_append IsWritable (from line.node) (flat_map (λ (l : Line). from l.node) lines) (each line.node all.0) (from_each from each lines all.1)
 
-no_nul : (lines : List Line) → IsPolicy lines → NoNul (join (texts lines))
-no_nul lines is at e = is.cut.sound (Nul at) at (refl, e)
-
 -- What the lines of a policy say was read.
-pub readable_lines : GivenLaw → (lines : List Line) → IsPolicy lines → AllByRecursion (λ (line : Line). IsReadable line.node) lines
-readable_lines law lines is = each_readable law lines (each_clean (texts lines) (clean_of (join (texts lines)) (no_nul lines is))) is.walk.says
+pub readable_lines : GivenLaw → (lines : List Line) → IsSound lines → AllByRecursion (λ (line : Line). IsReadable line.node) lines
+readable_lines law lines is = each_readable law lines (each_clean (texts lines) is.clean) is.walk.says
 
 -- Each line of the rules of such lines can be written.
 pub rules_of_readable : (lines : List Line) → AllByRecursion (λ (line : Line). IsReadable line.node) lines → AllByRecursion IsWritable (lines_of (rules_of lines))
@@ -55,5 +52,5 @@ rules_of_readable lines all =
     (all_append IsWritable r.defaults r.defs (from_each defaults_in defaults_written lines all) (from_each defs_in defs_written lines all))
     (from_each specs_in specs_written lines all)
 
-pub rules_written : GivenLaw → (lines : List Line) → IsPolicy lines → AllByRecursion IsWritable (lines_of (rules_of lines))
+pub rules_written : GivenLaw → (lines : List Line) → IsSound lines → AllByRecursion IsWritable (lines_of (rules_of lines))
 rules_written law lines is = rules_of_readable lines (readable_lines law lines is)

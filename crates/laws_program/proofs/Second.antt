@@ -1,6 +1,6 @@
 -- The rules of what is read of printed rules are printed as these.
 use Rattle.laws_program.proofs.Common.{◌≡◌, ℕ, ◌&&◌, nat_le, true, List, [], ◌∷◌, ◌++◌, length, map, Ok, refl, sym, ap, ap₂, subst, ◌∙◌}
-use Rattle.laws_program.proofs.Common.{flat_map, list_all, map-append, text_limit, line_limit, join, Kind, Def, Node, Line, IsPolicy, read_of}
+use Rattle.laws_program.proofs.Common.{flat_map, list_all, map-append, text_limit, line_limit, join, Kind, Def, Node, Line, IsSound, read_of}
 use Rattle.laws_program.proofs.Common.{printed_line, AllSame, IsSame, specs_in, one_def, defs_in, rules_of, lines_of, printed, fits, said_by, IsReadAs}
 use Rattle.sudoers_line.specs.Node as node
 use Rattle.sudoers_cvt.specs.Rules.{defaults_in}
@@ -72,10 +72,10 @@ fits_again lines read same =
 
 -- what the law of printed rules says
 abbrev pub ReadLaw : Type 0
-ReadLaw = (lines : List Line) → IsPolicy lines → fits (rules_of lines) ≡ true → IsReadAs (printed (rules_of lines)) (lines_of (rules_of lines))
+ReadLaw = (lines : List Line) → IsSound lines → fits (rules_of lines) ≡ true → IsReadAs (printed (rules_of lines)) (lines_of (rules_of lines))
 
 -- what is read is what was printed
-pub same_read : ReadLaw → (lines read : List Line) → IsPolicy lines → fits (rules_of lines) ≡ true → read_of (printed (rules_of lines)) ≡ Ok read
+pub same_read : ReadLaw → (lines read : List Line) → IsSound lines → fits (rules_of lines) ≡ true → read_of (printed (rules_of lines)) ≡ Ok read
     → AllSame IsSame (lines_of (rules_of lines)) (said_by read)
 same_read law lines read is size e =
     let there = law lines is size in
@@ -83,11 +83,11 @@ same_read law lines read is size e =
     subst (λ (ls : List Line). AllSame IsSame (lines_of (rules_of lines)) (said_by ls)) one there.same
 
 -- A second printing gives the same text.
-pub second : ReadLaw → (lines read : List Line) → IsPolicy lines → fits (rules_of lines) ≡ true → read_of (printed (rules_of lines)) ≡ Ok read
+pub second : ReadLaw → (lines read : List Line) → IsSound lines → fits (rules_of lines) ≡ true → read_of (printed (rules_of lines)) ≡ Ok read
     → printed (rules_of read) ≡ printed (rules_of lines)
 second law lines read is size e = again lines read (same_read law lines read is size e)
 
 -- It is within the limits.
-pub second_fits : ReadLaw → (lines read : List Line) → IsPolicy lines → fits (rules_of lines) ≡ true → read_of (printed (rules_of lines)) ≡ Ok read
+pub second_fits : ReadLaw → (lines read : List Line) → IsSound lines → fits (rules_of lines) ≡ true → read_of (printed (rules_of lines)) ≡ Ok read
     → fits (rules_of read) ≡ true
 second_fits law lines read is size e = fits_again lines read (same_read law lines read is size e) ∙ size

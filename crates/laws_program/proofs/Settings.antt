@@ -1,6 +1,6 @@
 -- With its aliases replaced, a policy has the same settings of runas_default.
 use Rattle.laws_program.proofs.Common.{◌≡◌, inl, inr, ℕ, List, [], ◌∷◌, map, Option, Some, None, refl, sym, subst, flat_map, Kind, User, Runas, Host, Cmnd}
-use Rattle.laws_program.proofs.Common.{Member, Scope, Node, Line, IsPolicy, Has, HasReachableCycle, AllAlike, AreCountedAlike, AreScopesAlike, AreSettingsAlike}
+use Rattle.laws_program.proofs.Common.{Member, Scope, Node, Line, IsSound, Has, HasReachableCycle, AllAlike, AreCountedAlike, AreScopesAlike, AreSettingsAlike}
 use Rattle.laws_program.proofs.Common.{AreDefaultsAlike, settings_in, with_scope, defaults_of, IsStraight, all_alike_append, expanded_list, expanded_scope}
 use Rattle.laws_program.proofs.Common.{expanded_node, expanded}
 use Rattle.std.specs.Option.{option_map}
@@ -10,7 +10,7 @@ use Rattle.sudoers_match.specs.internal.Straight.{ScopeIsStraight}
 use Rattle.sudoers_match.proofs.Reached.{scope_straight}
 use Rattle.laws_program.proofs.Flattened.{as_it_was, ListLaws, KeepUndefined, list_alike, expanded_line}
 
-module _ (laws : ListLaws) (lines others : List Line) (policy : IsPolicy lines) (keep : KeepUndefined lines others) (straight : HasReachableCycle lines → ⊥) where
+module _ (laws : ListLaws) (lines others : List Line) (policy : IsSound lines) (keep : KeepUndefined lines others) (straight : HasReachableCycle lines → ⊥) where
   abbrev SettingsAlike : Option Scope × List ℕ → Option Scope × List ℕ → Type 0
   SettingsAlike = AreSettingsAlike as_it_was lines others
 

@@ -1,6 +1,6 @@
 -- The user specifications of a policy with its aliases replaced.
 use Rattle.laws_program.proofs.Common.{◌≡◌, inl, inr, ℕ, List, [], ◌∷◌, map, refl, sym, subst, cons_option, filter_map, User, Host, HostGroup, Member, Node}
-use Rattle.laws_program.proofs.Common.{Line, IsPolicy, Has, HasReachableCycle, flattened, AllAlike, AreGroupsAlike, AreSpecsAlike, no_head, Row, GroupRows}
+use Rattle.laws_program.proofs.Common.{Line, IsSound, Has, HasReachableCycle, flattened, AllAlike, AreGroupsAlike, AreSpecsAlike, no_head, Row, GroupRows}
 use Rattle.laws_program.proofs.Common.{SpecRows, AreRows, Spec, spec_of, spec_in, specs_of, IsStraight, all_to, joined_alike, expanded_group, expanded_node}
 use Rattle.laws_program.proofs.Common.{expanded}
 use Rattle.sudoers_line.specs.Node as node
@@ -44,7 +44,7 @@ module _ (lines : List Line) (straight : HasReachableCycle lines → ⊥) where
   all_specs : AllAlike (IsExpandedSpec lines) (specs_of lines) (specs_of (expanded lines))
   all_specs = each_spec lines (λ line h. h)
 
-  module _ (laws : ListLaws) (others : List Line) (policy : IsPolicy lines) (keep : KeepUndefined lines others) (specs_are : specs_of others ≡ specs_of (expanded lines)) where
+  module _ (laws : ListLaws) (others : List Line) (policy : IsSound lines) (keep : KeepUndefined lines others) (specs_are : specs_of others ≡ specs_of (expanded lines)) where
     these_specs : AllAlike (IsExpandedSpec lines) (specs_of lines) (specs_of others)
     these_specs = subst (AllAlike (IsExpandedSpec lines) (specs_of lines)) (sym specs_are) all_specs
 

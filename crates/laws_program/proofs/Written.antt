@@ -1,5 +1,5 @@
 -- The rules that are kept of lines can be written, and the text that is printed of them is read.
-use Rattle.laws_program.proofs.Common.{◌≡◌, true, List, [], ◌∷◌, ◌++◌, map, sym, subst, AllByRecursion, flat_map, Node, Line, Definition, definitions, IsPolicy}
+use Rattle.laws_program.proofs.Common.{◌≡◌, true, List, [], ◌∷◌, ◌++◌, map, sym, subst, AllByRecursion, flat_map, Node, Line, Definition, definitions, IsSound}
 use Rattle.laws_program.proofs.Common.{is_used, all_append, IsWritable, IsReadable, Rules, lines_of, printed, fits, IsReadAs, def_of, used_definitions}
 use Rattle.laws_program.proofs.Common.{used_rules, expanded}
 use Rattle.sudoers_line.specs.Node as node
@@ -45,15 +45,15 @@ kept_readable lines all =
     (each_from written_in specs_readable lines all))
 
 -- Each rule of a policy with its aliases replaced can be written.
-pub rules_written : GivenLaw → SignLaw → (lines : List Line) → IsPolicy lines → AllByRecursion IsWritable (lines_of (used_rules (expanded lines)))
+pub rules_written : GivenLaw → SignLaw → (lines : List Line) → IsSound lines → AllByRecursion IsWritable (lines_of (used_rules (expanded lines)))
 rules_written given sign lines policy =
     subst (λ (r : Rules). AllByRecursion IsWritable (lines_of r)) (kept_rules (expanded lines))
     (rules_of_readable (kept (expanded lines)) (kept_readable (expanded lines) (expanded_readable sign lines policy (readable_lines given lines policy))))
 
 -- The printed text of these rules is read as lines that say the same.
 pub rules_read : PrintLaw → AloneLaw → CutLaw → ReadLaw → OneLaw
-    → ((lines : List Line) → IsPolicy lines → AllByRecursion IsWritable (lines_of (used_rules (expanded lines))))
-    → (lines : List Line) → IsPolicy lines → fits (used_rules (expanded lines)) ≡ true
+    → ((lines : List Line) → IsSound lines → AllByRecursion IsWritable (lines_of (used_rules (expanded lines))))
+    → (lines : List Line) → IsSound lines → fits (used_rules (expanded lines)) ≡ true
     → IsReadAs (printed (used_rules (expanded lines))) (lines_of (used_rules (expanded lines)))
 rules_read print alone cut read one written lines policy =
     let may : MayStand (definitions lines) = record { free = policy.walk.free; once = policy.walk.once; few = policy.walk.few } in

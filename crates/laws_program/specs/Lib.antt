@@ -1,3 +1,4 @@
+pub mod Sound
 pub mod ReadAs
 pub mod Expanded
 pub mod Converted

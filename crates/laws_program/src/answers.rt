@@ -2,7 +2,7 @@
 
 ghost use Rattle.std.specs.Prelude.{◌≡◌, ◌↔◌, ℕ, true, List, Option, Ok};
 ghost use Rattle.sudoers_tree.specs.Line.{Line as LineOf};
-ghost use Rattle.sudoers_tree.specs.Policy.{IsPolicy};
+ghost use Rattle.laws_program.specs.Sound.{IsSound};
 ghost use Rattle.sudoers_tree.specs.Reading.{read_of};
 ghost use Rattle.sudoers_check.specs.Chains.{HasReachableCycle};
 ghost use Rattle.sudoers_match_member.specs.declared.asked.Who.{Who as WhoOf};
@@ -33,15 +33,15 @@ pub fn read_member_matches_same()
 /// What is read of the printed rules of a policy gives each request the answer of the policy, and no other. Each user has the same
 /// runas_default, and rules at the same places. A reachable alias is cyclic in both, or in neither.
 pub fn printed_rules_answer()
-    ensures answer { (lines read : List LineOf) → IsPolicy lines → fits (rules_of lines) ≡ true → read_of (printed (rules_of lines)) ≡ Ok read
+    ensures answer { (lines read : List LineOf) → IsSound lines → fits (rules_of lines) ≡ true → read_of (printed (rules_of lines)) ≡ Ok read
         → (request : RequestOf) (answer : Option AnswerOf) → IsAnswer lines request answer → IsAnswer read request answer }
-    ensures back { (lines read : List LineOf) → IsPolicy lines → fits (rules_of lines) ≡ true → read_of (printed (rules_of lines)) ≡ Ok read
+    ensures back { (lines read : List LineOf) → IsSound lines → fits (rules_of lines) ≡ true → read_of (printed (rules_of lines)) ≡ Ok read
         → (request : RequestOf) (answer : Option AnswerOf) → IsAnswer read request answer → IsAnswer lines request answer }
-    ensures default { (lines read : List LineOf) → IsPolicy lines → fits (rules_of lines) ≡ true → read_of (printed (rules_of lines)) ≡ Ok read
+    ensures default { (lines read : List LineOf) → IsSound lines → fits (rules_of lines) ≡ true → read_of (printed (rules_of lines)) ≡ Ok read
         → (who : WhoOf) (name : List ℕ) → IsRunasDefault lines who name ↔ IsRunasDefault read who name }
-    ensures groups { (lines read : List LineOf) → IsPolicy lines → fits (rules_of lines) ≡ true → read_of (printed (rules_of lines)) ≡ Ok read
+    ensures groups { (lines read : List LineOf) → IsSound lines → fits (rules_of lines) ≡ true → read_of (printed (rules_of lines)) ≡ Ok read
         → (who : WhoOf) (places : List GroupPlaceOf) → AreHostGroups lines who places ↔ AreHostGroups read who places }
-    ensures cycle { (lines read : List LineOf) → IsPolicy lines → fits (rules_of lines) ≡ true → read_of (printed (rules_of lines)) ≡ Ok read
+    ensures cycle { (lines read : List LineOf) → IsSound lines → fits (rules_of lines) ≡ true → read_of (printed (rules_of lines)) ≡ Ok read
         → HasReachableCycle lines ↔ HasReachableCycle read }
 {
     read_member_matches_same();

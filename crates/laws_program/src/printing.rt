@@ -3,7 +3,7 @@
 ghost use Rattle.std.specs.Prelude.{◌≡◌, true, List, Ok};
 ghost use Rattle.std.specs.List.{AllByRecursion};
 ghost use Rattle.sudoers_tree.specs.Line.{Line as LineOf};
-ghost use Rattle.sudoers_tree.specs.Policy.{IsPolicy};
+ghost use Rattle.laws_program.specs.Sound.{IsSound};
 ghost use Rattle.sudoers_tree.specs.Reading.{read_of};
 ghost use Rattle.laws_print.specs.Writable.{IsWritable};
 ghost use Rattle.sudoers_cvt.specs.Rules.{rules_of, lines_of, printed, fits};
@@ -16,7 +16,7 @@ use sudoers_tree::laws::{one_outcome, read_is};
 
 /// Each line of the rules of a policy can be written.
 pub fn rules_can_be_written()
-    ensures { (lines : List LineOf) → IsPolicy lines → AllByRecursion IsWritable (lines_of (rules_of lines)) }
+    ensures { (lines : List LineOf) → IsSound lines → AllByRecursion IsWritable (lines_of (rules_of lines)) }
 {
     read_can_be_written();
 }
@@ -24,7 +24,7 @@ pub fn rules_can_be_written()
 /// The text that is printed of the rules of a policy, if it is within the limits, is a policy. Its lines say the same as those of the
 /// rules, one by one.
 pub fn printed_rules_are_read()
-    ensures { (lines : List LineOf) → IsPolicy lines → fits (rules_of lines) ≡ true
+    ensures { (lines : List LineOf) → IsSound lines → fits (rules_of lines) ≡ true
         → IsReadAs (printed (rules_of lines)) (lines_of (rules_of lines)) }
 {
     rules_can_be_written();
@@ -37,9 +37,9 @@ pub fn printed_rules_are_read()
 
 /// What is read of the printed rules of a policy gives rules that are printed as the same text, which is within the limits again.
 pub fn second_printing_is_same()
-    ensures text { (lines read : List LineOf) → IsPolicy lines → fits (rules_of lines) ≡ true
+    ensures text { (lines read : List LineOf) → IsSound lines → fits (rules_of lines) ≡ true
         → read_of (printed (rules_of lines)) ≡ Ok read → printed (rules_of read) ≡ printed (rules_of lines) }
-    ensures size { (lines read : List LineOf) → IsPolicy lines → fits (rules_of lines) ≡ true
+    ensures size { (lines read : List LineOf) → IsSound lines → fits (rules_of lines) ≡ true
         → read_of (printed (rules_of lines)) ≡ Ok read → fits (rules_of read) ≡ true }
 {
     printed_rules_are_read();

@@ -3,7 +3,7 @@
 ghost use Rattle.std.specs.Prelude.{◌≡◌, true, List, Ok};
 ghost use Rattle.std.specs.List.{AllByRecursion};
 ghost use Rattle.sudoers_tree.specs.Line.{Line as LineOf};
-ghost use Rattle.sudoers_tree.specs.Policy.{IsPolicy};
+ghost use Rattle.laws_program.specs.Sound.{IsSound};
 ghost use Rattle.sudoers_tree.specs.Reading.{read_of};
 ghost use Rattle.laws_print.specs.Writable.{IsWritable};
 ghost use Rattle.sudoers_cvt.specs.Rules.{lines_of, rules_of, printed, fits};
@@ -19,7 +19,7 @@ use sudoers_tree::laws::{one_outcome, read_is};
 
 /// Each line of the rules of a policy can be written with its aliases replaced.
 pub fn expanded_rules_can_be_written()
-    ensures { (lines : List LineOf) → IsPolicy lines → AllByRecursion IsWritable (lines_of (used_rules (expanded lines))) }
+    ensures { (lines : List LineOf) → IsSound lines → AllByRecursion IsWritable (lines_of (used_rules (expanded lines))) }
 {
     read_can_be_written();
     writable_is_kept();
@@ -28,7 +28,7 @@ pub fn expanded_rules_can_be_written()
 /// The text that is printed of the rules of a policy with its aliases replaced, if it is within the limits, is a policy. Its lines say
 /// the same as those of the rules, one by one.
 pub fn expanded_rules_are_read()
-    ensures { (lines : List LineOf) → IsPolicy lines → fits (used_rules (expanded lines)) ≡ true
+    ensures { (lines : List LineOf) → IsSound lines → fits (used_rules (expanded lines)) ≡ true
         → IsReadAs (printed (used_rules (expanded lines))) (lines_of (used_rules (expanded lines))) }
 {
     expanded_rules_can_be_written();
@@ -42,7 +42,7 @@ pub fn expanded_rules_are_read()
 /// The text that is printed of the rules that a filter leaves, if it is within the limits, is a policy. Its lines say the same as those
 /// of the rules, one by one.
 pub fn filtered_rules_are_read()
-    ensures { (changes : ChangesOf) (lines : List LineOf) → IsPolicy lines → fits (used_rules (rewritten changes lines)) ≡ true
+    ensures { (changes : ChangesOf) (lines : List LineOf) → IsSound lines → fits (used_rules (rewritten changes lines)) ≡ true
         → IsReadAs (printed (used_rules (rewritten changes lines))) (lines_of (used_rules (rewritten changes lines))) }
 {
     read_can_be_written();
@@ -57,9 +57,9 @@ pub fn filtered_rules_are_read()
 /// What is read of the printed rules of a policy with its aliases replaced gives rules that are printed as the same text, which is within
 /// the limits again.
 pub fn second_printing_of_expansion_is_same()
-    ensures text { (lines read : List LineOf) → IsPolicy lines → fits (used_rules (expanded lines)) ≡ true
+    ensures text { (lines read : List LineOf) → IsSound lines → fits (used_rules (expanded lines)) ≡ true
         → read_of (printed (used_rules (expanded lines))) ≡ Ok read → printed (rules_of read) ≡ printed (used_rules (expanded lines)) }
-    ensures size { (lines read : List LineOf) → IsPolicy lines → fits (used_rules (expanded lines)) ≡ true
+    ensures size { (lines read : List LineOf) → IsSound lines → fits (used_rules (expanded lines)) ≡ true
         → read_of (printed (used_rules (expanded lines))) ≡ Ok read → fits (rules_of read) ≡ true }
 {
     expanded_rules_are_read();

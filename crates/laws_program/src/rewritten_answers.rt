@@ -2,7 +2,7 @@
 
 ghost use Rattle.std.specs.Prelude.{◌≡◌, ◌↔◌, ℕ, true, List, Option, Ok};
 ghost use Rattle.sudoers_tree.specs.Line.{Line as LineOf};
-ghost use Rattle.sudoers_tree.specs.Policy.{IsPolicy};
+ghost use Rattle.laws_program.specs.Sound.{IsSound};
 ghost use Rattle.sudoers_tree.specs.Reading.{read_of};
 ghost use Rattle.sudoers_check.specs.Chains.{HasReachableCycle};
 ghost use Rattle.sudoers_match_member.specs.declared.asked.Who.{Who as WhoOf};
@@ -30,13 +30,13 @@ use sudoers_match_list::laws::{
 /// With its aliases replaced, a policy none of whose reachable aliases is cyclic answers each request the same, numbers aside. Each user
 /// has the same runas_default, and rules at the same places.
 pub fn expanded_policy_answers()
-    ensures there { (lines : List LineOf) → IsPolicy lines → (HasReachableCycle lines → ⊥) → (request : RequestOf) (answer : Option AnswerOf)
+    ensures there { (lines : List LineOf) → IsSound lines → (HasReachableCycle lines → ⊥) → (request : RequestOf) (answer : Option AnswerOf)
         → IsAnswer lines request answer → (other : Option AnswerOf) × IsAnswer (expanded lines) request other × SaysSame answer other }
-    ensures back { (lines : List LineOf) → IsPolicy lines → (HasReachableCycle lines → ⊥) → (request : RequestOf) (other : Option AnswerOf)
+    ensures back { (lines : List LineOf) → IsSound lines → (HasReachableCycle lines → ⊥) → (request : RequestOf) (other : Option AnswerOf)
         → IsAnswer (expanded lines) request other → (answer : Option AnswerOf) × IsAnswer lines request answer × SaysSame answer other }
-    ensures default { (lines : List LineOf) → IsPolicy lines → (HasReachableCycle lines → ⊥) → (who : WhoOf) (name : List ℕ)
+    ensures default { (lines : List LineOf) → IsSound lines → (HasReachableCycle lines → ⊥) → (who : WhoOf) (name : List ℕ)
         → IsRunasDefault lines who name ↔ IsRunasDefault (expanded lines) who name }
-    ensures groups { (lines : List LineOf) → IsPolicy lines → (HasReachableCycle lines → ⊥) → (who : WhoOf) (places : List GroupPlaceOf)
+    ensures groups { (lines : List LineOf) → IsSound lines → (HasReachableCycle lines → ⊥) → (who : WhoOf) (places : List GroupPlaceOf)
         → AreHostGroups lines who places ↔ AreHostGroups (expanded lines) who places }
 {
     flat_or_cycle();
@@ -54,19 +54,19 @@ pub fn expanded_policy_answers()
 /// What is read of the printed rules of that policy, without unused definitions, answers each request the same, numbers aside. Each
 /// user has the same runas_default, and rules at the same places. No reachable alias is cyclic.
 pub fn printed_expansion_answers()
-    ensures there { (lines read : List LineOf) → IsPolicy lines → (HasReachableCycle lines → ⊥) → fits (used_rules (expanded lines)) ≡ true
+    ensures there { (lines read : List LineOf) → IsSound lines → (HasReachableCycle lines → ⊥) → fits (used_rules (expanded lines)) ≡ true
         → read_of (printed (used_rules (expanded lines))) ≡ Ok read → (request : RequestOf) (answer : Option AnswerOf)
         → IsAnswer lines request answer → (other : Option AnswerOf) × IsAnswer read request other × SaysSame answer other }
-    ensures back { (lines read : List LineOf) → IsPolicy lines → (HasReachableCycle lines → ⊥) → fits (used_rules (expanded lines)) ≡ true
+    ensures back { (lines read : List LineOf) → IsSound lines → (HasReachableCycle lines → ⊥) → fits (used_rules (expanded lines)) ≡ true
         → read_of (printed (used_rules (expanded lines))) ≡ Ok read → (request : RequestOf) (other : Option AnswerOf)
         → IsAnswer read request other → (answer : Option AnswerOf) × IsAnswer lines request answer × SaysSame answer other }
-    ensures default { (lines read : List LineOf) → IsPolicy lines → (HasReachableCycle lines → ⊥) → fits (used_rules (expanded lines)) ≡ true
+    ensures default { (lines read : List LineOf) → IsSound lines → (HasReachableCycle lines → ⊥) → fits (used_rules (expanded lines)) ≡ true
         → read_of (printed (used_rules (expanded lines))) ≡ Ok read → (who : WhoOf) (name : List ℕ)
         → IsRunasDefault lines who name ↔ IsRunasDefault read who name }
-    ensures groups { (lines read : List LineOf) → IsPolicy lines → (HasReachableCycle lines → ⊥) → fits (used_rules (expanded lines)) ≡ true
+    ensures groups { (lines read : List LineOf) → IsSound lines → (HasReachableCycle lines → ⊥) → fits (used_rules (expanded lines)) ≡ true
         → read_of (printed (used_rules (expanded lines))) ≡ Ok read → (who : WhoOf) (places : List GroupPlaceOf)
         → AreHostGroups lines who places ↔ AreHostGroups read who places }
-    ensures straight { (lines read : List LineOf) → IsPolicy lines → (HasReachableCycle lines → ⊥) → fits (used_rules (expanded lines)) ≡ true
+    ensures straight { (lines read : List LineOf) → IsSound lines → (HasReachableCycle lines → ⊥) → fits (used_rules (expanded lines)) ≡ true
         → read_of (printed (used_rules (expanded lines))) ≡ Ok read → HasReachableCycle read → ⊥ }
 {
     expanded_rules_are_read();

@@ -3,6 +3,7 @@
 ghost use Rattle.std.specs.Prelude.{◌≡◌, ℕ, Bool, List, Ok};
 ghost use Rattle.std.specs.Borrow.{Bor};
 ghost use Rattle.sudoers_run.specs.declared.words.ListWords.{ListWords as WordsOf};
+ghost use Rattle.sudoers_tree.specs.declared.load.NamedFile.{NamedFile as NamedFileOf};
 ghost use Rattle.sudoers_run.specs.Convert.{convert_output};
 ghost use Rattle.sudoers_run.specs.List.{IsListOutcome, Outcome};
 ghost use Rattle.laws_program.specs.Converted.{IsConverted, IsExpanded, IsFiltered, expanding_words, filtering_words, plain_words};
@@ -16,29 +17,31 @@ use crate::rewritten_answers::printed_expansion_answers;
 use sudoers_check::laws::chains_are;
 use sudoers_list::laws::{one_listing, one_reason};
 use sudoers_match::laws::{one_answer, one_runas_default};
-use sudoers_tree::laws::{one_outcome, read_is};
+use sudoers_tree::laws::{loaded_is_walk, loaded_lines_are_whole};
 
 /// What `convert -f sudoers` prints is a policy, which answers each request as the policy that was read, and no request otherwise. Each
-/// user has the same runas_default, and rules at the same places. A reachable alias is cyclic in both, or in neither. Converted again,
-/// it stays as it is.
+/// user has the same runas_default, and rules at the same places. A reachable alias is cyclic in both, or in neither. The lines of
+/// what is printed are converted to it again.
 pub fn converted_policy_answers()
-    ensures { (prune : Bool) (input out : List ℕ) → convert_output (plain_words prune) input ≡ Ok out → IsConverted prune input out }
+    ensures { (prune : Bool) (root : List ℕ) (known : List NamedFileOf) (out : List ℕ) → convert_output (plain_words prune) root known ≡ Ok out
+        → IsConverted prune root known out }
 {
-    read_is();
-    one_outcome();
+    loaded_is_walk();
+    loaded_lines_are_whole();
     printed_rules_are_read();
     printed_rules_answer();
     second_printing_is_same();
 }
 
 /// What `convert -f sudoers -e` prints is a policy, which answers each request as the policy that was read, numbers aside. Each user has
-/// the same runas_default, and rules at the same places. No reachable alias is cyclic, neither there nor in what was read. Converted
-/// again without `-e`, it stays as it is.
+/// the same runas_default, and rules at the same places. No reachable alias is cyclic, neither there nor in what was read. The lines
+/// of what is printed are converted to it again without `-e`.
 pub fn expanded_policy_is_printed()
-    ensures { (prune : Bool) (input out : List ℕ) → convert_output (expanding_words prune) input ≡ Ok out → IsExpanded input out }
+    ensures { (prune : Bool) (root : List ℕ) (known : List NamedFileOf) (out : List ℕ) → convert_output (expanding_words prune) root known ≡ Ok out
+        → IsExpanded root known out }
 {
-    read_is();
-    one_outcome();
+    loaded_is_walk();
+    loaded_lines_are_whole();
     chains_are();
     expanded_rules_are_read();
     printed_expansion_answers();
@@ -48,18 +51,19 @@ pub fn expanded_policy_is_printed()
 /// What `convert -f sudoers -m` prints, with or without `-p` and `-e`, is a policy. Its lines say what the rules say that the filter
 /// leaves. No reachable alias of what was read is cyclic.
 pub fn filtered_policy_is_printed()
-    ensures { (text : Bor (List ℕ)) (prune expand : Bool) (input out : List ℕ) → convert_output (filtering_words text prune expand) input ≡ Ok out
-        → IsFiltered text.now prune expand input out }
+    ensures { (text : Bor (List ℕ)) (prune expand : Bool) (root : List ℕ) (known : List NamedFileOf) (out : List ℕ)
+        → convert_output (filtering_words text prune expand) root known ≡ Ok out → IsFiltered text.now prune expand root known out }
 {
-    read_is();
+    loaded_is_walk();
+    loaded_lines_are_whole();
     chains_are();
     filtered_rules_are_read();
 }
 
-/// The three files, the words and the name of the policy determine what `list` writes and its status, or its fault.
+/// The files of the policy, passwd, group and the words determine what `list` writes and its status, or its fault.
 pub fn one_list_outcome()
-    ensures { (words : WordsOf) (file policy passwd group : List ℕ) (outcome other : Outcome) → IsListOutcome words file policy passwd group outcome
-        → IsListOutcome words file policy passwd group other → outcome ≡ other }
+    ensures { (words : WordsOf) (root : List ℕ) (known : List NamedFileOf) (passwd group : List ℕ) (outcome other : Outcome)
+        → IsListOutcome words root known passwd group outcome → IsListOutcome words root known passwd group other → outcome ≡ other }
 {
     one_listing();
     one_reason();

@@ -214,9 +214,9 @@ its_number k name lines p e = by (defined k name (definitions lines)) (number_of
     by (Some d) None found e = absurd found
     by (Some d) (Some i) found e = (i, refl, subst (λ x. IsAt 0 0 lines x i) (some_same d.place p e) found)
 
--- ---- lines in file order
+-- ---- lines in rising order
 
--- the lines stand in file order, each once, behind those before
+-- the lines stand in rising order, each once, behind those before
 later_lines : (n s : ℕ) (lines : List Line) (k : ℕ) (x : First) → slice_get (firsts_since n s lines) k ≡ Some x → n ≤ x.line
 later_lines n s [] k x at = absurd cc
 later_lines n s (line ∷ lines) k x at = by (count_in line.node) (later_lines (n + 1) (s + count_in line.node) lines) k at

@@ -1,32 +1,31 @@
 -- Notes line by line are those of the whole.
-use Rattle.std.proofs.Common.{◌≡◌, inl, inr, ℕ, zero, suc, ◌+◌, ◌<◌, Bool, true, false, ◌||◌, List, [], ◌∷◌, ◌++◌, length, map, take, drop, slice_index_or, refl, sym, ap, ap₂, ◌∙◌, arith, if◌then◌else◌, Option, Some, None, option_map, bytes_eq, append_assoc, append-nil}
+use Rattle.std.proofs.Common.{◌≡◌, inl, inr, ℕ, zero, suc, ◌+◌, ◌<◌, Bool, true, false, ◌||◌, List, [], ◌∷◌, ◌++◌, length, map, take, drop, slice_get, slice_index_or, refl, sym, ap, ap₂, ◌∙◌, arith, if◌then◌else◌, Option, Some, None, option_map, bytes_eq, append_assoc, append-nil}
 use Rattle.std.specs.List.{list_any}
 use Rattle.std.proofs.lemmas.List.{map-append, length-take, length-drop}
 use Rattle.std.specs.Option.{is_some as is_there}
-use Rattle.sudoers_text.specs.Line.{join}
-use Rattle.sudoers_text.specs.Fault.{lf_count}
 use Rattle.sudoers_line.specs.declared.node.Kind.{Kind}
 use Rattle.sudoers_line.specs.declared.node.Atom.{Atom}
 use Rattle.sudoers_line.specs.declared.node.Atom.TheVariants as atom
 use Rattle.sudoers_line.specs.Node.{Member, Def, Node}
 use Rattle.sudoers_line.specs.Node as node
-use Rattle.sudoers_tree.specs.Line.{Line}
+use Rattle.sudoers_line_rows.specs.declared.list.Rows.{Rows}
+use Rattle.sudoers_tree.specs.Line.{Line, line_in, lines_shown}
+use Rattle.sudoers_tree.specs.declared.line.LineRow.{LineRow}
+use Rattle.sudoers_tree.specs.declared.place.Spot.{Spot}
+use Rattle.sudoers_tree.specs.Walk.{Walked, spot_at}
 use Rattle.sudoers_tree.specs.declared.place.Place.{Place}
-use Rattle.sudoers_tree.specs.Physical.{row_behind, column_behind}
 use Rattle.sudoers_tree.specs.Definition.{Definition, is_kind, definitions_from, definitions_in, definitions_since, definitions, defined, place_of}
-use Rattle.sudoers_tree.specs.Policy.{texts}
 use Rattle.sudoers_tree.specs.Fault.{is_some}
 use Rattle.sudoers_check.specs.declared.report.Note.{Note}
 use Rattle.sudoers_check.specs.Chain.{Has}
 use Rattle.sudoers_line.specs.Listed.{Listed, listed}
 use Rattle.sudoers_check.specs.Mentioned.{Mention, mention_of, mentioned_in, mentioned_since, is_of}
 use Rattle.sudoers_check.specs.Numbers.{count_in, picked}
-use Rattle.sudoers_check.specs.Report.{note_at, note_of_mention, note_of_definition, is_first_undefined, undefined_behind, undefined_of, text_at}
-use Rattle.sudoers_check.specs.internal.Noting.{note_in, noted_defs, noted_node, noted_from, noted_mentions, undefined_from, places_from, unmarked_places, places_since, Agrees}
+use Rattle.sudoers_check.specs.Report.{note_at, note_on, note_of_mention, note_of_definition, is_first_undefined, undefined_behind, undefined_of, text_at}
+use Rattle.sudoers_check.specs.internal.Noting.{noted_defs, noted_node, noted_from, noted_mentions, undefined_from, places_from, unmarked_places, places_since, Agrees}
 use Rattle.sudoers_check.proofs.Named.{both, not_both, same_kind, has_append, flat_has}
 use Rattle.std.proofs.lemmas.Slice.Eq.{bytes_eq-Decides}
 use Rattle.sudoers_check.proofs.Located.{total, in_length}
-use Rattle.sudoers_check.proofs.Spots.{lf_append}
 
 -- ---- lists
 
@@ -79,64 +78,57 @@ known r k name lines e t = known_by r (defined k name (definitions lines)) e t
 
 -- ---- one mention more
 
-pub noted_first : (ds : List Definition) (now : List Mention) (m : Mention) (rest : List Mention) (row : ℕ) (text : List ℕ) (notes : List Note) (note : Note)
-    → is_first_undefined ds now m ≡ true → note ≡ note_in row text m.kind m.name m.span.start
-    → (notes ++ note ∷ []) ++ noted_mentions row text (undefined_behind ds (now ++ m ∷ []) rest) ≡ notes ++ noted_mentions row text (undefined_behind ds now (m ∷ rest))
-noted_first ds now m rest row text notes note first is =
-    append_assoc notes (note ∷ []) (noted_mentions row text (undefined_behind ds (now ++ m ∷ []) rest))
-    ∙ ap (λ n. notes ++ n ∷ noted_mentions row text (undefined_behind ds (now ++ m ∷ []) rest)) is
-    ∙ ap (λ b. notes ++ noted_mentions row text ((if b then m ∷ [] else []) ++ undefined_behind ds (now ++ m ∷ []) rest)) (sym first)
+pub noted_first : (ds : List Definition) (now : List Mention) (m : Mention) (rest : List Mention) (at : Spot) (text : List ℕ) (notes : List Note) (note : Note)
+    → is_first_undefined ds now m ≡ true → note ≡ note_on at text m.kind m.name m.span.start
+    → (notes ++ note ∷ []) ++ noted_mentions at text (undefined_behind ds (now ++ m ∷ []) rest) ≡ notes ++ noted_mentions at text (undefined_behind ds now (m ∷ rest))
+noted_first ds now m rest at text notes note first is =
+    append_assoc notes (note ∷ []) (noted_mentions at text (undefined_behind ds (now ++ m ∷ []) rest))
+    ∙ ap (λ n. notes ++ n ∷ noted_mentions at text (undefined_behind ds (now ++ m ∷ []) rest)) is
+    ∙ ap (λ b. notes ++ noted_mentions at text ((if b then m ∷ [] else []) ++ undefined_behind ds (now ++ m ∷ []) rest)) (sym first)
 
-pub noted_other : (ds : List Definition) (now : List Mention) (m : Mention) (rest : List Mention) (row : ℕ) (text : List ℕ) (notes : List Note)
+pub noted_other : (ds : List Definition) (now : List Mention) (m : Mention) (rest : List Mention) (at : Spot) (text : List ℕ) (notes : List Note)
     → is_first_undefined ds now m ≡ false
-    → notes ++ noted_mentions row text (undefined_behind ds (now ++ m ∷ []) rest) ≡ notes ++ noted_mentions row text (undefined_behind ds now (m ∷ rest))
-noted_other ds now m rest row text notes other =
-    ap (λ b. notes ++ noted_mentions row text ((if b then m ∷ [] else []) ++ undefined_behind ds (now ++ m ∷ []) rest)) (sym other)
+    → notes ++ noted_mentions at text (undefined_behind ds (now ++ m ∷ []) rest) ≡ notes ++ noted_mentions at text (undefined_behind ds now (m ∷ rest))
+noted_other ds now m rest at text notes other =
+    ap (λ b. notes ++ noted_mentions at text ((if b then m ∷ [] else []) ++ undefined_behind ds (now ++ m ∷ []) rest)) (sym other)
 
 -- ---- lines one after another
 
-take_front : {X : Type 0} (xs ys : List X) → take (length xs) (xs ++ ys) ≡ xs
-take_front [] ys = refl
-take_front (x ∷ xs) ys = ap (λ zs. x ∷ zs) (take_front xs ys)
-
-text_behind : (front : List Line) (line : Line) (rest : List Line) → text_at (front ++ line ∷ rest) (length front) ≡ line.text
-text_behind [] line rest = refl
-text_behind (x ∷ front) line rest = text_behind front line rest
-
-join_append : (xs ys : List (List ℕ)) → join (xs ++ ys) ≡ join xs ++ join ys
-join_append [] ys = refl
-join_append (x ∷ xs) ys = ap (λ zs. x ++ zs) (join_append xs ys) ∙ sym (append_assoc x (join xs) (join ys))
-
-texts_append : (xs ys : List Line) → texts (xs ++ ys) ≡ texts xs ++ texts ys
-texts_append [] ys = refl
-texts_append (x ∷ xs) ys = ap (λ zs. x.text ∷ zs) (texts_append xs ys)
-
--- the physical line behind one line more
-row_more : (front : List Line) (line : Line) → row_behind (join (texts (front ++ line ∷ []))) ≡ row_behind (join (texts front)) + lf_count line.text
-row_more front line =
-    let whole : lf_count (join (texts (front ++ line ∷ []))) ≡ lf_count (join (texts front)) + lf_count line.text =
-    ap (λ ts. lf_count (join ts)) (texts_append front (line ∷ [])) ∙ ap lf_count (join_append (texts front) (line.text ∷ []))
-    ∙ ap (λ t. lf_count (join (texts front) ++ t)) (append-nil line.text) ∙ lf_append (join (texts front)) line.text in
-    omega (arith, whole)
-
--- a note in a line behind others
-note_behind : (front : List Line) (line : Line) (rest : List Line) (k : Kind) (name : List ℕ) (start : ℕ)
-    → note_in (row_behind (join (texts front))) line.text k name start ≡ note_at (front ++ line ∷ rest) k name (length front) start
-note_behind front line rest k name start =
-    let here : text_at (front ++ line ∷ rest) (length front) ≡ line.text = text_behind front line rest in
-    let row : row_behind (join (texts front)) + lf_count (take start line.text) ≡ row_behind (join (texts (take (length front) (front ++ line ∷ rest))) ++ take start (text_at (front ++ line ∷ rest) (length front))) =
-    sums front start line.text ∙ ap (λ t. row_behind (join (texts front) ++ take start t)) (sym here)
-    ∙ ap (λ ls. row_behind (join (texts ls) ++ take start (text_at (front ++ line ∷ rest) (length front)))) (sym (take_front front (line ∷ rest))) in
-    ap₂ (λ r c. record { kind = k; name = name; line = r; col = c }) row (ap (λ t. column_behind (take start t)) (sym here))
+-- the row with this number holds the line with this number
+pub row_stands : (lines : List Line) (held : Rows LineRow) (i : ℕ) (none : LineRow) (line : Line) → lines_shown held ≡ lines → i < length held.rows.now
+    → line ≡ line_in held.tables.now (slice_index_or held.rows.now i none) → slice_get lines i ≡ Some line
+row_stands lines held i none line same within shown = ap (λ ls. slice_get ls i) (sym same) ∙ stands held.rows.now i within ∙ ap (λ l. Some l) (sym shown)
   where
-    sums : (ls : List Line) (n : ℕ) (t : List ℕ) → row_behind (join (texts ls)) + lf_count (take n t) ≡ row_behind (join (texts ls) ++ take n t)
-    sums ls n t = let e = lf_append (join (texts ls)) (take n t) in omega (arith, e)
+    stands : (rows : List LineRow) (i : ℕ) → i < length rows → slice_get (map (line_in held.tables.now) rows) i ≡ Some (line_in held.tables.now (slice_index_or rows i none))
+    stands [] i l = absurd (omega arith)
+    stands (r ∷ rows) zero l = refl
+    stands (r ∷ rows) (suc i) l = stands rows i (omega (arith, l))
+
+text_behind : (walk : Walked) (front : List Line) (line : Line) (rest : List Line) → front ++ line ∷ rest ≡ walk.lines → text_at walk.lines (length front) ≡ line.text
+text_behind walk front line rest e = ap (λ ls. text_at ls (length front)) (sym e) ∙ by front
+  where
+    by : (front : List Line) → text_at (front ++ line ∷ rest) (length front) ≡ line.text
+    by [] = refl
+    by (x ∷ front) = by front
+
+-- the lines behind one more
+more_behind : (walk : Walked) (front : List Line) (line : Line) (rest : List Line) → front ++ line ∷ rest ≡ walk.lines → (front ++ line ∷ []) ++ rest ≡ walk.lines
+more_behind walk front line rest e = append_assoc front (line ∷ []) rest ∙ e
+
+length_push : (front : List Line) (line : Line) → length (front ++ line ∷ []) ≡ length front + 1
+length_push [] line = refl
+length_push (x ∷ front) line = omega (arith, length_push front line)
+
+-- a note in the line with this number
+note_there : (walk : Walked) (n : ℕ) (text : List ℕ) (k : Kind) (name : List ℕ) (start : ℕ) → text_at walk.lines n ≡ text
+    → note_on (spot_at walk n) text k name start ≡ note_at walk k name n start
+note_there walk n text k name start e = ap (λ t. note_on (spot_at walk n) t k name start) (sym e)
 
 -- ---- definitions with a mark
 
-pub noted_none : (wanted : Bool) (row : ℕ) (text : List ℕ) (k : Kind) (marks : List Bool) → noted_defs wanted row text k marks [] ≡ []
-noted_none wanted row text k [] = refl
-noted_none wanted row text k (m ∷ ms) = refl
+pub noted_none : (wanted : Bool) (at : Spot) (text : List ℕ) (k : Kind) (marks : List Bool) → noted_defs wanted at text k marks [] ≡ []
+noted_none wanted at text k [] = refl
+noted_none wanted at text k (m ∷ ms) = refl
 
 picked_none : (wanted : Bool) (marks : List Bool) → picked wanted marks [] ≡ []
 picked_none wanted [] = refl
@@ -154,51 +146,45 @@ picked_append true (false ∷ ms) (x ∷ xs) ys = picked_append true ms xs ys
 picked_append false (true ∷ ms) (x ∷ xs) ys = picked_append false ms xs ys
 picked_append false (false ∷ ms) (x ∷ xs) ys = ap (λ zs. x ∷ zs) (picked_append false ms xs ys)
 
-defs_behind : (wanted : Bool) (front : List Line) (line : Line) (rest : List Line) (k : Kind) (n : ℕ) (marks : List Bool) (defs : List Def)
-    → noted_defs wanted (row_behind (join (texts front))) line.text k marks defs
-    ≡ map (note_of_definition (front ++ line ∷ rest)) (picked wanted marks (definitions_from k (length front) n defs))
-defs_behind wanted front line rest k n [] defs = refl
-defs_behind wanted front line rest k n (m ∷ ms) [] = refl
-defs_behind true front line rest k n (true ∷ ms) (d ∷ defs) = ap₂ (λ x xs. x ∷ xs) (note_behind front line rest k d.name d.start) (defs_behind true front line rest k (n + 1) ms defs)
-defs_behind true front line rest k n (false ∷ ms) (d ∷ defs) = defs_behind true front line rest k (n + 1) ms defs
-defs_behind false front line rest k n (true ∷ ms) (d ∷ defs) = defs_behind false front line rest k (n + 1) ms defs
-defs_behind false front line rest k n (false ∷ ms) (d ∷ defs) = ap₂ (λ x xs. x ∷ xs) (note_behind front line rest k d.name d.start) (defs_behind false front line rest k (n + 1) ms defs)
+defs_there : (wanted : Bool) (walk : Walked) (line : ℕ) (text : List ℕ) (k : Kind) (n : ℕ) (marks : List Bool) (defs : List Def) → text_at walk.lines line ≡ text
+    → noted_defs wanted (spot_at walk line) text k marks defs ≡ map (note_of_definition walk) (picked wanted marks (definitions_from k line n defs))
+defs_there wanted walk line text k n [] defs e = refl
+defs_there wanted walk line text k n (m ∷ ms) [] e = refl
+defs_there true walk line text k n (true ∷ ms) (d ∷ defs) e = ap₂ (λ x xs. x ∷ xs) (note_there walk line text k d.name d.start e) (defs_there true walk line text k (n + 1) ms defs e)
+defs_there true walk line text k n (false ∷ ms) (d ∷ defs) e = defs_there true walk line text k (n + 1) ms defs e
+defs_there false walk line text k n (true ∷ ms) (d ∷ defs) e = defs_there false walk line text k (n + 1) ms defs e
+defs_there false walk line text k n (false ∷ ms) (d ∷ defs) e = ap₂ (λ x xs. x ∷ xs) (note_there walk line text k d.name d.start e) (defs_there false walk line text k (n + 1) ms defs e)
 
-node_behind : (wanted : Bool) (front : List Line) (line : Line) (rest : List Line) (marks : List Bool) (says : Node)
-    → noted_node wanted (row_behind (join (texts front))) line.text marks says
-    ≡ map (note_of_definition (front ++ line ∷ rest)) (picked wanted marks (definitions_in (length front) says))
-node_behind wanted front line rest marks (node.Alias k defs) = defs_behind wanted front line rest k 0 marks defs
-node_behind wanted front line rest marks node.Blank = ap (map (note_of_definition (front ++ line ∷ rest))) (sym (picked_none wanted marks))
-node_behind wanted front line rest marks node.Comment = ap (map (note_of_definition (front ++ line ∷ rest))) (sym (picked_none wanted marks))
-node_behind wanted front line rest marks (node.Include dir path) = ap (map (note_of_definition (front ++ line ∷ rest))) (sym (picked_none wanted marks))
-node_behind wanted front line rest marks (node.Defaults scope params) = ap (map (note_of_definition (front ++ line ∷ rest))) (sym (picked_none wanted marks))
-node_behind wanted front line rest marks (node.Spec users groups) = ap (map (note_of_definition (front ++ line ∷ rest))) (sym (picked_none wanted marks))
+node_there : (wanted : Bool) (walk : Walked) (line : ℕ) (text : List ℕ) (marks : List Bool) (says : Node) → text_at walk.lines line ≡ text
+    → noted_node wanted (spot_at walk line) text marks says ≡ map (note_of_definition walk) (picked wanted marks (definitions_in line says))
+node_there wanted walk line text marks (node.Alias k defs) e = defs_there wanted walk line text k 0 marks defs e
+node_there wanted walk line text marks node.Blank e = ap (map (note_of_definition walk)) (sym (picked_none wanted marks))
+node_there wanted walk line text marks node.Comment e = ap (map (note_of_definition walk)) (sym (picked_none wanted marks))
+node_there wanted walk line text marks (node.Include dir path) e = ap (map (note_of_definition walk)) (sym (picked_none wanted marks))
+node_there wanted walk line text marks (node.Defaults scope params) e = ap (map (note_of_definition walk)) (sym (picked_none wanted marks))
+node_there wanted walk line text marks (node.Spec users groups) e = ap (map (note_of_definition walk)) (sym (picked_none wanted marks))
 
-length_push : (front : List Line) (line : Line) → length (front ++ line ∷ []) ≡ length front + 1
-length_push [] line = refl
-length_push (x ∷ front) line = omega (arith, length_push front line)
-
-lines_behind : (wanted : Bool) (front rest : List Line) (marks : List Bool)
-    → noted_from wanted (row_behind (join (texts front))) marks rest ≡ map (note_of_definition (front ++ rest)) (picked wanted marks (definitions_since (length front) rest))
-lines_behind wanted front [] marks = ap (map (note_of_definition (front ++ []))) (sym (picked_none wanted marks))
-lines_behind wanted front (line ∷ rest) marks =
-    let count : length (definitions_in (length front) line.node) ≡ count_in line.node = in_length (length front) line.node in
-    let whole : (front ++ line ∷ []) ++ rest ≡ front ++ line ∷ rest = append_assoc front (line ∷ []) rest in
-    let N = note_of_definition (front ++ line ∷ rest) in
-    let first = node_behind wanted front line rest (take (count_in line.node) marks) line.node in
-    let more : noted_from wanted (row_behind (join (texts front)) + lf_count line.text) (drop (count_in line.node) marks) rest
-    ≡ map N (picked wanted (drop (count_in line.node) marks) (definitions_since (length front + 1) rest)) =
-    ap (λ r. noted_from wanted r (drop (count_in line.node) marks) rest) (sym (row_more front line))
-    ∙ lines_behind wanted (front ++ line ∷ []) rest (drop (count_in line.node) marks)
-    ∙ ap (λ ls. map (note_of_definition ls) (picked wanted (drop (count_in line.node) marks) (definitions_since (length (front ++ line ∷ [])) rest))) whole
-    ∙ ap (λ n. map N (picked wanted (drop (count_in line.node) marks) (definitions_since n rest))) (length_push front line) in
+lines_behind : (wanted : Bool) (walk : Walked) (front rest : List Line) (marks : List Bool) → front ++ rest ≡ walk.lines
+    → noted_from wanted walk (length front) marks rest ≡ map (note_of_definition walk) (picked wanted marks (definitions_since (length front) rest))
+lines_behind wanted walk front [] marks e = ap (map (note_of_definition walk)) (sym (picked_none wanted marks))
+lines_behind wanted walk front (line ∷ rest) marks e =
+    let n : ℕ = length front in
+    let count : length (definitions_in n line.node) ≡ count_in line.node = in_length n line.node in
+    let N = note_of_definition walk in
+    let behind : List Bool = drop (count_in line.node) marks in
+    let first = node_there wanted walk n line.text (take (count_in line.node) marks) line.node (text_behind walk front line rest e) in
+    let more : noted_from wanted walk (n + 1) behind rest ≡ map N (picked wanted behind (definitions_since (n + 1) rest)) =
+    ap (λ i. noted_from wanted walk i behind rest) (sym (length_push front line))
+    ∙ lines_behind wanted walk (front ++ line ∷ []) rest behind (more_behind walk front line rest e)
+    ∙ ap (λ i. map N (picked wanted behind (definitions_since i rest))) (length_push front line) in
     ap₂ (λ xs ys. xs ++ ys) first more
-    ∙ sym (map-append N (picked wanted (take (count_in line.node) marks) (definitions_in (length front) line.node)) (picked wanted (drop (count_in line.node) marks) (definitions_since (length front + 1) rest)))
-    ∙ ap (λ n. map N (picked wanted (take n marks) (definitions_in (length front) line.node) ++ picked wanted (drop n marks) (definitions_since (length front + 1) rest))) (sym count)
-    ∙ ap (map N) (sym (picked_append wanted marks (definitions_in (length front) line.node) (definitions_since (length front + 1) rest)))
+    ∙ sym (map-append N (picked wanted (take (count_in line.node) marks) (definitions_in n line.node)) (picked wanted behind (definitions_since (n + 1) rest)))
+    ∙ ap (λ i. map N (picked wanted (take i marks) (definitions_in n line.node) ++ picked wanted (drop i marks) (definitions_since (n + 1) rest))) (sym count)
+    ∙ ap (map N) (sym (picked_append wanted marks (definitions_in n line.node) (definitions_since (n + 1) rest)))
 
-pub noted_all : (wanted : Bool) (marks : List Bool) (lines : List Line) → noted_from wanted 1 marks lines ≡ map (note_of_definition lines) (picked wanted marks (definitions lines))
-noted_all wanted marks lines = lines_behind wanted [] lines marks
+pub noted_all : (wanted : Bool) (marks : List Bool) (walk : Walked)
+    → noted_from wanted walk 0 marks walk.lines ≡ map (note_of_definition walk) (picked wanted marks (definitions walk.lines))
+noted_all wanted marks walk = lines_behind wanted walk [] walk.lines marks refl
 
 -- ---- undefined names
 
@@ -209,14 +195,14 @@ undefined_append ds before (x ∷ xs) ys =
     (undefined_append ds (before ++ x ∷ []) xs ys ∙ ap (λ b. undefined_behind ds (before ++ x ∷ []) xs ++ undefined_behind ds b ys) (append_assoc before (x ∷ []) xs))
     ∙ sym (append_assoc (if is_first_undefined ds before x then x ∷ [] else []) (undefined_behind ds (before ++ x ∷ []) xs) (undefined_behind ds (before ++ x ∷ xs) ys))
 
--- notes of undefined names in a line behind others
-mentions_noted : (front : List Line) (line : Line) (rest : List Line) (ms : List Mention) → ((m : Mention) → Has ms m → m.span.line ≡ length front)
-    → noted_mentions (row_behind (join (texts front))) line.text ms ≡ map (note_of_mention (front ++ line ∷ rest)) ms
-mentions_noted front line rest [] on = refl
-mentions_noted front line rest (m ∷ ms) on =
+-- notes of undefined names in the line with this number
+mentions_noted : (walk : Walked) (n : ℕ) (text : List ℕ) (ms : List Mention) → text_at walk.lines n ≡ text → ((m : Mention) → Has ms m → m.span.line ≡ n)
+    → noted_mentions (spot_at walk n) text ms ≡ map (note_of_mention walk) ms
+mentions_noted walk n text [] e on = refl
+mentions_noted walk n text (m ∷ ms) e on =
     ap₂ (λ x xs. x ∷ xs)
-    (note_behind front line rest m.kind m.name m.span.start ∙ ap (λ n. note_at (front ++ line ∷ rest) m.kind m.name n m.span.start) (sym (on m (inl refl))))
-    (mentions_noted front line rest ms (λ x h. on x (inr h)))
+    (note_there walk n text m.kind m.name m.span.start e ∙ ap (λ i. note_at walk m.kind m.name i m.span.start) (sym (on m (inl refl))))
+    (mentions_noted walk n text ms e (λ x h. on x (inr h)))
 
 -- each mention of a line stands in it
 mention_on : (n : ℕ) (k : Kind) (m : Member) (a : Atom) (x : Mention) → Has (mention_of n k m a) x → x.span.line ≡ n
@@ -254,25 +240,26 @@ among_them ds before (m ∷ ms) x h = elim (has_append (if is_first_undefined ds
     by true (inr h) = absurd h
     by false h = absurd h
 
-undefined_lines : (ds : List Definition) (front rest : List Line) (before : List Mention)
-    → undefined_from ds (row_behind (join (texts front))) before (length front) rest
-    ≡ map (note_of_mention (front ++ rest)) (undefined_behind ds before (mentioned_since (length front) rest))
-undefined_lines ds front [] before = refl
-undefined_lines ds front (line ∷ rest) before =
+undefined_lines : (ds : List Definition) (walk : Walked) (front rest : List Line) (before : List Mention) → front ++ rest ≡ walk.lines
+    → undefined_from ds walk before (length front) rest ≡ map (note_of_mention walk) (undefined_behind ds before (mentioned_since (length front) rest))
+undefined_lines ds walk front [] before e = refl
+undefined_lines ds walk front (line ∷ rest) before e =
     let n : ℕ = length front in
     let here : List Mention = mentioned_in n line.node in
-    let N = note_of_mention (front ++ line ∷ rest) in
-    let first = mentions_noted front line rest (undefined_behind ds before here) (λ x h. all_on n line.node x (among_them ds before here x h)) in
-    let more : undefined_from ds (row_behind (join (texts front)) + lf_count line.text) (before ++ here) (n + 1) rest ≡ map N (undefined_behind ds (before ++ here) (mentioned_since (n + 1) rest)) =
-    ap₂ (λ r k. undefined_from ds r (before ++ here) k rest) (sym (row_more front line)) (sym (length_push front line))
-    ∙ undefined_lines ds (front ++ line ∷ []) rest (before ++ here)
-    ∙ ap₂ (λ ls k. map (note_of_mention ls) (undefined_behind ds (before ++ here) (mentioned_since k rest))) (append_assoc front (line ∷ []) rest) (length_push front line) in
+    let N = note_of_mention walk in
+    let first = mentions_noted walk n line.text (undefined_behind ds before here) (text_behind walk front line rest e)
+    (λ x h. all_on n line.node x (among_them ds before here x h)) in
+    let more : undefined_from ds walk (before ++ here) (n + 1) rest ≡ map N (undefined_behind ds (before ++ here) (mentioned_since (n + 1) rest)) =
+    ap (λ i. undefined_from ds walk (before ++ here) i rest) (sym (length_push front line))
+    ∙ undefined_lines ds walk (front ++ line ∷ []) rest (before ++ here) (more_behind walk front line rest e)
+    ∙ ap (λ i. map N (undefined_behind ds (before ++ here) (mentioned_since i rest))) (length_push front line) in
     ap₂ (λ xs ys. xs ++ ys) first more
     ∙ sym (map-append N (undefined_behind ds before here) (undefined_behind ds (before ++ here) (mentioned_since (n + 1) rest)))
     ∙ ap (map N) (sym (undefined_append ds before here (mentioned_since (n + 1) rest)))
 
-pub undefined_all : (lines : List Line) → undefined_from (definitions lines) 1 [] 0 lines ≡ map (note_of_mention lines) (undefined_of lines)
-undefined_all lines = undefined_lines (definitions lines) [] lines []
+pub undefined_all : (walk : Walked)
+    → undefined_from (definitions walk.lines) walk [] 0 walk.lines ≡ map (note_of_mention walk) (undefined_of walk.lines)
+undefined_all walk = undefined_lines (definitions walk.lines) walk [] walk.lines [] refl
 
 -- ---- places of definitions without a mark
 

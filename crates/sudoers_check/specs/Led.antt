@@ -36,7 +36,7 @@ is_used lines d = not (is_unused lines d)
 abbrev pub is_cyclic : List Line → Definition → Bool
 is_cyclic lines d = is_led_to (names_in d.def.members) (definitions lines) d
 
--- the unused ones and the cyclic ones of the definitions, in file order
+-- the unused ones and the cyclic ones of the definitions, in the order of the lines
 abbrev pub unused_of : List Line → List Definition
 unused_of lines = filter (is_unused lines) (definitions lines)
 

@@ -1,4 +1,4 @@
--- What the lists of a policy mention, in file order.
+-- What the lists of lines mention, in the order of the lines.
 use Rattle.std.specs.Prelude.{ℕ, ◌+◌, ◌-◌, ◌&&◌, Bool, List, [], ◌∷◌, ◌++◌, length}
 use Rattle.std.specs.List.{flat_map}
 use Rattle.std.specs.Str.{bytes_eq}
@@ -40,7 +40,7 @@ abbrev pub mentioned_since : ℕ → List Line → List Mention
 mentioned_since n [] = []
 mentioned_since n (line ∷ lines) = mentioned_in n line.node ++ mentioned_since (n + 1) lines
 
--- all mentions, in file order
+-- all mentions, in the order of the lines
 abbrev pub mentioned : List Line → List Mention
 mentioned lines = mentioned_since 0 lines
 

@@ -1,11 +1,15 @@
 -- What is noted of a policy, and the text of it.
-use Rattle.std.specs.Prelude.{ℕ, ◌&&◌, Bool, true, false, not, if◌then◌else◌, List, [], ◌∷◌, ◌++◌, codes, map, take, slice_index_or}
+use Rattle.std.specs.Prelude.{ℕ, ◌+◌, ◌&&◌, Bool, true, false, not, if◌then◌else◌, List, [], ◌∷◌, ◌++◌, codes, map, take, slice_index_or}
 use Rattle.std.specs.List.{flat_map, list_any}
 use Rattle.std.specs.Fmt.{decimal}
-use Rattle.sudoers_text.specs.Line.{join}
+use Rattle.sudoers_text.specs.Fault.{lf_count}
 use Rattle.sudoers_line.specs.declared.node.Kind.{Kind}
 use Rattle.sudoers_tree.specs.Line.{Line}
-use Rattle.sudoers_tree.specs.Physical.{row_behind, column_behind}
+use Rattle.sudoers_tree.specs.Physical.{column_behind}
+use Rattle.sudoers_tree.specs.declared.place.Spot.{Spot}
+use Rattle.sudoers_tree.specs.Files.{name_of}
+use Rattle.sudoers_tree.specs.Walk.{Walked, spot_at}
+use Rattle.sudoers_tree.specs.Load.{Loaded}
 use Rattle.sudoers_tree.specs.Definition.{Definition, definitions, defined}
 use Rattle.sudoers_line.specs.Kind.{kind_name}
 use Rattle.sudoers_tree.specs.Policy.{texts}
@@ -36,40 +40,45 @@ undefined_of lines = undefined_behind (definitions lines) [] (mentioned lines)
 abbrev pub text_at : List Line → ℕ → List ℕ
 text_at lines line = slice_index_or (texts lines) line []
 
--- a note of a name that begins at this byte of this line: its physical line and its column, both from 1
-abbrev pub note_at : List Line → Kind → List ℕ → ℕ → ℕ → Note
-note_at lines k name line start = record {
+-- a note of a name that begins at this byte of a line that stands here: its file, its physical line there and its column, both from 1
+abbrev pub note_on : Spot → List ℕ → Kind → List ℕ → ℕ → Note
+note_on at text k name start = record {
   kind = k;
   name = name;
-  line = row_behind (join (texts (take line lines)) ++ take start (text_at lines line));
-  col = column_behind (take start (text_at lines line));
+  file = at.file;
+  line = at.row + lf_count (take start text);
+  col = column_behind (take start text);
 }
 
-abbrev pub note_of_mention : List Line → Mention → Note
-note_of_mention lines m = note_at lines m.kind m.name m.span.line m.span.start
+-- a note of a name that begins at this byte of the line with this number of the walk
+abbrev pub note_at : Walked → Kind → List ℕ → ℕ → ℕ → Note
+note_at walk k name line start = note_on (spot_at walk line) (text_at walk.lines line) k name start
 
-abbrev pub note_of_definition : List Line → Definition → Note
-note_of_definition lines d = note_at lines d.kind d.def.name d.place.line d.def.start
+abbrev pub note_of_mention : Walked → Mention → Note
+note_of_mention walk m = note_at walk m.kind m.name m.span.line m.span.start
+
+abbrev pub note_of_definition : Walked → Definition → Note
+note_of_definition walk d = note_at walk d.kind d.def.name d.place.line d.def.start
 
 -- undefined names at their first mention and in the order of these, the others at and in order of their definitions
-abbrev pub report_of : List Line → Report
-report_of lines = record {
-  undefined = map (note_of_mention lines) (undefined_of lines);
-  cyclic = map (note_of_definition lines) (cyclic_of lines);
-  unused = map (note_of_definition lines) (unused_of lines);
+abbrev pub report_of : Walked → Report
+report_of walk = record {
+  undefined = map (note_of_mention walk) (undefined_of walk.lines);
+  cyclic = map (note_of_definition walk) (cyclic_of walk.lines);
+  unused = map (note_of_definition walk) (unused_of walk.lines);
 }
 
 -- ---- the text of a report
 
-abbrev pub place_text : List ℕ → Note → List ℕ
-place_text file n = file ++ codes ":" ++ decimal n.line ++ codes ":" ++ decimal n.col ++ codes ": "
+abbrev pub place_text : Loaded → Note → List ℕ
+place_text policy n = name_of policy.files n.file ++ codes ":" ++ decimal n.line ++ codes ":" ++ decimal n.col ++ codes ": "
 
 abbrev pub name_text : List ℕ → Note → List ℕ
 name_text word n = word ++ codes " " ++ kind_name n.kind ++ codes " " ++ n.name ++ codes "\n"
 
--- FILE:LINE:COL: WORD KIND NAME
-abbrev pub note_text : List ℕ → List ℕ → Note → List ℕ
-note_text file word n = place_text file n ++ name_text word n
+-- FILE:LINE:COL: WORD KIND NAME, where FILE is the name of the file of the note
+abbrev pub note_text : Loaded → List ℕ → Note → List ℕ
+note_text policy word n = place_text policy n ++ name_text word n
 
 abbrev pub is_empty : List Note → Bool
 is_empty [] = true
@@ -84,7 +93,8 @@ abbrev pub verdict : Bool → List ℕ
 verdict true = codes ": parsed OK\n"
 verdict false = codes ": faults found\n"
 
-abbrev pub report_text : List ℕ → Bool → Report → List ℕ
-report_text file strict report =
-    flat_map (note_text file (codes "undefined")) report.undefined ++ flat_map (note_text file (codes "cyclic")) report.cyclic
-    ++ flat_map (note_text file (codes "unused")) report.unused ++ file ++ verdict (is_fine strict report)
+-- a line for each note, and a last one, which names the first file
+abbrev pub report_text : Loaded → Bool → Report → List ℕ
+report_text policy strict report =
+    flat_map (note_text policy (codes "undefined")) report.undefined ++ flat_map (note_text policy (codes "cyclic")) report.cyclic
+    ++ flat_map (note_text policy (codes "unused")) report.unused ++ name_of policy.files 0 ++ verdict (is_fine strict report)

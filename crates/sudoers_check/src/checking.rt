@@ -22,9 +22,9 @@ use sudoers_tree::{Kind, LineRow, Node, Place, Policy, Rows, Walk};
 ///
 /// # Errors
 ///
-/// Want of memory alone.
+/// Memory ran out.
 pub fn check(alloc: Global, policy: &Policy) -> Result<Report, AllocError>
-    ensures { IfOk result (λ report. report ≡ report_of policy.now) }
+    ensures { IfOk result (λ report. report ≡ report_of policy.now.walk) }
 {
     let numbers = Numbers::new(alloc, policy.walk())?;
     let lines = policy.lines();
@@ -38,15 +38,27 @@ pub fn check(alloc: Global, policy: &Policy) -> Result<Report, AllocError>
     })
 }
 
-/// Returns the definitions to which no user specification and no Defaults line leads, with their kinds, in file order.
+/// Returns the places of the definitions to which no user specification and no Defaults line leads, with their kinds, in the order of
+/// the walk. The line of a place is its number on the walk.
 ///
 /// # Errors
 ///
-/// Want of memory alone.
+/// Memory ran out.
 pub fn unused(alloc: Global, policy: &Policy) -> Result<Vec<(Kind, Place)>, AllocError>
-    ensures { IfOk result (λ places. places.items ≡ map (λ (d : Definition). (d.kind, d.place)) (unused_of policy.now)) }
+    ensures { IfOk result (λ places. places.items ≡ map (λ (d : Definition). (d.kind, d.place)) (unused_of policy.now.walk.lines)) }
 {
-    let numbers = Numbers::new(alloc, policy.walk())?;
+    find_unused(alloc, policy.walk())
+}
+
+/// Returns the definitions of a walk to which no user specification and no Defaults line leads, as [`unused`] does.
+///
+/// # Errors
+///
+/// Memory ran out.
+pub fn find_unused(alloc: Global, walk: Walk<'_>) -> Result<Vec<(Kind, Place)>, AllocError>
+    ensures { IfOk result (λ places. places.items ≡ map (λ (d : Definition). (d.kind, d.place)) (unused_of walk.entry)) }
+{
+    let numbers = Numbers::new(alloc, walk)?;
     let reached = mark_used(alloc, &numbers, &numbers.walk.lines())?;
     unmarked(alloc, &numbers.walk, reached.as_slice())
 }
@@ -92,7 +104,7 @@ pub fn mark_used(
 }
 
 /// Returns a mark for each definition: whether a user specification or a Defaults line among `lines` leads to it. The lines define what
-/// the policy defines.
+/// the walk of `numbers` defines.
 fn reached(
     alloc: Global,
     numbers: &Numbers<'_>,

@@ -4,13 +4,13 @@ ghost use Rattle.std.specs.Prelude.{◌≡◌, ◌≤◌, ◌+◌, ◌<◌, ◌^
 ghost use Rattle.sudoers_text.specs.Fault.{lf_count as lfs};
 ghost use Rattle.sudoers_tree.specs.Physical.{column_behind, behind_lf};
 
-use sudoers_tree::lf_count;
+use sudoers_tree::{Spot, lf_count};
 
-/// A place in a line that begins on the physical line `row`. Places are asked for in rising order; going back is slower.
+/// A place in a line that stands at `spot`. Places are asked for in rising order; going back is slower.
 #[derive(Drop)]
 pub struct Cursor<'a> {
     pub text: &'a [u8],
-    pub row: usize,
+    pub spot: Spot,
     at: usize,
     ends: usize,
     behind: usize,
@@ -18,31 +18,31 @@ pub struct Cursor<'a> {
     ghost ends_are: { ends ≡ lfs (take at text.now) },
     ghost behind_is: { behind ≡ behind_lf 0 (take at text.now) },
     ghost most: { behind ≤ at },
-    ghost small: { row + length text.now < 2 ^ 62 },
+    ghost small: { spot.row + length text.now < 2 ^ 62 },
 }
 
 impl<'a> Cursor<'a> {
-    /// The beginning of a line, whose first physical line is this.
-    pub fn new(text: &'a [u8], row: usize) -> Cursor<'a>
-        requires { row + length text.now < 2 ^ 62 }
+    /// Returns the beginning of a line that stands at `spot`.
+    pub fn new(text: &'a [u8], spot: Spot) -> Cursor<'a>
+        requires { spot.row + length text.now < 2 ^ 62 }
         ensures text { result.text.now ≡ text.now }
-        ensures row { result.row ≡ row }
+        ensures spot { result.spot ≡ spot }
     {
         Cursor {
             text,
-            row,
+            spot,
             at: 0,
             ends: 0,
             behind: 0,
         }
     }
 
-    /// The physical line and the column of a byte of the line, or of its end.
+    /// Returns the physical line and the column of a byte of the line, or of its end.
     pub fn place(&mut self, start: usize) -> (usize, usize)
-        ensures line { result.0 ≡ self.old.row + lfs (take start self.old.text.now) }
+        ensures line { result.0 ≡ self.old.spot.row + lfs (take start self.old.text.now) }
         ensures column { result.1 ≡ column_behind (take start self.old.text.now) }
         ensures text { self.new.text.now ≡ self.old.text.now }
-        ensures row { self.new.row ≡ self.old.row }
+        ensures spot { self.new.spot ≡ self.old.spot }
     {
         let start = start.min(self.text.len());
         if start < self.at {
@@ -51,7 +51,7 @@ impl<'a> Cursor<'a> {
             self.behind = 0;
         }
         self.forward(start);
-        (self.row + self.ends, self.behind + 1)
+        (self.spot.row + self.ends, self.behind + 1)
     }
 
     /// Goes on to a byte, or to the line's end.
@@ -60,7 +60,7 @@ impl<'a> Cursor<'a> {
         requires within { start ≤ length self.old.text.now }
         ensures at { self.new.at ≡ start }
         ensures text { self.new.text.now ≡ self.old.text.now }
-        ensures row { self.new.row ≡ self.old.row }
+        ensures spot { self.new.spot ≡ self.old.spot }
     {
         let between = &self.text[self.at..start];
         self.ends += lf_count(between);

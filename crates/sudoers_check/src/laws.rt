@@ -26,7 +26,7 @@ pub fn chains_are()
         → IsCyclic lines d → ⊥ }
 {}
 
-/// The mentions of all names, in file order, hold those of each name in each kind.
+/// The mentions of all names, in the order of the lines, hold those of each name in each kind.
 pub fn mentions_are()
     ensures { (lines : List LineOf) (k : KindOf) (name : List ℕ) → mentions k name lines
         ≡ map (λ (m : Mention). m.span) (filter (is_of k name) (mentioned lines)) }

@@ -13,6 +13,6 @@ mod numbers;
 mod report;
 mod seen;
 
-pub use checking::{check, mark_used, unused};
+pub use checking::{check, find_unused, mark_used, unused};
 pub use numbers::{First, Numbers};
 pub use report::{Note, Report, report_text};

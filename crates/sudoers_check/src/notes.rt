@@ -1,13 +1,14 @@
 //! Notes of names with their places.
 
-ghost use Rattle.std.specs.Prelude.{◌≡◌, ◌++◌, ◌∷◌, [], ◌+◌, ◌<◌, ◌^◌, List, ℕ, length, map, IfOk, OnOk};
-ghost use Rattle.sudoers_line.specs.declared.node.Kind.{Kind as KindOf};
+ghost use Rattle.std.specs.Prelude.{◌≡◌, ◌++◌, ◌∷◌, [], List, Some, length, map, slice_get, IfOk, OnOk};
 ghost use Rattle.sudoers_line_rows.specs.View.{defs_shown, node_shown};
 ghost use Rattle.sudoers_tree.specs.Definition.{definitions};
-ghost use Rattle.sudoers_check.specs.Report.{note_of_mention, note_of_definition, undefined_of, undefined_behind, is_first_undefined};
+ghost use Rattle.sudoers_tree.specs.Line.{line_shown};
+ghost use Rattle.sudoers_tree.specs.Walk.{spot_at};
+ghost use Rattle.sudoers_check.specs.Report.{note_on, note_of_mention, note_of_definition, undefined_of, undefined_behind, is_first_undefined};
 ghost use Rattle.sudoers_check.specs.Mentioned.{Mention as MentionOf};
-ghost use Rattle.sudoers_check.specs.Numbers.{picked, count_in as count_of};
-ghost use Rattle.sudoers_check.specs.internal.Noting.{note_in, noted_defs, noted_node, noted_from, noted_mentions, undefined_from, Agrees};
+ghost use Rattle.sudoers_check.specs.Numbers.{picked};
+ghost use Rattle.sudoers_check.specs.internal.Noting.{noted_defs, noted_node, noted_mentions, Agrees};
 
 use crate::cursor::Cursor;
 use crate::lines::count_definitions;
@@ -15,59 +16,65 @@ use crate::mentioned::{Mention, mentioned_in};
 use crate::report::Note;
 use crate::seen::Seen;
 use std::alloc::{AllocError, Global};
-use sudoers_tree::{DefRow, Items, Kind, Line, Node, Policy, Rows, lf_count};
+use sudoers_tree::{DefRow, Items, Kind, Line, Node, Policy, Rows, Walk};
 
-/// Returns the notes of the definitions with this mark; there is a mark for each definition.
+/// Returns the notes of the definitions with the mark `wanted`; there is a mark for each definition.
 ///
 /// # Errors
 ///
-/// Want of memory alone.
+/// Memory ran out.
 pub fn marked_notes(
     alloc: Global,
     policy: &Policy,
     marks: &[bool],
     wanted: bool,
 ) -> Result<Items<Note>, AllocError>
-    requires { length marks.now ≡ length (definitions policy.now) }
+    requires { length marks.now ≡ length (definitions policy.now.walk.lines) }
     ensures { IfOk result (λ notes. notes
-        ≡ map (note_of_definition policy.now) (picked wanted marks.now (definitions policy.now))) }
+        ≡ map (note_of_definition policy.now.walk) (picked wanted marks.now (definitions policy.now.walk.lines))) }
 {
-    policy.text_is_within_limit();
     let mut notes = Vec::new(alloc);
-    let mut row = 1;
     let mut rest = marks;
     let lines = policy.lines();
-    for line_row in lines.rows {
+    for (number, line_row) in lines.rows.iter().enumerate() {
         let line = Line::of(lines.tables, line_row);
         let (here, behind) = rest.split_at(count_definitions(&line.node));
-        note_line(alloc, &line, row, here, wanted, &mut notes)?;
+        let mut cursor = cursor_at(policy, number, &line);
+        note_line(alloc, &mut cursor, &line.node, here, wanted, &mut notes)?;
         rest = behind;
-        row += lf_count(line.text);
     }
     Ok(Items::from_vec(notes))
 }
 
-/// Adds the notes of those of a line's definitions that have this mark.
+/// Returns the beginning of `line`, the line with the number `number` of the walk.
+fn cursor_at<'a>(policy: &Policy, number: usize, line: &Line<'a>) -> Cursor<'a>
+    requires { slice_get policy.now.walk.lines number ≡ Some (line_shown line.now) }
+    ensures text { result.text.now ≡ line.now.text.now }
+    ensures spot { result.spot ≡ spot_at policy.now.walk number }
+{
+    policy.lines_stand();
+    Cursor::new(line.text, policy.spots()[number])
+}
+
+/// Adds the notes of those of a line's definitions that have the mark `wanted`.
 fn note_line(
     alloc: Global,
-    line: &Line<'_>,
-    row: usize,
+    cursor: &mut Cursor<'_>,
+    node: &Node<'_>,
     marks: &[bool],
     wanted: bool,
     notes: &mut Vec<Note>,
 ) -> Result<(), AllocError>
-    requires { row + length line.now.text.now < 2 ^ 62 }
-    ensures { OnOk result (notes.new.items ≡ notes.old.items ++ noted_node wanted row line.now.text.now marks.now (node_shown line.now.node)) }
+    ensures { OnOk result (notes.new.items ≡ notes.old.items
+        ++ noted_node wanted cursor.old.spot cursor.old.text.now marks.now (node_shown node.now)) }
 {
-    let mut cursor = Cursor::new(line.text, row);
-    match &line.node {
-        Node::Alias { kind, defs } => {
-            note_defs(alloc, &mut cursor, *kind, defs, marks, wanted, notes)
-        }
+    match node {
+        Node::Alias { kind, defs } => note_defs(alloc, cursor, *kind, defs, marks, wanted, notes),
         _ => Ok(()),
     }
 }
 
+/// Adds the notes of those of the definitions that have the mark `wanted`.
 fn note_defs(
     alloc: Global,
     cursor: &mut Cursor<'_>,
@@ -78,7 +85,7 @@ fn note_defs(
     notes: &mut Vec<Note>,
 ) -> Result<(), AllocError>
     ensures { OnOk result (notes.new.items ≡ notes.old.items
-        ++ noted_defs wanted cursor.old.row cursor.old.text.now kind marks.now (defs_shown defs.now)) }
+        ++ noted_defs wanted cursor.old.spot cursor.old.text.now kind marks.now (defs_shown defs.now)) }
 {
     let mut rest = marks;
     let tables = defs.tables;
@@ -99,28 +106,26 @@ fn note_defs(
 ///
 /// # Errors
 ///
-/// Want of memory alone.
+/// Memory ran out.
 pub fn undefined_notes(alloc: Global, policy: &Policy) -> Result<Items<Note>, AllocError>
-    ensures { IfOk result (λ notes. notes ≡ map (note_of_mention policy.now) (undefined_of policy.now)) }
+    ensures { IfOk result (λ notes. notes ≡ map (note_of_mention policy.now.walk) (undefined_of policy.now.walk.lines)) }
 {
-    policy.text_is_within_limit();
     let mut notes = Vec::new(alloc);
     let mut seen = Seen::new(alloc);
-    let mut row = 1;
+    let walk = policy.walk();
     let lines = policy.lines();
     for (number, line_row) in lines.rows.iter().enumerate() {
         let line = Line::of(lines.tables, line_row);
         let mentions = mentioned_in(alloc, number, &line.node)?;
-        let mut cursor = Cursor::new(line.text, row);
+        let mut cursor = cursor_at(policy, number, &line);
         note_undefined(
             alloc,
-            policy,
+            &walk,
             mentions.as_slice(),
             &mut cursor,
             &mut seen,
             &mut notes,
         )?;
-        row += lf_count(line.text);
     }
     Ok(Items::from_vec(notes))
 }
@@ -128,20 +133,20 @@ pub fn undefined_notes(alloc: Global, policy: &Policy) -> Result<Items<Note>, Al
 /// Adds the notes of the undefined names of a line that were not seen yet.
 fn note_undefined(
     alloc: Global,
-    policy: &Policy,
+    walk: &Walk<'_>,
     mentions: &[Mention<'_>],
     cursor: &mut Cursor<'_>,
     seen: &mut Seen,
     notes: &mut Vec<Note>,
 ) -> Result<(), AllocError>
-    ensures notes { OnOk result ((before : List MentionOf) → Agrees (definitions policy.now) seen.old before
-        → notes.new.items ≡ notes.old.items ++ noted_mentions cursor.old.row cursor.old.text.now
-        (undefined_behind (definitions policy.now) before mentions.now)) }
-    ensures seen { OnOk result ((before : List MentionOf) → Agrees (definitions policy.now) seen.old before
-        → Agrees (definitions policy.now) seen.new (before ++ mentions.now)) }
+    ensures notes { OnOk result ((before : List MentionOf) → Agrees (definitions walk.now) seen.old before
+        → notes.new.items ≡ notes.old.items ++ noted_mentions cursor.old.spot cursor.old.text.now
+        (undefined_behind (definitions walk.now) before mentions.now)) }
+    ensures seen { OnOk result ((before : List MentionOf) → Agrees (definitions walk.now) seen.old before
+        → Agrees (definitions walk.now) seen.new (before ++ mentions.now)) }
 {
     for mention in mentions {
-        if is_first(alloc, policy, mention, seen)? {
+        if is_first(alloc, walk, mention, seen)? {
             let start = mention.span.start;
             notes.push(note_at(alloc, cursor, mention.kind, mention.name, start)?)?;
         }
@@ -152,16 +157,16 @@ fn note_undefined(
 /// Returns whether the name is not defined, and was not seen before.
 fn is_first(
     alloc: Global,
-    policy: &Policy,
+    walk: &Walk<'_>,
     mention: &Mention<'_>,
     seen: &mut Seen,
 ) -> Result<bool, AllocError>
-    ensures is { IfOk result (λ first. (before : List MentionOf) → Agrees (definitions policy.now) seen.old before
-        → first ≡ is_first_undefined (definitions policy.now) before mention.now) }
-    ensures seen { OnOk result ((before : List MentionOf) → Agrees (definitions policy.now) seen.old before
-        → Agrees (definitions policy.now) seen.new (before ++ mention.now ∷ [])) }
+    ensures is { IfOk result (λ first. (before : List MentionOf) → Agrees (definitions walk.now) seen.old before
+        → first ≡ is_first_undefined (definitions walk.now) before mention.now) }
+    ensures seen { OnOk result ((before : List MentionOf) → Agrees (definitions walk.now) seen.old before
+        → Agrees (definitions walk.now) seen.new (before ++ mention.now ∷ [])) }
 {
-    if policy.definition(mention.kind, mention.name).is_some() {
+    if walk.definition(mention.kind, mention.name).is_some() {
         return Ok(false);
     }
     seen.add(alloc, mention.kind, mention.name)
@@ -175,15 +180,16 @@ fn note_at(
     name: &[u8],
     start: usize,
 ) -> Result<Note, AllocError>
-    ensures note { IfOk result (λ note. note ≡ note_in cursor.old.row cursor.old.text.now kind name.now start) }
+    ensures note { IfOk result (λ note. note ≡ note_on cursor.old.spot cursor.old.text.now kind name.now start) }
     ensures text { cursor.new.text.now ≡ cursor.old.text.now }
-    ensures row { cursor.new.row ≡ cursor.old.row }
+    ensures spot { cursor.new.spot ≡ cursor.old.spot }
 {
     let (line, col) = cursor.place(start);
     let name = Items::from_slice(alloc, name)?;
     Ok(Note {
         kind,
         name,
+        file: cursor.spot.file,
         line,
         col,
     })

@@ -1,4 +1,4 @@
-//! The definitions of a policy as the nodes of a graph, numbered in file order from 0.
+//! The definitions of a walk as the nodes of a graph, numbered in its order from 0.
 
 ghost use Rattle.std.specs.Prelude.{◌≡◌, ◌≢◌, ◌<◌, ◌≤◌, ◌++◌, ℕ, List, length, map, slice_index_or, None, IfOk, IfSome, OnOk};
 ghost use Rattle.sudoers_line.specs.Node.{Def as DefOf};
@@ -30,11 +30,11 @@ pub struct Links {
     pub roots: Vec<usize>,
 }
 
-/// The numbers of the definitions of a policy, in file order from 0.
+/// The numbers of the definitions of a walk, in its order from 0.
 #[derive(Drop)]
 pub struct Numbers<'a> {
     pub walk: Walk<'a>,
-    /// The lines that define aliases, in file order.
+    /// The lines that define aliases, in the order of the walk.
     firsts: Vec<First>,
     count: usize,
     ghost firsts_are: { firsts.items ≡ firsts_since 0 0 walk },
@@ -56,7 +56,7 @@ fn append_first(
     Ok(())
 }
 
-/// Returns the place of a line among lines in file order, if it is there.
+/// Returns the place of a line among lines in rising order, if it is there.
 fn find_first(firsts: &[First], line: usize) -> Option<usize>
     requires { (i j : ℕ) (d : FirstOf) → i ≤ j → j < length firsts.now → (slice_index_or firsts.now i d).line ≤ (slice_index_or firsts.now j d).line }
     ensures found { IfSome result (λ at. (at < length firsts.now) × ((d : FirstOf) → (slice_index_or firsts.now at d).line ≡ line)) }
@@ -110,7 +110,7 @@ impl<'a> Numbers<'a> {
         Some(self.firsts[at].number + place.def)
     }
 
-    /// Returns the lines that define aliases, in file order.
+    /// Returns the lines that define aliases, in the order of the walk.
     pub fn firsts(&self) -> &[First]
         ensures { result.now ≡ firsts_since 0 0 self.now.walk }
     {

@@ -8,14 +8,18 @@ ghost use Rattle.sudoers_check.specs.Report.{place_text, name_text, note_text, i
 use std::alloc::{AllocError, Global};
 use sudoers_line::kind_name;
 use sudoers_text::append_number;
-use sudoers_tree::{Items, Kind};
+use sudoers_tree::{Items, Kind, Policy};
 
-/// A name in a policy: its physical line and its column in bytes, both from 1.
+/// A name in a policy, and where it stands.
 #[derive(Debug, Drop)]
 pub struct Note {
     pub kind: Kind,
     pub name: Items<u8>,
+    /// The number of its file, from 0.
+    pub file: usize,
+    /// Its physical line in that file, from 1.
     pub line: usize,
+    /// Its column there in bytes, from 1.
     pub col: usize,
 }
 
@@ -32,7 +36,7 @@ pub struct Report {
 }
 
 impl Report {
-    /// There are no undefined names and no cyclic aliases, or they are not looked at.
+    /// Returns whether there are no undefined names and no cyclic aliases, or they are not looked at.
     pub fn is_fine(&self, strict: bool) -> bool
         ensures { result ≡ is_fine_report strict self.now }
     {
@@ -40,31 +44,29 @@ impl Report {
     }
 }
 
-/// The text of a report on the file of this name: a line for each note and one that says whether the policy is fine. With
-/// `strict`, undefined names and cyclic aliases are faults.
+/// Returns the text of `report`, a report on `policy`. Each note has a line, which begins with the name of its file. The last line
+/// begins with the name of the first file, and says whether the policy is fine. With `strict`, undefined names and cyclic aliases are
+/// faults.
 ///
 /// # Errors
 ///
-/// Want of memory alone.
+/// Memory ran out.
 pub fn report_text(
     alloc: Global,
+    policy: &Policy,
     report: &Report,
-    file: &[u8],
     strict: bool,
 ) -> Result<Vec<u8>, AllocError>
-    ensures { IfOk result (λ text. text.items ≡ text_of_report file.now strict report.now) }
+    ensures { IfOk result (λ text. text.items ≡ text_of_report policy.now strict report.now) }
 {
     let mut text = Vec::new(alloc);
-    append_notes(
-        alloc,
-        &mut text,
-        file,
-        b"undefined",
-        report.undefined.as_slice(),
-    )?;
-    append_notes(alloc, &mut text, file, b"cyclic", report.cyclic.as_slice())?;
-    append_notes(alloc, &mut text, file, b"unused", report.unused.as_slice())?;
-    text.extend_from_slice(file)?;
+    let undefined = report.undefined.as_slice();
+    append_notes(alloc, &mut text, policy, b"undefined", undefined)?;
+    let cyclic = report.cyclic.as_slice();
+    append_notes(alloc, &mut text, policy, b"cyclic", cyclic)?;
+    let unused = report.unused.as_slice();
+    append_notes(alloc, &mut text, policy, b"unused", unused)?;
+    text.extend_from_slice(policy.file_name(0))?;
     text.extend_from_slice(verdict_text(report.is_fine(strict)))?;
     Ok(text)
 }
@@ -82,29 +84,29 @@ fn verdict_text(fine: bool) -> &'static [u8]
 fn append_notes(
     alloc: Global,
     text: &mut Vec<u8>,
-    file: &[u8],
+    policy: &Policy,
     word: &[u8],
     notes: &[Note],
 ) -> Result<(), AllocError>
-    ensures { OnOk result (text.new.items ≡ text.old.items ++ flat_map (note_text file.now word.now) notes.now) }
+    ensures { OnOk result (text.new.items ≡ text.old.items ++ flat_map (note_text policy.now word.now) notes.now) }
 {
     for note in notes {
-        append_place(alloc, text, file, note)?;
+        append_place(alloc, text, policy, note)?;
         append_name(text, word, note)?;
     }
     Ok(())
 }
 
-/// The file, the line and the column.
+/// Adds the file, the line and the column.
 fn append_place(
     alloc: Global,
     text: &mut Vec<u8>,
-    file: &[u8],
+    policy: &Policy,
     note: &Note,
 ) -> Result<(), AllocError>
-    ensures { OnOk result (text.new.items ≡ text.old.items ++ place_text file.now note.now) }
+    ensures { OnOk result (text.new.items ≡ text.old.items ++ place_text policy.now note.now) }
 {
-    text.extend_from_slice(file)?;
+    text.extend_from_slice(policy.file_name(note.file))?;
     text.extend_from_slice(b":")?;
     append_number(alloc, text, note.line)?;
     text.extend_from_slice(b":")?;
@@ -112,7 +114,7 @@ fn append_place(
     text.extend_from_slice(b": ")
 }
 
-/// The word, the kind and the name.
+/// Adds the word, the kind and the name.
 fn append_name(text: &mut Vec<u8>, word: &[u8], note: &Note) -> Result<(), AllocError>
     ensures { OnOk result (text.new.items ≡ text.old.items ++ name_text word.now note.now) }
 {

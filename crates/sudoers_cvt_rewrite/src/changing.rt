@@ -71,12 +71,12 @@ impl Rewritten {
 /// `Cycle`: an alias is cyclic to which a user specification or a Defaults line leads. `TooLarge`: aliases are replaced, and the lines
 /// and the definitions that they use have more than 65,536 members then. `NoMemory`: memory ran out.
 pub fn rewrite(alloc: Global, policy: &Policy, changes: &Changes<'_>) -> Result<Rewritten, CvtFault>
-    ensures lines { IfOk result (λ new. new ≡ rewritten (changes_shown changes.now) policy.now) }
-    ensures straight { IfOk result (λ new. has_round policy.now ≡ false) }
+    ensures lines { IfOk result (λ new. new ≡ rewritten (changes_shown changes.now) policy.now.walk.lines) }
+    ensures straight { IfOk result (λ new. has_round policy.now.walk.lines ≡ false) }
     ensures fits { IfOk result (λ new. changes.now.expand ≡ true → member_count new ≤ member_limit) }
-    ensures fault { IfErr result (λ fault. (fault ≡ NoMemory) ⊎ (((fault ≡ Cycle) × (has_round policy.now ≡ true))
-        ⊎ ((fault ≡ TooLarge) × (has_round policy.now ≡ false) × (changes.now.expand ≡ true)
-        × (member_limit < member_count (rewritten (changes_shown changes.now) policy.now))))) }
+    ensures fault { IfErr result (λ fault. (fault ≡ NoMemory) ⊎ (((fault ≡ Cycle) × (has_round policy.now.walk.lines ≡ true))
+        ⊎ ((fault ≡ TooLarge) × (has_round policy.now.walk.lines ≡ false) × (changes.now.expand ≡ true)
+        × (member_limit < member_count (rewritten (changes_shown changes.now) policy.now.walk.lines))))) }
 {
     chains_are();
     match Acyclic::new(alloc, policy.walk()) {

@@ -14,7 +14,7 @@ use crate::splice_edits::{def_added, def_dropped, member_added, member_dropped};
 use std::alloc::{AllocError, Global};
 use std::marker::Model;
 use sudoers_edit_script::{Edit, Edits, Text};
-use sudoers_tree::Policy;
+use sudoers_tree::OneFile;
 use sudoers_tree::laws::read_is;
 
 /// An accepted edit, with the edits that take it back.
@@ -28,7 +28,7 @@ pub struct Entry {
 /// journal leads back to it.
 #[derive(Drop)]
 pub struct Editor {
-    policy: Policy,
+    policy: OneFile,
     journal: Vec<Entry>,
 }
 
@@ -50,7 +50,7 @@ impl Editor {
     ghost use Rattle.sudoers_edit.specs.Undoing.{TakesLast};
 
     /// The policy, and an empty journal.
-    pub fn new(policy: Policy) -> Editor
+    pub fn new(policy: OneFile) -> Editor
         ensures lines { result.lines ≡ texts policy }
         ensures journal { result.journal ≡ [] }
     {
@@ -63,7 +63,7 @@ impl Editor {
 
     /// The policy as it stands: the edits of the journal, made one after another, lead to it from the lines that the editor
     /// began with.
-    pub fn policy(&self) -> &Policy
+    pub fn policy(&self) -> &OneFile
         ensures lines { texts result.now ≡ self.now.lines }
         ensures forth { run (edits_of self.now.journal) (first_of self.now) ≡ Some (texts result.now) }
     {
@@ -178,14 +178,14 @@ impl Editor {
 }
 
 /// Puts a policy in the place of another.
-fn put(place: &mut Policy, policy: Policy)
+fn put(place: &mut OneFile, policy: OneFile)
     ensures { place.new ≡ policy }
 {
     *place = policy;
 }
 
 /// The policy to which edits lead, one after another.
-fn after_all(policy: &Policy, edits: &[Edit]) -> Result<Policy, EditFault>
+fn after_all(policy: &OneFile, edits: &[Edit]) -> Result<OneFile, EditFault>
     ensures { MatchResult result (λ new. run edits.now (texts policy.now) ≡ Some (texts new))
         (λ fault. (fault ≡ EditFault.NoMemory) ⊎ (run edits.now (texts policy.now) ≡ None)) }
 {
@@ -200,7 +200,7 @@ fn after_all(policy: &Policy, edits: &[Edit]) -> Result<Policy, EditFault>
 }
 
 /// What comes of an edit.
-fn landed(policy: &Policy, edit: &Edit) -> Result<Landed, EditFault>
+fn landed(policy: &OneFile, edit: &Edit) -> Result<Landed, EditFault>
     ensures { Lands edit.now (texts policy.now) result }
 {
     match edit {

@@ -14,18 +14,18 @@ use crate::fault::EditFault;
 use crate::reread::reread;
 use sudoers_edit_script::Edits;
 use sudoers_text::laws::{lines_of_join, lines_stand_alone};
-use sudoers_tree::Policy;
+use sudoers_tree::OneFile;
 use sudoers_tree::laws::policy_is_cut;
 
 /// The policy to which an edit leads, and the edits that take it back.
 #[derive(Drop)]
 pub struct Landed {
-    pub policy: Policy,
+    pub policy: OneFile,
     pub inverse: Edits,
 }
 
 /// Reads the text `whole` to which an edit of a policy leads that only its result can refuse.
-pub fn land(policy: &Policy, whole: &[u8], inverse: Edits) -> Result<Landed, EditFault>
+pub fn land(policy: &OneFile, whole: &[u8], inverse: Edits) -> Result<Landed, EditFault>
     ensures { (edit : AnEdit) (lines : List (List ℕ)) → Leads edit inverse lines whole.now → Lands edit lines result }
 {
     reads_lines();
@@ -34,7 +34,7 @@ pub fn land(policy: &Policy, whole: &[u8], inverse: Edits) -> Result<Landed, Edi
 }
 
 /// A copy of a policy.
-pub fn copied(policy: &Policy) -> Result<Policy, EditFault>
+pub fn copied(policy: &OneFile) -> Result<OneFile, EditFault>
     ensures { MatchResult result (λ new. texts new ≡ texts policy.now) (λ fault. fault ≡ EditFault.NoMemory) }
 {
     is_sound(policy);
@@ -43,7 +43,7 @@ pub fn copied(policy: &Policy) -> Result<Policy, EditFault>
 }
 
 /// A law: what the lines of a policy are.
-pub fn is_sound(policy: &Policy)
+pub fn is_sound(policy: &OneFile)
     ensures { IsSound (texts policy.now) }
 {
     policy.is_policy();

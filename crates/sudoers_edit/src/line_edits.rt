@@ -18,10 +18,10 @@ use sudoers_text::laws::{
 };
 use sudoers_text::{LINE_LIMIT, TextFault, cut, ends_in_lf};
 use sudoers_tree::laws::policy_is_cut;
-use sudoers_tree::{Policy, text_with, text_without};
+use sudoers_tree::{OneFile, text_with, text_without};
 
 /// A line put in.
-pub fn line_inserted(policy: &Policy, at: u32, text: &[u8]) -> Result<Landed, EditFault>
+pub fn line_inserted(policy: &OneFile, at: u32, text: &[u8]) -> Result<Landed, EditFault>
     ensures { Lands (Edit.Insert at text.now) (texts policy.now) result }
 {
     let alloc = policy.allocator();
@@ -42,7 +42,7 @@ pub fn line_inserted(policy: &Policy, at: u32, text: &[u8]) -> Result<Landed, Ed
 }
 
 /// A line taken out.
-pub fn line_deleted(policy: &Policy, at: u32) -> Result<Landed, EditFault>
+pub fn line_deleted(policy: &OneFile, at: u32) -> Result<Landed, EditFault>
     ensures { Lands (Edit.Delete at) (texts policy.now) result }
 {
     let alloc = policy.allocator();
@@ -58,7 +58,7 @@ pub fn line_deleted(policy: &Policy, at: u32) -> Result<Landed, EditFault>
 }
 
 /// A line that stands elsewhere.
-pub fn line_moved(policy: &Policy, from: u32, to: u32) -> Result<Landed, EditFault>
+pub fn line_moved(policy: &OneFile, from: u32, to: u32) -> Result<Landed, EditFault>
     ensures { Lands (Edit.Move from to) (texts policy.now) result }
 {
     let alloc = policy.allocator();
@@ -78,7 +78,7 @@ pub fn line_moved(policy: &Policy, from: u32, to: u32) -> Result<Landed, EditFau
 }
 
 /// LF put behind the last line.
-pub fn end_closed(policy: &Policy) -> Result<Landed, EditFault>
+pub fn end_closed(policy: &OneFile) -> Result<Landed, EditFault>
     ensures { Lands Edit.EndLine (texts policy.now) result }
 {
     let alloc = policy.allocator();
@@ -100,7 +100,7 @@ pub fn end_closed(policy: &Policy) -> Result<Landed, EditFault>
 }
 
 /// The LF at the end of the last line taken away.
-pub fn end_opened(policy: &Policy) -> Result<Landed, EditFault>
+pub fn end_opened(policy: &OneFile) -> Result<Landed, EditFault>
     ensures { Lands Edit.OpenEnd (texts policy.now) result }
 {
     let alloc = policy.allocator();
@@ -119,7 +119,7 @@ pub fn end_opened(policy: &Policy) -> Result<Landed, EditFault>
 }
 
 /// Returns whether a line without LF would stand before another once the text stands at a place.
-fn leaves_unended(policy: &Policy, at: usize, text: &[u8]) -> bool
+fn leaves_unended(policy: &OneFile, at: usize, text: &[u8]) -> bool
     requires { at ≤ length policy.now }
     ensures { result ≡ has_unended_inside (insert (texts policy.now) at text.now) }
 {
@@ -137,7 +137,7 @@ fn leaves_unended(policy: &Policy, at: usize, text: &[u8]) -> bool
 }
 
 /// Returns whether a line without LF would stand before another once the line `from` stands at `to`.
-fn move_leaves_unended(policy: &Policy, from: usize, to: usize) -> bool
+fn move_leaves_unended(policy: &OneFile, from: usize, to: usize) -> bool
     requires from { from < length policy.now }
     requires to { to < length policy.now }
     ensures { result ≡ has_unended_inside (moved from to (texts policy.now)) }
@@ -155,7 +155,7 @@ fn move_leaves_unended(policy: &Policy, from: usize, to: usize) -> bool
 }
 
 /// Returns the last line, where there is one.
-fn last_line(policy: &Policy) -> Option<&[u8]>
+fn last_line(policy: &OneFile) -> Option<&[u8]>
     ensures { option_copied result ≡ slice_get (texts policy.now) (length (texts policy.now) - 1) }
 {
     policy.line(policy.len().saturating_sub(1))

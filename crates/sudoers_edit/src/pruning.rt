@@ -16,10 +16,10 @@ use crate::landing::{Landed, copied, is_sound};
 use crate::line_edits::line_deleted;
 use crate::splice_edits::def_dropped;
 use std::alloc::{AllocError, Global};
-use sudoers_check::unused;
+use sudoers_check::find_unused;
 use sudoers_edit_script::{Edit, Edits};
 use sudoers_text::laws::line_alone_size;
-use sudoers_tree::{Kind, Node, Place, Policy};
+use sudoers_tree::{Kind, Node, OneFile, Place};
 
 /// What Prune takes out.
 #[derive(Clone, Copy)]
@@ -31,7 +31,7 @@ pub enum Removal {
 }
 
 /// All definitions of aliases that are unused taken out, one after another, each from what the one before left.
-pub fn pruned(policy: &Policy) -> Result<Landed, EditFault>
+pub fn pruned(policy: &OneFile) -> Result<Landed, EditFault>
     ensures { Lands Edit.Prune (texts policy.now) result }
 {
     policy.is_policy();
@@ -52,7 +52,7 @@ pub fn pruned(policy: &Policy) -> Result<Landed, EditFault>
 }
 
 /// Returns the policy without what is taken out.
-fn removed(policy: &Policy, removal: Removal) -> Result<Landed, EditFault>
+fn removed(policy: &OneFile, removal: Removal) -> Result<Landed, EditFault>
     ensures { Lands (edit_of removal) (texts policy.now) result }
 {
     match removal {
@@ -69,11 +69,11 @@ fn append_edits(to: &mut Vec<Edit>, edits: Edits) -> Result<(), AllocError>
 }
 
 /// Returns what Prune takes out of a policy, in its order.
-pub fn removals(alloc: Global, policy: &Policy) -> Result<Vec<Removal>, AllocError>
+pub fn removals(alloc: Global, policy: &OneFile) -> Result<Vec<Removal>, AllocError>
     ensures { IfOk result (λ removals. removals.items ≡ the_removals policy.now) }
 {
     places_fit(policy);
-    let places = unused(alloc, policy)?;
+    let places = find_unused(alloc, policy.walk())?;
     let mut removals = Vec::new(alloc);
     let mut rest = places.as_slice();
     let lines = policy.lines();
@@ -144,7 +144,7 @@ fn append_removals(
 }
 
 /// A law: how many lines a policy has, and which definition of its line each is, fit the numbers of edits.
-fn places_fit(policy: &Policy)
+fn places_fit(policy: &OneFile)
     ensures lines { length policy.now ≤ text_limit }
     ensures defs { All (λ (d : Definition). d.place.def < alias_limit) (definitions policy.now) }
 {

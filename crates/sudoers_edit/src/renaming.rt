@@ -18,11 +18,11 @@ use crate::reread::reread;
 use std::alloc::{AllocError, Global};
 use sudoers_edit_script::{Edit, Edits, Text};
 use sudoers_text::{LINE_LIMIT, is_name, is_reserved};
-use sudoers_tree::{Kind, Line, LineRow, Policy, ReadFault, Rows, Why};
+use sudoers_tree::{Kind, Line, LineRow, OneFile, ReadFault, Rows, Why};
 
 /// An alias given another name.
 pub fn alias_renamed(
-    policy: &Policy,
+    policy: &OneFile,
     kind: Kind,
     name: &[u8],
     fresh: &[u8],
@@ -66,8 +66,8 @@ fn no_way_back() -> EditFault
 
 /// Returns whether the old name, given back, leads to the lines before.
 fn is_restored(
-    policy: &Policy,
-    new: &Policy,
+    policy: &OneFile,
+    new: &OneFile,
     kind: Kind,
     name: &[u8],
     fresh: &[u8],
@@ -82,7 +82,12 @@ fn is_restored(
 }
 
 /// Returns the policy with another name for an alias, whether or not a way leads back.
-fn renamed_once(policy: &Policy, kind: Kind, name: &[u8], fresh: &[u8]) -> Result<Policy, EditFault>
+fn renamed_once(
+    policy: &OneFile,
+    kind: Kind,
+    name: &[u8],
+    fresh: &[u8],
+) -> Result<OneFile, EditFault>
     ensures { MatchResult result (λ new. rename_once kind name.now fresh.now policy.now ≡ Ok (texts new))
         (λ fault. Refuses fault (rename_once kind name.now fresh.now policy.now)) }
 {
@@ -103,7 +108,7 @@ fn renamed_once(policy: &Policy, kind: Kind, name: &[u8], fresh: &[u8]) -> Resul
 }
 
 /// Returns whether the name is defined or mentioned in the kind.
-fn is_taken(policy: &Policy, kind: Kind, fresh: &[u8]) -> Result<bool, AllocError>
+fn is_taken(policy: &OneFile, kind: Kind, fresh: &[u8]) -> Result<bool, AllocError>
     ensures { IfOk result (λ is. is ≡ taken kind fresh.now policy.now) }
 {
     if policy.definition(kind, fresh).is_some() {
@@ -113,7 +118,7 @@ fn is_taken(policy: &Policy, kind: Kind, fresh: &[u8]) -> Result<bool, AllocErro
 }
 
 /// Returns the policy that the changed lines of a policy are, if the lines that are read are these.
-fn policy_of_lines(policy: &Policy, lines: &[Text]) -> Result<Policy, EditFault>
+fn policy_of_lines(policy: &OneFile, lines: &[Text]) -> Result<OneFile, EditFault>
     ensures { MatchResult result (λ new. if_lines lines.now (policy_or_refusal (join lines.now)) ≡ Ok (texts new))
         (λ fault. Refuses fault (if_lines lines.now (policy_or_refusal (join lines.now)))) }
 {
@@ -127,7 +132,7 @@ fn policy_of_lines(policy: &Policy, lines: &[Text]) -> Result<Policy, EditFault>
 
 /// Returns the lines of a policy with another name for an alias.
 fn renamed_lines(
-    policy: &Policy,
+    policy: &OneFile,
     kind: Kind,
     name: &[u8],
     fresh: &[u8],

@@ -10,10 +10,10 @@ ghost use Rattle.sudoers_edit.specs.Editing.{Refuses};
 use crate::fault::EditFault;
 use std::alloc::{AllocError, Global};
 use sudoers_text::TEXT_LIMIT;
-use sudoers_tree::{LineRow, Policy, Rows, append_texts};
+use sudoers_tree::{LineRow, OneFile, Rows, append_texts};
 
 /// Returns the policy that a text is. Lines of `policy` that stand in it at about the same place are not read again.
-pub fn reread(policy: &Policy, text: &[u8]) -> Result<Policy, EditFault>
+pub fn reread(policy: &OneFile, text: &[u8]) -> Result<OneFile, EditFault>
     ensures { MatchResult result (λ policy. policy_or_refusal text.now ≡ Ok policy)
         (λ fault. Refuses fault (policy_or_refusal text.now)) }
 {

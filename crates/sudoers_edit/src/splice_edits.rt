@@ -25,10 +25,10 @@ use sudoers_line::laws::definitions_ascend;
 use sudoers_text::laws::{line_alone_is_whole, line_alone_size};
 use sudoers_text::{LINE_LIMIT, ends_in_lf};
 use sudoers_tree::laws::lines_are_said;
-use sudoers_tree::{Def, DefRow, Kind, Line, Node, Place, Policy, Rows, read_line, text_replaced};
+use sudoers_tree::{Def, DefRow, Kind, Line, Node, OneFile, Place, Rows, read_line, text_replaced};
 
 /// A definition put into a line.
-pub fn def_added(policy: &Policy, line: u32, at: u32, splice: &[u8]) -> Result<Landed, EditFault>
+pub fn def_added(policy: &OneFile, line: u32, at: u32, splice: &[u8]) -> Result<Landed, EditFault>
     ensures { Lands (Edit.AddDef line at splice.now) (texts policy.now) result }
 {
     is_known(policy);
@@ -50,7 +50,7 @@ pub fn def_added(policy: &Policy, line: u32, at: u32, splice: &[u8]) -> Result<L
 }
 
 /// A definition taken out of a line.
-pub fn def_dropped(policy: &Policy, line: u32, at: u32) -> Result<Landed, EditFault>
+pub fn def_dropped(policy: &OneFile, line: u32, at: u32) -> Result<Landed, EditFault>
     ensures { Lands (Edit.DropDef line at) (texts policy.now) result }
 {
     is_known(policy);
@@ -74,7 +74,7 @@ pub fn def_dropped(policy: &Policy, line: u32, at: u32) -> Result<Landed, EditFa
 
 /// A member put into the list of an alias.
 pub fn member_added(
-    policy: &Policy,
+    policy: &OneFile,
     kind: Kind,
     name: &[u8],
     at: u32,
@@ -104,7 +104,7 @@ pub fn member_added(
 
 /// A member taken out of the list of an alias.
 pub fn member_dropped(
-    policy: &Policy,
+    policy: &OneFile,
     kind: Kind,
     name: &[u8],
     at: u32,
@@ -154,7 +154,7 @@ fn member_again(
 }
 
 /// Returns the line at a place.
-fn line_at(policy: &Policy, number: usize) -> Option<Line<'_>>
+fn line_at(policy: &OneFile, number: usize) -> Option<Line<'_>>
     ensures { option_map line_shown result ≡ slice_get policy.now number }
 {
     let lines = policy.lines();
@@ -166,7 +166,7 @@ fn line_at(policy: &Policy, number: usize) -> Option<Line<'_>>
 
 /// Returns where an alias is defined: the place, the line and the definition.
 fn def_at<'a>(
-    policy: &'a Policy,
+    policy: &'a OneFile,
     kind: Kind,
     name: &[u8],
 ) -> Result<(Place, Line<'a>, Def<'a>), EditFault>
@@ -191,7 +191,7 @@ fn def_at<'a>(
 }
 
 /// Returns the line of a number, and its definitions.
-fn defs_at(policy: &Policy, number: usize) -> Result<(Line<'_>, Rows<'_, DefRow>), EditFault>
+fn defs_at(policy: &OneFile, number: usize) -> Result<(Line<'_>, Rows<'_, DefRow>), EditFault>
     ensures outcome { (next : LineOf → List DefOf → Result Lines Refusal) → MatchResult result
         (λ found. with_defs number policy.now next ≡ next (line_shown found.0) (defs_shown found.1))
         (λ fault. with_defs number policy.now next ≡ Err fault) }
@@ -262,7 +262,7 @@ fn cut_out(
 
 /// A line changed that reads as it should.
 fn line_replaced(
-    policy: &Policy,
+    policy: &OneFile,
     at: usize,
     text: &[u8],
     inverse: Edits,
@@ -285,7 +285,7 @@ fn line_replaced(
 }
 
 /// Returns whether a line without LF would stand before another once the text stands in the place of a line.
-fn leaves_open(policy: &Policy, at: usize, text: &[u8]) -> bool
+fn leaves_open(policy: &OneFile, at: usize, text: &[u8]) -> bool
     requires { at < length policy.now }
     ensures { result ≡ has_unended_inside (replaced at text.now (texts policy.now)) }
 {
@@ -298,7 +298,7 @@ fn leaves_open(policy: &Policy, at: usize, text: &[u8]) -> bool
 
 /// A law: the lines of a policy are known from what they say.
 #[tactic(auto, using(crate::proofs::WithinLemmas::known_ascend))]
-fn is_known(policy: &Policy)
+fn is_known(policy: &OneFile)
     ensures { IsKnown policy.now }
 {
     is_sound(policy);

@@ -159,7 +159,7 @@ from_root_on : (files : List NamedFile) (root bytes : List ℕ) → front_of roo
 unfolding gathered
 from_root_on files root bytes there = ap (from_root files root) there
 
--- The same, where so many files may still come, behind these files.
+-- The same, where `left` more files may come, behind these files.
 begun : (files before : List NamedFile) (root bytes : List ℕ) (left : ℕ) → left ≡ file_limit → before ≡ [] → front_of root files ≡ Some bytes
     → gathered files root ≡ take_file (visit left files) files before (record { name = root; bytes = bytes })
 begun files before root bytes left all none there =

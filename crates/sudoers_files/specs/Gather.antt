@@ -40,7 +40,7 @@ unless_full next found name (Some bytes) = if nat_le file_limit (length found) t
 abbrev pub unless_found : (NamedFile → Result (List NamedFile) GatherFault) → List NamedFile → List NamedFile → List ℕ → Result (List NamedFile) GatherFault
 unless_found next files found name = if has_name name found then Ok found else unless_full next found name (front_of name files)
 
--- the gathering goes on with a name, where so many files may still come
+-- the gathering goes on with a name, where `left` more files may come
 abbrev pub visit : ℕ → List NamedFile → Visit
 visit zero files found name = unless_found (λ file. Err TooManyFiles) files found name
 visit (suc left) files found name = unless_found (take_file (visit left files) files found) files found name
@@ -61,7 +61,7 @@ FailedBefore NoRoot old new = (new.failures ≡ old.failures) × (new.endless �
 FailedBefore TooManyFiles old new = (new.failures ≡ old.failures) × (new.endless ≡ old.endless)
 FailedBefore NoMemory old new = (new.failures ≡ old.failures) × (new.endless ≡ old.endless)
 
--- The files stay. `Device` stands for a call that failed, or told no end; without it none did.
+-- The files stay. `Device` stands for a call that failed, or reported no end; without it none did.
 abbrev pub Asks : {A : Type 0} → Result A GatherFault → Shelf → Shelf → Type 0
 Asks (Ok x) old new = new ≡ old
 Asks (Err fault) old new = (new.files ≡ old.files) × FailedBefore fault old new

@@ -9,7 +9,7 @@ use Rattle.sudoers_tree.specs.Targets.{base_of}
 use Rattle.sudoers_files.specs.declared.fault.FileFault.{FileFault}
 use Rattle.sudoers_files.specs.declared.fault.FileFault.TheVariants.{Failed, NoEnd, NoMemory}
 
--- The files, if they are known. Of their device: how often it failed, and how often it told no end, each up to the greatest number that
+-- The files, if they are known. Of their device: how often it failed, and how often it reported no end, each up to the greatest number that
 -- is counted.
 pub record Shelf : Type 0 where
   pub files : Option (List NamedFile)
@@ -26,7 +26,7 @@ FailedBy Failed old new = Rose old new
 FailedBy NoEnd old new = new ≡ old
 FailedBy NoMemory old new = new ≡ old
 
--- The count of readings that told no end rises with such a one, and stays with anything else.
+-- The count of readings that reported no end rises with such a one, and stays with anything else.
 abbrev pub EndlessBy : FileFault → ℕ → ℕ → Type 0
 EndlessBy Failed old new = new ≡ old
 EndlessBy NoEnd old new = Rose old new

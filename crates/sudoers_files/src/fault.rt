@@ -14,7 +14,7 @@ pub enum FileFault {
     /// The device failed.
     #[error("a device failed")]
     Failed,
-    /// The device was asked as often as it may be, and told no end.
+    /// The device was asked as often as it may be, and reported no end.
     #[error("a file has no end")]
     NoEnd,
     /// A growth of memory was refused.

@@ -30,7 +30,7 @@ pub fn gather<F: Files>(
     // If the files are known, what is returned is what they are gathered to.
     ensures gathers { (known : List NamedFileOf) → (F.shelf files.old).files ≡ Some known
         → MatchResult result (λ found. gathered known root.now ≡ Ok found.items) (λ fault. IsOutside fault ⊎ (gathered known root.now ≡ Err fault)) }
-    // The files stay. `Device` is returned only if a call of them failed, or told no end.
+    // The files stay. `Device` is returned only if a call of them failed, or reported no end.
     ensures asks { Asks result (F.shelf files.old) (F.shelf files.new) }
 {
     let Some(bytes) = read(alloc, files, root)? else {
@@ -52,15 +52,12 @@ fn read<F: Files>(
     ensures asks { Asks result (F.shelf files.old) (F.shelf files.new) }
     ensures named { IfErr result IsOutside }
 {
-    match files.read(alloc, name) {
-        Ok(bytes) => Ok(bytes),
-        Err(fault) => Err(fault.into()),
-    }
+    Ok(files.read(alloc, name)?)
 }
 
 #[cycle(gather)]
-/// Appends the file `name`, which has these bytes, to those that are found, and then the files to which it leads, where so many
-/// files may still come.
+/// Appends the file `name`, which has these bytes, to those that are found, and then the files to which it leads. `left` is how many
+/// more files may come.
 fn take_file<F: Files>(
     alloc: Global,
     left: usize,

@@ -12,8 +12,9 @@ use crate::fault::GatherFault;
 use crate::files::Files;
 use crate::folder::led_in;
 use std::alloc::{AllocError, Global};
+use sudoers_text::laws::cut_is;
 use sudoers_text::{Lines, TextFault, cut};
-use sudoers_tree::{Items, Lead, leads};
+use sudoers_tree::{Items, Lead, leads, may_lead};
 
 /// Returns those lines of a file that lead somewhere. The file has the name `name` and these bytes.
 ///
@@ -23,6 +24,10 @@ use sudoers_tree::{Items, Lead, leads};
 pub fn include_lines(alloc: Global, name: &[u8], bytes: &[u8]) -> Result<Vec<Items<u8>>, AllocError>
     ensures { (files : List NamedFileOf) → IfOk result (λ kept. included_by files name.now kept.items ≡ included_by files name.now (lines_of (cut_of bytes.now))) }
 {
+    cut_is();
+    if !may_lead(bytes) {
+        return Ok(Vec::new(alloc));
+    }
     match cut(alloc, bytes) {
         Ok(lines) => lines_that_lead(alloc, name, &lines),
         Err(TextFault::NoMemory) => Err(AllocError),
@@ -76,10 +81,7 @@ fn names_in<F: Files>(
     ensures asks { Asks result (F.shelf files.old) (F.shelf files.new) }
     ensures named { IfErr result IsOutside }
 {
-    match files.names(alloc, dir) {
-        Ok(names) => Ok(names),
-        Err(fault) => Err(fault.into()),
-    }
+    Ok(files.names(alloc, dir)?)
 }
 
 /// Returns the names of the files to which the line `line` of the file `name` leads.

@@ -1,6 +1,7 @@
 //! The files of a policy: a root, and the files that it includes.
 #![tactic(auto)]
 
+mod counts;
 mod disk;
 mod fault;
 mod files;
@@ -9,9 +10,11 @@ mod gathering;
 mod included;
 pub mod laws;
 mod memory;
+mod stream;
 
 pub use disk::FilesOnDisk;
 pub use fault::{FileFault, GatherFault};
 pub use files::Files;
 pub use gathering::gather;
 pub use memory::FilesInMemory;
+pub use stream::{FileOfStream, STREAM_NAME};

@@ -6,6 +6,7 @@ use Rattle.sudoers_line.specs.declared.node.Atom.TheVariants.{Alias}
 use Rattle.sudoers_line.specs.declared.node.Kind.TheVariants.{Cmnd}
 use Rattle.sudoers_line.specs.Node.{Member}
 use Rattle.sudoers_tree.specs.Line.{Line}
+use Rattle.sudoers_tree.specs.Load.{Loaded}
 use Rattle.sudoers_check.specs.Chain.{Chain, here, onward}
 use Rattle.sudoers_match_member.specs.declared.asked.Who.{Who}
 use Rattle.sudoers_match_member.specs.declared.request.Request.{Request}
@@ -115,19 +116,19 @@ one_inner_of : (lines : List Line) (r : Request) (o : Option Rule) (a b : Option
 one_inner_of lines r None a b p q = p ∙ sym q
 one_inner_of lines r (Some rule) a b p q = one_inner lines (command_hits (command_line r)) rule.command.member a b p q
 
-one_rule : (lines : List Line) (r : Request) (file d : List ℕ) (a : Answer) (t u : List ℕ) → NamesRule lines r file d a t → NamesRule lines r file d a u → t ≡ u
-one_rule lines r file d a t u p q =
+one_rule : (policy : Loaded) (r : Request) (d : List ℕ) (a : Answer) (t u : List ℕ) → NamesRule policy r d a t → NamesRule policy r d a u → t ≡ u
+one_rule policy r d a t u p q =
+    let rule = deciding_rule policy.walk.lines a in
     p.says
-    ∙ ap (λ inner. rule_with lines file r.who.user.name d a.allow inner (deciding_rule lines a))
-    (one_inner_of lines r (deciding_rule lines a) p.inner q.inner p.is_inner q.is_inner)
+    ∙ ap (λ inner. rule_with policy r.who.user.name d a.allow inner rule) (one_inner_of policy.walk.lines r rule p.inner q.inner p.is_inner q.is_inner)
     ∙ sym q.says
 
-one_told : (lines : List Line) (r : Request) (file d : List ℕ) (answer : Option Answer) (t u : List ℕ) → Tells lines r file d answer t → Tells lines r file d answer u → t ≡ u
-one_told lines r file d None t u p q = p ∙ sym q
-one_told lines r file d (Some a) t u p q = one_rule lines r file d a t u p q
+one_told : (policy : Loaded) (r : Request) (d : List ℕ) (answer : Option Answer) (t u : List ℕ) → Tells policy r d answer t → Tells policy r d answer u → t ≡ u
+one_told policy r d None t u p q = p ∙ sym q
+one_told policy r d (Some a) t u p q = one_rule policy r d a t u p q
 
 pub one_text : ((lines : List Line) (who : Who) (name other : List ℕ) → IsRunasDefault lines who name → IsRunasDefault lines who other → name ≡ other)
-    → (lines : List Line) (r : Request) (file : List ℕ) (answer : Option Answer) (t u : List ℕ) → IsReason lines r file answer t → IsReason lines r file answer u → t ≡ u
-one_text one_default lines r file answer t u a b =
-    let d : a.default ≡ b.default = one_default lines r.who a.default b.default a.is_default b.is_default in
-    one_told lines r file b.default answer t u (subst (λ x. Tells lines r file x answer t) d a.tells) b.tells
+    → (policy : Loaded) (r : Request) (answer : Option Answer) (t u : List ℕ) → IsReason policy r answer t → IsReason policy r answer u → t ≡ u
+one_text one_default policy r answer t u a b =
+    let d : a.default ≡ b.default = one_default policy.walk.lines r.who a.default b.default a.is_default b.is_default in
+    one_told policy r b.default answer t u (subst (λ x. Tells policy r x answer t) d a.tells) b.tells

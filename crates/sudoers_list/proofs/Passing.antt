@@ -1,12 +1,10 @@
 -- Commands of a list, one line after another, and lines by their numbers.
-use Rattle.std.proofs.Common.{◌≡◌, ℕ, suc, Option, Some, slice_get, ◌+◌, ◌<◌, ◌≤◌, arith, length, drop, get_or, OnOk, Result, Ok, Err, is_ok, if◌then◌else◌, false, List, [], ◌∷◌, ◌++◌, map, flat_map, codes, refl, sym, ap, ◌∙◌, append-nil, append_assoc}
-use Rattle.std.proofs.lemmas.List.{drop_more, length-append}
-use Rattle.sudoers_text.specs.Fault.{lf_count}
-use Rattle.sudoers_text.specs.Line.{join}
+use Rattle.std.proofs.Common.{◌≡◌, ℕ, zero, suc, Some, slice_get, ◌+◌, ◌<◌, arith, length, drop, get_or, OnOk, Result, Ok, Err, is_ok, if◌then◌else◌, false, List, [], ◌∷◌, ◌++◌, map, flat_map, codes, refl, sym, ap, ◌∙◌, append-nil, append_assoc}
+use Rattle.std.proofs.lemmas.List.{drop_more}
+use Rattle.std.specs.Option.{option_map}
 use Rattle.sudoers_line.specs.declared.node.Kind.TheVariants.{Runas}
 use Rattle.sudoers_line.specs.Node.{CmdSpec, Member}
 use Rattle.sudoers_tree.specs.Line.{Line}
-use Rattle.sudoers_tree.specs.Policy.{texts}
 use Rattle.sudoers_match.specs.declared.head.Head.{Head as HeadHeld}
 use Rattle.sudoers_match.specs.Heads.{Head, no_head, inherit, filled}
 use Rattle.sudoers_match.specs.IsHead.{IsHead}
@@ -71,35 +69,19 @@ pub when_ok : {T E X : Type 0} (r : Result T E) (new one other : X) → new ≡ 
 when_ok (Ok v) new one other e = e
 when_ok (Err f) new one other e = tt
 
--- ---- how far the rows go
-
--- The physical lines of this line, and of those behind it, are within the limit.
-pub line_fits : (row : ℕ) (l : Line) (ls all : List Line) → all ≡ l ∷ ls → row + length (join (texts all)) ≤ 1048577 → row + length l.text ≤ 1048577
-line_fits row l ls all split most =
-    let size : length (join (texts all)) ≡ length l.text + length (join (texts ls)) = ap (λ xs. length (join (texts xs))) split ∙ length-append l.text (join (texts ls)) in
-    omega (arith, most, size)
-
-pub rest_fits : (row count : ℕ) (l : Line) (ls all : List Line) → all ≡ l ∷ ls → count ≤ length l.text → row + length (join (texts all)) ≤ 1048577
-    → row + count + length (join (texts ls)) ≤ 1048577
-rest_fits row count l ls all split within most =
-    let size : length (join (texts all)) ≡ length l.text + length (join (texts ls)) = ap (λ xs. length (join (texts xs))) split ∙ length-append l.text (join (texts ls)) in
-    omega (arith, most, size, within)
-
 -- ---- lines by their numbers
 
-pub line_before : (row count left n : ℕ) (l : Line) (ls all : List Line) (wanted : Option (ℕ × Line)) → all ≡ l ∷ ls → left ≡ suc n
-    → count ≡ lf_count l.text → count ≤ length l.text
-    → (slice_get (numbered row all) left ≡ wanted) × (row + length (join (texts all)) ≤ 1048577)
-    → (slice_get (numbered (row + count) ls) n ≡ wanted) × (row + count + length (join (texts ls)) ≤ 1048577)
-line_before row count left n l ls all wanted split one counted within inv = (
-  ap (λ k. slice_get (numbered (row + k) ls) n) counted
-      ∙ ap (slice_get (numbered row (l ∷ ls))) (sym one)
-      ∙ ap (λ xs. slice_get (numbered row xs) left) (sym split)
-      ∙ inv.0,
-  rest_fits row count l ls all split within inv.1,
-)
+-- The line with a number is found with this number.
+pub numbered_at : (n i : ℕ) (lines : List Line) → slice_get (numbered n lines) i ≡ option_map (λ (l : Line). (n + i, l)) (slice_get lines i)
+numbered_at n i [] = refl
+numbered_at n zero (l ∷ lines) =
+    let e : n ≡ n + 0 = omega arith in
+    ap (λ k. Some (k, l)) e
+numbered_at n (suc i) (l ∷ lines) =
+    let e : n + 1 + i ≡ n + suc i = omega arith in
+    numbered_at (n + 1) i lines ∙ ap (λ k. option_map (λ (x : Line). (k, x)) (slice_get lines i)) e
 
-pub line_here : (row left : ℕ) (l : Line) (ls all : List Line) (wanted : Option (ℕ × Line)) → all ≡ l ∷ ls → left ≡ 0
-    → slice_get (numbered row all) left ≡ wanted → Some (row, l) ≡ wanted
-line_here row left l ls all wanted split none is =
-    ap (slice_get (numbered row (l ∷ ls))) (sym none) ∙ ap (λ xs. slice_get (numbered row xs) left) (sym split) ∙ is
+pub numbered_from : (i : ℕ) (lines : List Line) → slice_get (numbered 0 lines) i ≡ option_map (λ (l : Line). (i, l)) (slice_get lines i)
+numbered_from i lines =
+    let e : 0 + i ≡ i = omega arith in
+    numbered_at 0 i lines ∙ ap (λ k. option_map (λ (x : Line). (k, x)) (slice_get lines i)) e

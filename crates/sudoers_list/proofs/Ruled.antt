@@ -3,10 +3,10 @@ use Rattle.std.proofs.Common.{◌≡◌, true, ◌⊎◌, inl, inr, ⊎_elim, �
 use Rattle.std.proofs.lemmas.Option.{same_Some, slice_get-map}
 use Rattle.std.specs.List.{cons_option}
 use Rattle.std.specs.Option.{option_map}
-use Rattle.sudoers_text.specs.Fault.{lf_count}
 use Rattle.sudoers_line.specs.Node.{HostGroup, Member}
 use Rattle.sudoers_line_rows.specs.View.{member_shown}
 use Rattle.sudoers_tree.specs.Line.{Line}
+use Rattle.sudoers_tree.specs.Load.{Loaded}
 use Rattle.sudoers_check.specs.Chain.{Has}
 use Rattle.sudoers_match_member.specs.declared.asked.Who.{Who}
 use Rattle.sudoers_match.specs.declared.groups.GroupPlace.{GroupPlace}
@@ -109,17 +109,17 @@ place_has_group lines who places place are h =
 -- ---- answers
 
 -- A user specification stands on a line.
-stands_on : (row n : ℕ) (lines : List Line) (s : Spec) → slice_get (specs_of lines) n ≡ Some s
-    → (on : ℕ × Line) × (slice_get (specs_on row lines) n ≡ Some (spec_on on s))
-stands_on row n [] s h = absurd cc
-stands_on row n (l ∷ ls) s h = by (spec_in l.node) n h (λ m. stands_on (row + lf_count l.text) m ls s)
+stands_on : (k n : ℕ) (lines : List Line) (s : Spec) → slice_get (specs_of lines) n ≡ Some s
+    → (on : ℕ × Line) × (slice_get (specs_on k lines) n ≡ Some (spec_on on s))
+stands_on k n [] s h = absurd cc
+stands_on k n (l ∷ ls) s h = by (spec_in l.node) n h (λ m. stands_on (k + 1) m ls s)
   where
-    by : (o : Option Spec) (k : ℕ) → slice_get (cons_option o (specs_of ls)) k ≡ Some s
-        → ((m : ℕ) → slice_get (specs_of ls) m ≡ Some s → (on : ℕ × Line) × (slice_get (specs_on (row + lf_count l.text) ls) m ≡ Some (spec_on on s)))
-        → (on : ℕ × Line) × (slice_get (cons_option (option_map (spec_on (row, l)) o) (specs_on (row + lf_count l.text) ls)) k ≡ Some (spec_on on s))
-    by None k e more = more k e
-    by (Some t) zero e more = let same : t ≡ s = cc in ((row, l), ap (λ (x : Spec). Some (spec_on (row, l) x)) same)
-    by (Some t) (suc k) e more = more k e
+    by : (o : Option Spec) (i : ℕ) → slice_get (cons_option o (specs_of ls)) i ≡ Some s
+        → ((m : ℕ) → slice_get (specs_of ls) m ≡ Some s → (on : ℕ × Line) × (slice_get (specs_on (k + 1) ls) m ≡ Some (spec_on on s)))
+        → (on : ℕ × Line) × (slice_get (cons_option (option_map (spec_on (k, l)) o) (specs_on (k + 1) ls)) i ≡ Some (spec_on on s))
+    by None i e more = more i e
+    by (Some t) zero e more = let same : t ≡ s = cc in ((k, l), ap (λ (x : Spec). Some (spec_on (k, l) x)) same)
+    by (Some t) (suc i) e more = more i e
 
 counted : (k line : ℕ) → k ≡ line → line ≡ k + 0
 counted k line same = omega (arith, same)
@@ -129,42 +129,42 @@ abbrev IsLineOf : ℕ → ℕ → Spec → List (ℕ × Line) → List SpecOn �
 IsLineOf first line s ons specs n = (m : ℕ) × (on : ℕ × Line) × (line ≡ first + m) × (slice_get ons m ≡ Some on) × (slice_get specs n ≡ Some (spec_on on s))
 
 -- A user specification stands on the line with its number.
-stands_on_line : (row k n line : ℕ) (lines : List Line) (s : Spec) → slice_get (numbered_specs k lines) n ≡ Some (line, s)
-    → IsLineOf k line s (numbered row lines) (specs_on row lines) n
-stands_on_line row k n line [] s h = absurd cc
-stands_on_line row k n line (l ∷ ls) s h = by (spec_in l.node) n h (λ j. stands_on_line (row + lf_count l.text) (k + 1) j line ls s)
+stands_on_line : (k n line : ℕ) (lines : List Line) (s : Spec) → slice_get (numbered_specs k lines) n ≡ Some (line, s)
+    → IsLineOf k line s (numbered k lines) (specs_on k lines) n
+stands_on_line k n line [] s h = absurd cc
+stands_on_line k n line (l ∷ ls) s h = by (spec_in l.node) n h (λ j. stands_on_line (k + 1) j line ls s)
   where
-    later : (specs : List SpecOn) (i j : ℕ) → (slice_get specs j ≡ slice_get (specs_on (row + lf_count l.text) ls) i)
-        → IsLineOf (k + 1) line s (numbered (row + lf_count l.text) ls) (specs_on (row + lf_count l.text) ls) i → IsLineOf k line s (numbered row (l ∷ ls)) specs j
+    later : (specs : List SpecOn) (i j : ℕ) → (slice_get specs j ≡ slice_get (specs_on (k + 1) ls) i)
+        → IsLineOf (k + 1) line s (numbered (k + 1) ls) (specs_on (k + 1) ls) i → IsLineOf k line s (numbered k (l ∷ ls)) specs j
     later specs i j same r =
         let first = r.2 in
         let at : line ≡ k + suc r.0 = omega (arith, first) in
         (suc r.0, r.1, at, r.3, same ∙ r.4)
 
     by : (o : Option Spec) (j : ℕ) → slice_get (cons_option (option_map (λ (t : Spec). (k, t)) o) (numbered_specs (k + 1) ls)) j ≡ Some (line, s)
-        → ((i : ℕ) → slice_get (numbered_specs (k + 1) ls) i ≡ Some (line, s) → IsLineOf (k + 1) line s (numbered (row + lf_count l.text) ls) (specs_on (row + lf_count l.text) ls) i)
-        → IsLineOf k line s (numbered row (l ∷ ls)) (cons_option (option_map (spec_on (row, l)) o) (specs_on (row + lf_count l.text) ls)) j
-    by None j e more = later (specs_on (row + lf_count l.text) ls) j j refl (more j e)
+        → ((i : ℕ) → slice_get (numbered_specs (k + 1) ls) i ≡ Some (line, s) → IsLineOf (k + 1) line s (numbered (k + 1) ls) (specs_on (k + 1) ls) i)
+        → IsLineOf k line s (numbered k (l ∷ ls)) (cons_option (option_map (spec_on (k, l)) o) (specs_on (k + 1) ls)) j
+    by None j e more = later (specs_on (k + 1) ls) j j refl (more j e)
     by (Some t) zero e more =
         let both : (k, t) ≡ (line, s) = same_Some (k, t) (line, s) e in
-        (0, (row, l), counted k line (ap (λ (p : ℕ × Spec). p.0) both), refl, ap (λ (p : ℕ × Spec). Some (spec_on (row, l) p.1)) both)
-    by (Some t) (suc j) e more = later (spec_on (row, l) t ∷ specs_on (row + lf_count l.text) ls) j (suc j) refl (more j e)
+        (0, (k, l), counted k line (ap (λ (p : ℕ × Spec). p.0) both), refl, ap (λ (p : ℕ × Spec). Some (spec_on (k, l) p.1)) both)
+    by (Some t) (suc j) e more = later (spec_on (k, l) t ∷ specs_on (k + 1) ls) j (suc j) refl (more j e)
 
 pub none_is_not_some : {X : Type 0} (x : X) → None ≡ Some x → ⊥
 none_is_not_some x e = cc
 
 -- The rule of what was found: the line of its user specification, and its command.
 pub found_rule : (lines : List Line) (found : Found) → (is : IsFound lines found)
-    → (on : ℕ × Line) × (slice_get (numbered 1 lines) found.line ≡ Some on)
+    → (on : ℕ × Line) × (slice_get (numbered 0 lines) found.line ≡ Some on)
     × (deciding_rule lines (found_answer found) ≡ Some (rule_of (found_answer found) (spec_on on is.spec) (is.in_groups.in_group.head, member_shown found.member)))
 found_rule lines found is =
     let a : Answer = found_answer found in
-    let w = stands_on_line 1 0 found.answer.spec found.line lines is.spec is.stands in
+    let w = stands_on_line 0 found.answer.spec found.line lines is.spec is.stands in
     let at : SpecOn = spec_on w.1 is.spec in
     let first = w.2 in
     let number : found.line ≡ w.0 = omega (arith, first) in (
       w.1,
-      ap (slice_get (numbered 1 lines)) number ∙ w.3,
+      ap (slice_get (numbered 0 lines)) number ∙ w.3,
       ap (option_and_then (rule_in a)) w.4
           ∙ ap (λ group. option_map (rule_of a at) (command_at a.command group)) is.in_groups.stands
           ∙ ap (option_map (rule_of a at)) is.in_groups.in_group.stands,
@@ -174,7 +174,7 @@ rule_at : (lines : List Line) (a : Answer) (s : Spec) (g : HostGroup) (c : Head 
     → slice_get s.groups a.host_group ≡ Some g → slice_get (filled no_head g.commands) a.command ≡ Some c
     → (rule : Rule) × (deciding_rule lines a ≡ Some rule) × (rule.command.member ≡ c.1)
 rule_at lines a s g c there here this =
-    let on = stands_on 1 a.spec lines s there in
+    let on = stands_on 0 a.spec lines s there in
     let at : SpecOn = spec_on on.0 s in (
       rule_of a at c,
       ap (option_and_then (rule_in a)) on.1
@@ -244,16 +244,16 @@ rule_speaks lines request a rule is e =
     subst (Speaks lines (command_hits (command_line request))) (sym r.2 ∙ ap (λ (x : Rule). x.command.member) same) w.speaks
 
 -- A text names the rule, whose member decides or hides one that does.
-pub rule_named : (lines : List Line) (r : Request) (file user d text : List ℕ) (a : Answer) (rule : Rule) (inner : Option Inner) → user ≡ r.who.user.name
-    → deciding_rule lines a ≡ Some rule → IsInner lines (command_hits (command_line r)) rule.command.member inner
-    → text ≡ rule_text file user d a.allow rule ++ inner_text file lines inner → NamesRule lines r file d a text
-rule_named lines r file user d text a rule inner same e is t = record {
+pub rule_named : (policy : Loaded) (r : Request) (user d text : List ℕ) (a : Answer) (rule : Rule) (inner : Option Inner) → user ≡ r.who.user.name
+    → deciding_rule policy.walk.lines a ≡ Some rule → IsInner policy.walk.lines (command_hits (command_line r)) rule.command.member inner
+    → text ≡ rule_text policy user d a.allow rule ++ inner_text policy inner → NamesRule policy r d a text
+rule_named policy r user d text a rule inner same e is t = record {
   inner = inner;
-  is_inner = subst (λ o. IsInnerOf lines r o inner) (sym e) is;
+  is_inner = subst (λ o. IsInnerOf policy.walk.lines r o inner) (sym e) is;
   says =
       t
-      ∙ ap (λ u. rule_text file u d a.allow rule ++ inner_text file lines inner) same
-      ∙ ap (rule_with lines file r.who.user.name d a.allow inner) (sym e);
+      ∙ ap (λ u. rule_text policy u d a.allow rule ++ inner_text policy inner) same
+      ∙ ap (rule_with policy r.who.user.name d a.allow inner) (sym e);
 }
 
 -- ---- the place of an answer among those that are listed

@@ -72,7 +72,7 @@ group_at specs place = option_and_then (λ groups. slice_get groups place.host_g
 abbrev pub groups_at : List Line → List GroupPlace → List HostGroup
 groups_at lines places = filter_map (group_at (groups_in lines)) places
 
--- The text lists the host groups whose users and hosts match, in file order, with the commands of each.
+-- The text lists the host groups whose users and hosts match, in the order of the lines, with the commands of each.
 pub record IsListing (lines : List Line) (who : Who) (text : List ℕ) : Type 0 where
   pub places : List GroupPlace
   pub are_all : AreHostGroups lines who places

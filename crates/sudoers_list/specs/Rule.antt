@@ -1,48 +1,39 @@
 -- The rule by which a request is answered, and where it stands (sudoers(5), User specification).
-use Rattle.std.specs.Prelude.{ℕ, ◌+◌, Bool, List, [], ◌∷◌, take, slice_get, Option, option_and_then}
+use Rattle.std.specs.Prelude.{ℕ, ◌+◌, Bool, List, [], ◌∷◌, slice_get, Option, option_and_then}
 use Rattle.std.specs.List.{filter_map}
 use Rattle.std.specs.Option.{option_map}
-use Rattle.sudoers_text.specs.Fault.{lf_count}
 use Rattle.sudoers_line.specs.Node.{CmdSpec, HostGroup, Member}
 use Rattle.sudoers_line.specs.declared.node.Tag.{Tag}
 use Rattle.sudoers_line.specs.declared.node.Tag.TheVariants as tag
 use Rattle.sudoers_tree.specs.Line.{Line}
-use Rattle.sudoers_tree.specs.Physical.{column_behind}
 use Rattle.sudoers_match.specs.declared.tags.Tags.{Tags}
 use Rattle.sudoers_match.specs.Answer.{Answer}
 use Rattle.sudoers_match.specs.Heads.{Head, no_head, filled, listed, option_of}
 use Rattle.sudoers_match.specs.Specs.{Spec, spec_in}
 use Rattle.sudoers_cvt.specs.Effective.{listed_tags}
-use Rattle.sudoers_list.specs.declared.spot.Spot.{Spot}
-
--- ---- places
-
--- the place of a byte of a line, from 0, where the first physical line of the line has this number
-abbrev pub spot_in : ℕ → List ℕ → ℕ → Spot
-spot_in row text start = record { row = row + lf_count (take start text); col = column_behind (take start text) }
-
--- lines, each with the number of its first physical line; row: that of the first of them
-abbrev pub numbered : ℕ → List Line → List (ℕ × Line)
-numbered row [] = []
-numbered row (line ∷ lines) = (row, line) ∷ numbered (row + lf_count line.text) lines
 
 -- ---- user specifications
 
--- the host groups of a user specification, with its line and the number of its first physical line
+-- lines, each with its number, from this on
+abbrev pub numbered : ℕ → List Line → List (ℕ × Line)
+numbered n [] = []
+numbered n (line ∷ lines) = (n, line) ∷ numbered (n + 1) lines
+
+-- the host groups of a user specification, with its line and the number of the line
 pub record SpecOn : Type 0 where
-  pub row : ℕ
+  pub line : ℕ
   pub text : List ℕ
   pub groups : List HostGroup
 
 abbrev pub spec_on : ℕ × Line → Spec → SpecOn
-spec_on l s = record { row = l.0; text = l.1.text; groups = s.groups }
+spec_on l s = record { line = l.0; text = l.1.text; groups = s.groups }
 
 abbrev pub groups_on : ℕ × Line → Option SpecOn
 groups_on l = option_map (spec_on l) (spec_in l.1.node)
 
--- those of each user specification, in file order
+-- those of each user specification, in their order, of lines that are numbered from this on
 abbrev pub specs_on : ℕ → List Line → List SpecOn
-specs_on row lines = filter_map groups_on (numbered row lines)
+specs_on n lines = filter_map groups_on (numbered n lines)
 
 -- ---- the rule
 
@@ -65,17 +56,19 @@ said_by t tag.Setenv = t.setenv
 abbrev pub answered : Tags → Head × Member → CmdSpec
 answered tags c = record { runas = c.0.runas; options = listed (option_of c.0.options); tags = listed_tags (said_by tags); member = c.1 }
 
--- a command by which a request is answered, and the place of its member
+-- a command by which a request is answered, and the line on which it stands: its number on the walk, from 0, and its text. The member of
+-- the command says at which byte of the line it begins
 pub record Rule : Type 0 where
-  pub spot : Spot
+  pub line : ℕ
+  pub text : List ℕ
   pub command : CmdSpec
 
 abbrev pub rule_of : Answer → SpecOn → Head × Member → Rule
-rule_of a spec c = record { spot = spot_in spec.row spec.text c.1.start; command = answered a.tags c }
+rule_of a spec c = record { line = spec.line; text = spec.text; command = answered a.tags c }
 
 abbrev pub rule_in : Answer → SpecOn → Option Rule
 rule_in a spec = option_map (rule_of a spec) (command_at a.command (slice_get spec.groups a.host_group))
 
 -- the command by which the request is answered
 abbrev pub deciding_rule : List Line → Answer → Option Rule
-deciding_rule lines a = option_and_then (rule_in a) (slice_get (specs_on 1 lines) a.spec)
+deciding_rule lines a = option_and_then (rule_in a) (slice_get (specs_on 0 lines) a.spec)

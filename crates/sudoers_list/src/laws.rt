@@ -3,6 +3,7 @@
 ghost use Rattle.std.specs.Prelude.{◌≡◌, ℕ, List, Option, Some};
 ghost use Rattle.sudoers_line.specs.Node.{HostGroup as HostGroupOf};
 ghost use Rattle.sudoers_tree.specs.Line.{Line as LineOf};
+ghost use Rattle.sudoers_tree.specs.Load.{Loaded as LoadedOf};
 ghost use Rattle.sudoers_check.specs.Chain.{Has};
 ghost use Rattle.sudoers_match_member.specs.declared.asked.Who.{Who as WhoOf};
 ghost use Rattle.sudoers_match.specs.declared.groups.GroupPlace.{GroupPlace as GroupPlaceOf};
@@ -25,8 +26,8 @@ pub fn one_listing()
 
 /// A request with its answer has at most one text of `explain`.
 pub fn one_reason()
-    ensures { (lines : List LineOf) (request : RequestOf) (file : List ℕ) (answer : Option AnswerOf) (text other : List ℕ)
-        → IsReason lines request file answer text → IsReason lines request file answer other → text ≡ other }
+    ensures { (policy : LoadedOf) (request : RequestOf) (answer : Option AnswerOf) (text other : List ℕ)
+        → IsReason policy request answer text → IsReason policy request answer other → text ≡ other }
 {
     one_runas_default();
 }

@@ -59,9 +59,9 @@ fn append_heading(
 ///
 /// `Cycle`: a reachable alias is cyclic. `NoMemory`: memory ran out.
 pub fn list(alloc: Global, policy: &Policy, who: &Who) -> Result<Vec<u8>, AskFault>
-    ensures text { IfOk result (λ text. IsListing policy.now who.now text.items) }
-    ensures straight { IfOk result (λ _. HasReachableCycle policy.now → ⊥) }
-    ensures fault { IfErr result (λ fault. (fault ≡ NoMemory) ⊎ ((fault ≡ Cycle) × HasReachableCycle policy.now)) }
+    ensures text { IfOk result (λ text. IsListing policy.now.walk.lines who.now text.items) }
+    ensures straight { IfOk result (λ _. HasReachableCycle policy.now.walk.lines → ⊥) }
+    ensures fault { IfErr result (λ fault. (fault ≡ NoMemory) ⊎ ((fault ≡ Cycle) × HasReachableCycle policy.now.walk.lines)) }
 {
     let policy = Acyclic::new(alloc, policy.walk())?;
     let default = find_default(alloc, &policy, who)?;

@@ -49,11 +49,11 @@ pub fn answer<'a>(
     policy: &'a Policy,
     request: &Request,
 ) -> Result<Option<Answer<'a>>, AskFault>
-    ensures answer { IfOk result (λ answer. IsAnswer policy.now request.now (option_map answer_shown answer)) }
-    ensures straight { IfOk result (λ _. HasReachableCycle policy.now → ⊥) }
+    ensures answer { IfOk result (λ answer. IsAnswer policy.now.walk.lines request.now (option_map answer_shown answer)) }
+    ensures straight { IfOk result (λ _. HasReachableCycle policy.now.walk.lines → ⊥) }
     ensures short { IfOk result (λ _. length (joined request.now.args) ≤ argument_limit) }
-    ensures fault { IfErr result (λ fault. (fault ≡ NoMemory) ⊎ (((fault ≡ Cycle) × HasReachableCycle policy.now)
-        ⊎ ((fault ≡ TooLong) × (HasReachableCycle policy.now → ⊥) × (argument_limit < length (joined request.now.args))))) }
+    ensures fault { IfErr result (λ fault. (fault ≡ NoMemory) ⊎ (((fault ≡ Cycle) × HasReachableCycle policy.now.walk.lines)
+        ⊎ ((fault ≡ TooLong) × (HasReachableCycle policy.now.walk.lines → ⊥) × (argument_limit < length (joined request.now.args))))) }
 {
     let policy = Acyclic::new(alloc, policy.walk())?;
     let default = find_default(alloc, &policy, &request.who)?;

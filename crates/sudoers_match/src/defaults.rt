@@ -60,9 +60,9 @@ fn find_setting<'a>(params: &Rows<'a, ParamRow>) -> Option<&'a [u8]>
 ///
 /// `Cycle`: a reachable alias is cyclic. `NoMemory`: memory ran out.
 pub fn runas_default<'a>(alloc: Global, policy: &'a Policy, who: &Who) -> Result<&'a [u8], AskFault>
-    ensures name { IfOk result (λ name. IsRunasDefault policy.now who.now name.now) }
-    ensures straight { IfOk result (λ _. HasReachableCycle policy.now → ⊥) }
-    ensures fault { IfErr result (λ fault. (fault ≡ NoMemory) ⊎ ((fault ≡ Cycle) × HasReachableCycle policy.now)) }
+    ensures name { IfOk result (λ name. IsRunasDefault policy.now.walk.lines who.now name.now) }
+    ensures straight { IfOk result (λ _. HasReachableCycle policy.now.walk.lines → ⊥) }
+    ensures fault { IfErr result (λ fault. (fault ≡ NoMemory) ⊎ ((fault ≡ Cycle) × HasReachableCycle policy.now.walk.lines)) }
 {
     let policy = Acyclic::new(alloc, policy.walk())?;
     Ok(find_default(alloc, &policy, who)?)

@@ -32,9 +32,9 @@ pub struct GroupPlace {
 ///
 /// `Cycle`: a reachable alias is cyclic. `NoMemory`: memory ran out.
 pub fn host_groups(alloc: Global, policy: &Policy, who: &Who) -> Result<Vec<GroupPlace>, AskFault>
-    ensures groups { IfOk result (λ places. AreHostGroups policy.now who.now places.items) }
-    ensures straight { IfOk result (λ _. HasReachableCycle policy.now → ⊥) }
-    ensures fault { IfErr result (λ fault. (fault ≡ NoMemory) ⊎ ((fault ≡ Cycle) × HasReachableCycle policy.now)) }
+    ensures groups { IfOk result (λ places. AreHostGroups policy.now.walk.lines who.now places.items) }
+    ensures straight { IfOk result (λ _. HasReachableCycle policy.now.walk.lines → ⊥) }
+    ensures fault { IfErr result (λ fault. (fault ≡ NoMemory) ⊎ ((fault ≡ Cycle) × HasReachableCycle policy.now.walk.lines)) }
 {
     let policy = Acyclic::new(alloc, policy.walk())?;
     Ok(find_host_groups(alloc, &policy, who)?)

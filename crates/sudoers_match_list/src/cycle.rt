@@ -135,7 +135,7 @@ impl<'a> ByKind<'a> {
 ///
 /// Memory ran out.
 pub fn reachable_cycle(alloc: Global, policy: &Policy) -> Result<bool, AllocError>
-    ensures { IfOk result (λ cycle. IsTrue cycle ↔ HasReachableCycle policy.now) }
+    ensures { IfOk result (λ cycle. IsTrue cycle ↔ HasReachableCycle policy.now.walk.lines) }
 {
     has_reachable_cycle(alloc, &Numbers::new(alloc, policy.walk())?)
 }

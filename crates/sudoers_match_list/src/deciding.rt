@@ -28,10 +28,10 @@ pub fn decide<K: MemberKind>(
     members: &Rows<'_, MemberRow>,
     asked: &K::Asked,
 ) -> Result<Verdict, AskFault>
-    ensures verdict { IfOk result (λ verdict. IsVerdict kind policy.now (K.test asked.now) (members_shown members.now) verdict) }
-    ensures straight { IfOk result (λ verdict. (HasReachableCycle policy.now ⊎ LeadsToCycle kind policy.now (members_shown members.now)) → ⊥) }
+    ensures verdict { IfOk result (λ verdict. IsVerdict kind policy.now.walk.lines (K.test asked.now) (members_shown members.now) verdict) }
+    ensures straight { IfOk result (λ verdict. (HasReachableCycle policy.now.walk.lines ⊎ LeadsToCycle kind policy.now.walk.lines (members_shown members.now)) → ⊥) }
     ensures fault { IfErr result (λ fault. (fault ≡ NoMemory)
-        ⊎ ((fault ≡ Cycle) × (HasReachableCycle policy.now ⊎ LeadsToCycle kind policy.now (members_shown members.now)))) }
+        ⊎ ((fault ≡ Cycle) × (HasReachableCycle policy.now.walk.lines ⊎ LeadsToCycle kind policy.now.walk.lines (members_shown members.now)))) }
 {
     policy.walk().is_walk();
     flat_then_no_cycle();

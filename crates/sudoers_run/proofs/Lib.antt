@@ -3,7 +3,6 @@ mod OutputLemmas
 mod PolicyLemmas
 mod ProgramLemmas
 mod ShowLemmas
-mod ConvertLemmas
 mod RewriteLemmas
 mod ListLemmas
 mod ListEnds

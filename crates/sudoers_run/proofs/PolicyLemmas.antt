@@ -1,31 +1,58 @@
--- The policy of a file, and how the reading of the file ended.
-use Rattle.std.proofs.Common.{◌≡◌, ◌≢◌, ◌⊎◌, inl, inr, ◌∙◌, ◌<◌, ◌≤◌, ◌+◌, ◌++◌, ⊎_elim, ℕ, List, length, Option, Some, None, IfSome, Result, Ok, Err, Vec, Global, IfErr, refl, sym, ap, subst, arith}
+-- The policy of files that are gathered, and fronts of texts.
+use Rattle.std.proofs.Common.{◌≡◌, ◌⊎◌, inl, inr, ◌∙◌, ◌<◌, ◌≤◌, ◌+◌, ◌++◌, ⊎_elim, ℕ, List, length, Option, Some, None, IfSome, Result, Ok, Err, Vec, Global, refl, sym, ap, subst, arith}
 use Rattle.std.proofs.lemmas.Bool.{lt-ltb, le-ltb, cases_lt}
 use Rattle.std.proofs.lemmas.List.{length-append}
 use Rattle.std.specs.Prelude.{if◌then◌else◌}
 use Rattle.std.specs.Io.KnownBytes.{Consumes}
-use Rattle.sudoers_text.specs.Cut.{cut_of}
 use Rattle.sudoers_text.specs.Fault.{text_limit}
-use Rattle.sudoers_text.specs.declared.fault.TextFault.TheVariants as text
-use Rattle.sudoers_tree.specs.Line.{Line}
-use Rattle.sudoers_tree.specs.declared.fault.ReadFault.{ReadFault}
-use Rattle.sudoers_tree.specs.declared.fault.ReadFault.TheVariants as read
-use Rattle.sudoers_tree.specs.Fault.{IsFaultOf}
-use Rattle.sudoers_tree.specs.Reading.{ReadGives, read_of}
-use Rattle.sudoers_edit.specs.Memory.{IsOfText}
+use Rattle.sudoers_tree.specs.declared.load.NamedFile.{NamedFile}
+use Rattle.sudoers_tree.specs.declared.load_fault.LoadFault.{LoadFault}
+use Rattle.sudoers_tree.specs.Load.{Loaded}
+use Rattle.sudoers_files.specs.declared.fault.GatherFault.{GatherFault}
+use Rattle.sudoers_files.specs.Shelf.{Shelf}
 use Rattle.sudoers_run.specs.declared.fault.LayerFault.{LayerFault}
 use Rattle.sudoers_run.specs.declared.fault.LayerFault.TheVariants as layer
 use Rattle.sudoers_run.specs.declared.fault.ToolFault.TheVariants as tool
 use Rattle.sudoers_run.specs.Device.{Meter}
-use Rattle.sudoers_run.specs.Policy.{IsOfReader, file_end, policy_end}
-use Rattle.sudoers_run.specs.Reading.{IsFront, IsTextOf, ReadsFile, TooLarge, WasRead, Whole, front_end}
-use Rattle.sudoers_run.proofs.InputLemmas.{no_memory}
+use Rattle.sudoers_run.specs.Policy.{IsOutside, IsPolicyOf, Searches, TellsFiles, TellsGather, of_files, of_gathered}
+use Rattle.sudoers_run.specs.Program.{TellsLayer}
+use Rattle.sudoers_run.specs.Reading.{IsFront, IsTextOf, TooLarge, WasRead, Whole, front_end}
 
--- ---- fronts
+-- ---- files
 
-pub read_large : (input : List ℕ) → text_limit < length input → read_of input ≡ Err (read.Text text.TooLarge)
-unfolding read_of cut_of
-read_large input large = rw (lt-ltb text_limit (length input) large) refl
+-- What follows of known files, if they are known.
+pub if_known : (o : Option (List NamedFile)) (P Q : List NamedFile → Type 0) → ((known : List NamedFile) → P known → Q known) → IfSome o P → IfSome o Q
+if_known None P Q follows is = tt
+if_known (Some known) P Q follows is = follows known is
+
+-- what comes of the policy that is loaded
+pub loaded_as : {A : Type 0} (next : Result Loaded LoadFault → Result A LayerFault) (root : List ℕ) (policy : Result Loaded LoadFault) (known : List NamedFile)
+    → IsPolicyOf root policy known → of_files next root known ≡ next policy
+loaded_as next root policy known is = ap (of_gathered next) is.gathers ∙ ap next is.loads
+
+-- The fault with which no policy is loaded is the stated one.
+pub unloaded : {A : Type 0} (next : Result Loaded LoadFault → Result A LayerFault) (root : List ℕ) (fault : LayerFault) (known : List NamedFile)
+    → TellsGather root fault known → TellsFiles fault (of_files next root known)
+unloaded next root fault known (inl outside) = inl outside
+unloaded next root fault known (inr why) = inr (ap (of_gathered next) why.2 ∙ ap (λ f. Err f) (sym why.1))
+
+-- So is a fault to which the policy leads.
+pub leads_to : {A : Type 0} (next : Result Loaded LoadFault → Result A LayerFault) (root : List ℕ) (policy : Result Loaded LoadFault) (fault : LayerFault) (known : List NamedFile)
+    → TellsLayer fault (next policy) → IsPolicyOf root policy known → TellsFiles fault (of_files next root known)
+leads_to next root policy fault known (inl memory) is = inl (subst IsOutside (sym memory) tt)
+leads_to next root policy fault known (inr e) is = inr (loaded_as next root policy known is ∙ e)
+
+-- The files stay, and their counts.
+abbrev pub Stay : Shelf → Shelf → Type 0
+Stay old new = (new.files ≡ old.files) × (new.failures ≡ old.failures) × (new.endless ≡ old.endless)
+
+-- They stay with a fault that is not of gathering.
+pub stays : (P : LayerFault → Type 0) → ((why : GatherFault) → P (layer.Gather why) → ⊥) → (fault : LayerFault) (old new : Shelf) → P fault → Stay old new
+    → Searches {A = ℕ} (Err (tool.Layer fault)) old new
+stays P none (layer.Gather why) old new is stay = absurd (none why is)
+stays P none fault old new is stay = stay
+
+-- ---- fronts of texts
 
 -- It says what the file says: it is all of it, or both are too large.
 abbrev pub Stands : List ℕ → List ℕ → Type 0
@@ -59,50 +86,6 @@ stands_for (Some known) front is = is
 pub stands : (old new : Meter) (front : List ℕ) → IsFront text_limit old new front → Stands front (text_of old.remaining front)
 stands old new front is = stands_for old.remaining front (stands_by old.remaining new.remaining front is.taken is.all)
 
-same_policy : (front known : List ℕ) → Stands front known → read_of front ≡ read_of known
-same_policy front known (inl e) = ap read_of e
-same_policy front known (inr h) = read_large front h.0 ∙ sym (read_large known h.1)
-
--- ---- what was loaded
-
--- What a front says is the policy of the reader.
-pub of_reader : (old new : Meter) (front : List ℕ) (policy : Result (List Line) ReadFault) → IsFront text_limit old new front → read_of front ≡ policy → IsOfReader old policy
-of_reader old new front policy is e = record {
-  input = text_of old.remaining front;
-  is_text = is_text old front;
-  outcome = sym (same_policy front (text_of old.remaining front) (stands old new front is)) ∙ e;
-}
-
--- What was returned, if memory did not run out.
-pub gives : (policy outcome : Result (List Line) ReadFault) → ReadGives policy outcome → policy ≢ Err read.NoMemory → outcome ≡ policy
-gives (Ok lines) outcome is other = is
-gives (Err (read.Text fault)) outcome is other = is
-gives (Err (read.Syntax row col why)) outcome is other = is
-gives (Err (read.Reserved k name)) outcome is other = is
-gives (Err (read.Duplicate k name)) outcome is other = is
-gives (Err (read.TooMany k)) outcome is other = is
-gives (Err (read.NotLoaded row name)) outcome is other = is
-gives (Err (read.Twice row name)) outcome is other = is
-gives (Err (read.TooDeep row)) outcome is other = is
-gives (Err read.NoMemory) outcome is other = absurd (other refl)
-
-not_large : (policy : Result (List Line) ReadFault) → policy ≢ Err (read.Text text.TooLarge) → policy_end policy ≡ Whole
-not_large (Err (read.Text text.TooLarge)) other = absurd (other refl)
-not_large policy other = refl
-
-is_large : (input : List ℕ) (policy : Result (List Line) ReadFault) → IfErr policy (λ fault. (fault ≡ read.NoMemory) ⊎ IsFaultOf input fault) → policy ≡ Err (read.Text text.TooLarge) → text_limit < length input
-is_large input policy faults e = ⊎_elim (λ (no : read.Text text.TooLarge ≡ read.NoMemory). absurd cc) (λ h. h) (subst (λ p. IfErr p (λ fault. (fault ≡ read.NoMemory) ⊎ IsFaultOf input fault)) e faults)
-
--- How the reading of a front ended, by the policy.
-pub end_of : (front : Vec ℕ Global) (policy : Result (List Line) ReadFault) → read_of front.items ≡ policy → IfErr policy (λ fault. (fault ≡ read.NoMemory) ⊎ IsFaultOf front.items fault)
-    → front_end text_limit (Ok front) ≡ policy_end policy
-end_of front policy is faults =
-    ⊎_elim
-    (λ h. ap (λ b. if b then TooLarge else Whole) (lt-ltb text_limit (length front.items) h) ∙ ap policy_end (sym (read_large front.items h) ∙ is))
-    (λ h. ap (λ b. if b then TooLarge else Whole) (le-ltb text_limit (length front.items) h)
-    ∙ sym (not_large policy (λ e. let large : text_limit < length front.items = is_large front.items policy faults e in absurd (omega (arith, h, large)))))
-    (cases_lt text_limit (length front.items))
-
 -- A front was read.
 pub front_was_read : (limit : ℕ) (front : Vec ℕ Global) → WasRead (front_end limit (Ok front))
 front_was_read limit front =
@@ -110,42 +93,3 @@ front_was_read limit front =
     (λ h. subst WasRead (sym (ap (λ b. if b then TooLarge else Whole) (lt-ltb limit (length front.items) h))) tt)
     (λ h. subst WasRead (sym (ap (λ b. if b then TooLarge else Whole) (le-ltb limit (length front.items) h))) tt)
     (cases_lt limit (length front.items))
-
-pub policy_was_read : (policy : Result (List Line) ReadFault) → WasRead (policy_end policy)
-policy_was_read (Err (read.Text text.TooLarge)) = tt
-policy_was_read policy = tt
-
--- ---- what comes of it
-
--- a fault that a policy leads to
-abbrev pub IsLater : LayerFault → Type 0
-IsLater (layer.Policy fault) = ⊥
-IsLater layer.NoMemory = ⊥
-IsLater fault = Unit {0}
-
-later_end : (fault : LayerFault) → IsLater fault → file_end {A = ℕ} (Err (tool.Layer fault)) ≡ Whole
-later_end (layer.Policy f) later = absurd later
-later_end layer.NoMemory later = absurd later
-later_end fault later = refl
-
--- A fault is want of memory, or that of the policy, or one to which the policy leads.
-abbrev pub IsToldOf : Result (List Line) ReadFault → LayerFault → Type 0
-IsToldOf policy fault =
-    (fault ≡ layer.NoMemory) ⊎ (((f : ReadFault) × (policy ≡ Err f) × (fault ≡ layer.Policy f)) ⊎ ((lines : List Line) × (policy ≡ Ok lines) × IsLater fault))
-
--- How the reading of a policy's file ended, by the fault that comes of it.
-pub file_told : (policy : Result (List Line) ReadFault) (fault : LayerFault) (old new : Meter) → ReadsFile text_limit (policy_end policy) old new → IsToldOf policy fault
-    → ReadsFile text_limit (file_end {A = ℕ} (Err (tool.Layer fault))) old new
-file_told policy fault old new reads (inl e) =
-    subst (λ x. ReadsFile text_limit (file_end {A = ℕ} (Err (tool.Layer x))) old new) (sym e) (no_memory text_limit (policy_end policy) old new (policy_was_read policy) reads)
-file_told policy fault old new reads (inr (inl is)) =
-    subst (λ x. ReadsFile text_limit (file_end {A = ℕ} (Err (tool.Layer x))) old new) (sym is.2) (subst (λ p. ReadsFile text_limit (policy_end p) old new) is.1 reads)
-file_told policy fault old new reads (inr (inr is)) =
-    subst (λ how. ReadsFile text_limit how old new) (sym (later_end fault is.2)) (subst (λ p. ReadsFile text_limit (policy_end p) old new) is.1 reads)
-
--- A fault of a text is not want of memory, nor holds it.
-pub of_text : (input : List ℕ) (fault : ReadFault) → fault ≢ read.NoMemory → (fault ≡ read.NoMemory) ⊎ IsFaultOf input fault → IsOfText fault
-of_text input fault other (inl e) = absurd (other e)
-of_text input (read.Text text.NoMemory) other (inr is) = absurd is
-of_text input read.NoMemory other (inr is) = absurd (other refl)
-of_text input fault other (inr is) = tt

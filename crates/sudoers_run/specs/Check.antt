@@ -1,43 +1,37 @@
--- What `check` writes for a policy file.
+-- What `check` writes for a policy.
 use Rattle.std.specs.Prelude.{◌≡◌, ℕ, Bool, if◌then◌else◌, List, [], ◌++◌, codes, Result, Ok, Err}
-use Rattle.sudoers_text.specs.Fault.{text_limit}
-use Rattle.sudoers_tree.specs.Line.{Line}
-use Rattle.sudoers_tree.specs.declared.fault.ReadFault.{ReadFault}
+use Rattle.sudoers_tree.specs.declared.load.NamedFile.{NamedFile}
+use Rattle.sudoers_tree.specs.declared.load_fault.LoadFault.{LoadFault}
+use Rattle.sudoers_tree.specs.Load.{Loaded}
 use Rattle.sudoers_check.specs.Report.{report_of, report_text, is_fine}
 use Rattle.sudoers_run.specs.declared.fault.LayerFault.{LayerFault}
-use Rattle.sudoers_run.specs.declared.fault.LayerFault.TheVariants as layer
 use Rattle.sudoers_run.specs.declared.fault.ToolFault.{ToolFault}
-use Rattle.sudoers_run.specs.declared.fault.ToolFault.TheVariants as tool
-use Rattle.sudoers_run.specs.Device.{Meter}
-use Rattle.sudoers_run.specs.Policy.{policy_of}
-use Rattle.sudoers_run.specs.Reading.{ReadingEnd, ReadsFile, TooLarge, reading_end}
-use Rattle.sudoers_run.specs.Faults.{DeviceOr}
-use Rattle.sudoers_run.specs.FaultText.{text_of_read}
+use Rattle.sudoers_run.specs.Policy.{IsUnloaded, TellsFiles, of_files}
+use Rattle.sudoers_run.specs.Faults.{WriteOr}
+use Rattle.sudoers_run.specs.FaultText.{text_of_load}
 
--- the report on a policy, or the fault of a text that is none
-abbrev pub check_text : List ℕ → Bool → Result (List Line) ReadFault → List ℕ
-check_text file strict (Ok lines) = report_text file strict (report_of lines)
-check_text file strict (Err fault) = text_of_read fault file ++ codes "\n"
+-- the report on a policy, or the fault of files that are none
+abbrev pub check_text : Bool → Result Loaded LoadFault → List ℕ
+check_text strict (Ok policy) = report_text policy strict (report_of policy.walk)
+check_text strict (Err fault) = text_of_load fault ++ codes "\n"
 
 -- 0 for a policy that is fine, else 1
-abbrev pub check_status : Bool → Result (List Line) ReadFault → ℕ
-check_status strict (Ok lines) = if is_fine strict (report_of lines) then 0 else 1
+abbrev pub check_status : Bool → Result Loaded LoadFault → ℕ
+check_status strict (Ok policy) = if is_fine strict (report_of policy.walk) then 0 else 1
 check_status strict (Err fault) = 1
 
+-- the status for the policy that these files are from `root` on
+abbrev pub status_of : Bool → List ℕ → List NamedFile → Result ℕ LayerFault
+status_of strict root known = of_files (λ policy. Ok (check_status strict policy)) root known
+
 -- what is written: nothing, if it is to be quiet
-abbrev pub check_output : List ℕ → Bool → Bool → List ℕ → List ℕ
-check_output file quiet strict input = if quiet then [] else check_text file strict (policy_of input)
+abbrev pub check_output : Bool → Bool → List ℕ → List NamedFile → Result (List ℕ) LayerFault
+check_output quiet strict root known = of_files (λ policy. Ok (if quiet then [] else check_text strict policy)) root known
 
--- the faults of checking a file; those of the file are told in what is written
+-- a fault that gathering the files has; those of the devices and of memory say nothing of them
+abbrev pub TellsCheck : Bool → List ℕ → ToolFault → List NamedFile → Type 0
+TellsCheck strict root fault known = WriteOr (λ (said : LayerFault). TellsFiles said (status_of strict root known)) fault
+
+-- The faults of checking a policy. Those of files that are loaded are told in what is written.
 abbrev pub IsCheckFault : ToolFault → Type 0
-IsCheckFault fault = DeviceOr (λ (said : LayerFault). said ≡ layer.NoMemory) fault
-
--- How the reading of the file ended, by what comes of a run. A file that is too large is reported in what is printed, with status 1.
-abbrev pub IsCheckEnd : Result ℕ ToolFault → ReadingEnd → Type 0
-IsCheckEnd (Ok status) TooLarge = status ≡ 1
-IsCheckEnd (Err tool.Write) TooLarge = Unit {0}
-IsCheckEnd result how = how ≡ reading_end result
-
--- what checking a file does to its reader
-abbrev pub ReadsChecked : Result ℕ ToolFault → Meter → Meter → Type 0
-ReadsChecked result old new = (how : ReadingEnd) × IsCheckEnd result how × ReadsFile text_limit how old new
+IsCheckFault fault = WriteOr IsUnloaded fault

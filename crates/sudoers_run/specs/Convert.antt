@@ -1,9 +1,11 @@
--- What `convert` writes for a policy file.
+-- What `convert` writes for a policy.
 use Rattle.std.specs.Prelude.{◌≡◌, ◌⊎◌, ◌&&◌, ◌||◌, nat_lt, ℕ, Bool, true, List, Option, Some, None, Result, Ok, Err, if◌then◌else◌}
 use Rattle.std.specs.Borrow.{Bor}
 use Rattle.std.specs.Option.{is_some, option_map}
 use Rattle.sudoers_tree.specs.Line.{Line}
-use Rattle.sudoers_tree.specs.declared.fault.ReadFault.{ReadFault}
+use Rattle.sudoers_tree.specs.declared.load.NamedFile.{NamedFile}
+use Rattle.sudoers_tree.specs.declared.load_fault.LoadFault.{LoadFault}
+use Rattle.sudoers_tree.specs.Load.{Loaded}
 use Rattle.sudoers_cvt.specs.declared.fault.CvtFault.{CvtFault}
 use Rattle.sudoers_cvt.specs.declared.fault.CvtFault.TheVariants.{Cycle, TooLarge, NotUtf8}
 use Rattle.sudoers_cvt.specs.Rules.{Rules, rules_of, fits, printed}
@@ -20,10 +22,8 @@ use Rattle.sudoers_run.specs.declared.words.ConvertWords.{ConvertWords}
 use Rattle.sudoers_run.specs.declared.fault.LayerFault.{LayerFault}
 use Rattle.sudoers_run.specs.declared.fault.LayerFault.TheVariants as layer
 use Rattle.sudoers_run.specs.declared.fault.ToolFault.{ToolFault}
-use Rattle.sudoers_edit.specs.Memory.{IsOfText}
-use Rattle.sudoers_run.specs.Faults.{DeviceOr, IsPairFault}
-use Rattle.sudoers_run.specs.Policy.{policy_of}
-use Rattle.sudoers_run.specs.Program.{TellsLayer}
+use Rattle.sudoers_run.specs.Faults.{IsPairFault, WriteOr}
+use Rattle.sudoers_run.specs.Policy.{IsOfFiles, IsUnloaded, TellsFiles, of_files}
 
 -- rules as the text of a policy, if it is within the limits; or as JSON, if all their texts are UTF-8
 abbrev pub converted : Form → Rules → Result (List ℕ) LayerFault
@@ -63,17 +63,18 @@ convert_filtered words lines (Err fault) = Err fault
 abbrev pub convert_lines : ConvertWords → List Line → Result (List ℕ) LayerFault
 convert_lines words lines = convert_filtered words lines (filter_in (filter_text words))
 
--- the rules of a policy in this form, or the fault of a text that is none
-abbrev pub convert_read : ConvertWords → Result (List Line) ReadFault → Result (List ℕ) LayerFault
-convert_read words (Ok lines) = convert_lines words lines
-convert_read words (Err fault) = Err (layer.Policy fault)
+-- the rules of a policy in this form, or the fault of files that are none
+abbrev pub convert_read : ConvertWords → Result Loaded LoadFault → Result (List ℕ) LayerFault
+convert_read words (Ok policy) = convert_lines words policy.walk.lines
+convert_read words (Err fault) = Err (layer.Load fault)
 
-abbrev pub convert_output : ConvertWords → List ℕ → Result (List ℕ) LayerFault
-convert_output words input = convert_read words (policy_of input)
+-- the same of the policy that these files are from `root` on
+abbrev pub convert_output : ConvertWords → List ℕ → List NamedFile → Result (List ℕ) LayerFault
+convert_output words root known = of_files (convert_read words) root known
 
--- a fault that the file has, or the words; those of the devices and of memory say nothing of them
-abbrev pub TellsConvert : ConvertWords → ToolFault → List ℕ → Type 0
-TellsConvert words fault input = DeviceOr (λ (said : LayerFault). TellsLayer said (convert_output words input)) fault
+-- a fault that the files have, or the words; those of the devices and of memory say nothing of them
+abbrev pub TellsConvert : ConvertWords → List ℕ → ToolFault → List NamedFile → Type 0
+TellsConvert words root fault known = WriteOr (λ (said : LayerFault). TellsFiles said (convert_output words root known)) fault
 
 -- the one fault that rules can have in this form
 abbrev pub form_fault : Form → CvtFault
@@ -84,6 +85,8 @@ form_fault form.Json = NotUtf8
 abbrev pub IsFilterFault : LayerFault → Type 0
 IsFilterFault (layer.Filter fault) = IsPairFault fault
 IsFilterFault (layer.Policy fault) = ⊥
+IsFilterFault (layer.Gather fault) = ⊥
+IsFilterFault (layer.Load fault) = ⊥
 IsFilterFault (layer.Convert fault) = ⊥
 IsFilterFault (layer.Script fault) = ⊥
 IsFilterFault (layer.Edit place fault) = ⊥
@@ -104,17 +107,20 @@ IsConversionFault words fault =
     (fault ≡ form_fault words.form)
     ⊎ (((fault ≡ Cycle) × ((is_some (filter_text words) || words.expand) ≡ true)) ⊎ ((fault ≡ TooLarge) × (words.expand ≡ true)))
 
--- The faults of converting a file. A fault of a filter is that of the words.
+-- The faults of converting files that are gathered. A fault of a filter is that of the words.
 abbrev pub IsRulesFault : ConvertWords → LayerFault → Type 0
-IsRulesFault words (layer.Policy fault) = IsOfText fault
+IsRulesFault words (layer.Load fault) = IsOfFiles fault
+IsRulesFault words (layer.Gather fault) = ⊥
 IsRulesFault words layer.NoMemory = Unit {0}
 IsRulesFault words (layer.Convert fault) = IsConversionFault words fault
 IsRulesFault words (layer.Filter fault) = IsPairFault fault × (filter_in (filter_text words) ≡ Err (layer.Filter fault))
+IsRulesFault words (layer.Policy fault) = ⊥
 IsRulesFault words (layer.Script fault) = ⊥
 IsRulesFault words (layer.Edit place fault) = ⊥
 IsRulesFault words (layer.People fault) = ⊥
 IsRulesFault words (layer.Who fault) = ⊥
 IsRulesFault words (layer.Ask fault) = ⊥
 
+-- the faults of converting a policy
 abbrev pub IsConvertFault : ConvertWords → ToolFault → Type 0
-IsConvertFault words fault = DeviceOr (IsRulesFault words) fault
+IsConvertFault words fault = WriteOr (λ (said : LayerFault). IsUnloaded said ⊎ IsRulesFault words said) fault

@@ -9,6 +9,11 @@ use Rattle.sudoers_line.specs.declared.node.Kind.{Kind}
 use Rattle.sudoers_tree.specs.declared.fault.ReadFault.{ReadFault}
 use Rattle.sudoers_tree.specs.declared.fault.ReadFault.TheVariants as read
 use Rattle.sudoers_line.specs.Kind.{kind_name}
+use Rattle.sudoers_tree.specs.declared.load_fault.LoadFault.{LoadFault}
+use Rattle.sudoers_tree.specs.declared.load_fault.LoadFault.TheVariants as load
+use Rattle.sudoers_files.specs.declared.fault.FileFault.TheVariants as file_fault
+use Rattle.sudoers_files.specs.declared.fault.GatherFault.{GatherFault}
+use Rattle.sudoers_files.specs.declared.fault.GatherFault.TheVariants as gather
 use Rattle.sudoers_edit.specs.declared.fault.EditFault.{EditFault}
 use Rattle.sudoers_edit.specs.declared.fault.EditFault.TheVariants as edit
 use Rattle.sudoers_edit_script.specs.declared.script.ScriptFault.{ScriptFault}
@@ -69,6 +74,22 @@ text_of_read (read.NotLoaded line name) file = include_text file line name ++ co
 text_of_read (read.Twice line name) file = include_text file line name ++ codes " twice"
 text_of_read (read.TooDeep line) file = file ++ codes ":" ++ decimal line ++ codes ":1: includes nested too deep"
 text_of_read read.NoMemory file = codes "NoMemory"
+
+-- a fault of files that are loaded, each with its name
+abbrev pub text_of_load : LoadFault → List ℕ
+text_of_load load.TooManyFiles = codes "TooManyFiles"
+text_of_load (load.SameName file) = codes "SameName"
+text_of_load (load.InFile file fault) = text_of_read fault file
+text_of_load load.NoMemory = codes "NoMemory"
+
+-- a fault of files that are gathered
+abbrev pub gather_name : GatherFault → List ℕ
+gather_name gather.NoRoot = codes "NoRoot"
+gather_name (gather.Device file_fault.Failed) = codes "Failed"
+gather_name (gather.Device file_fault.NoEnd) = codes "NoEnd"
+gather_name (gather.Device file_fault.NoMemory) = codes "NoMemory"
+gather_name gather.TooManyFiles = codes "TooManyFiles"
+gather_name gather.NoMemory = codes "NoMemory"
 
 -- a fault at a line of the script
 abbrev pub script_text : ℕ → List ℕ → List ℕ
@@ -136,6 +157,8 @@ ask_name ask.NoMemory = codes "NoMemory"
 
 abbrev pub text_of_layer : LayerFault → List ℕ → List ℕ
 text_of_layer (layer.Policy fault) file = text_of_read fault file
+text_of_layer (layer.Gather fault) file = gather_name fault
+text_of_layer (layer.Load fault) file = text_of_load fault
 text_of_layer (layer.Script fault) file = text_of_script fault
 text_of_layer (layer.Edit place fault) file = text_of_edit place fault file
 text_of_layer (layer.Convert fault) file = cvt_name fault

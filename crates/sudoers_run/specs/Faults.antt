@@ -25,7 +25,16 @@ DeviceOr P (tool.Layer fault) = P fault
 DeviceOr P tool.NoMark = ⊥
 DeviceOr P tool.InputTooLarge = ⊥
 
--- ---- Want of memory is the one fault `NoMemory`. No fault of a layer is it or holds it. For a policy `IsOfText` says so.
+-- Of a failed write nothing is asked, and of a fault of a layer this. No other faults come.
+abbrev pub WriteOr : (LayerFault → Type 0) → ToolFault → Type 0
+WriteOr P tool.Write = Unit {0}
+WriteOr P (tool.Layer fault) = P fault
+WriteOr P tool.Read = ⊥
+WriteOr P tool.NoEnd = ⊥
+WriteOr P tool.NoMark = ⊥
+WriteOr P tool.InputTooLarge = ⊥
+
+-- ---- Want of memory is the one fault `NoMemory`. No fault of a layer is it or holds it. For a policy `IsOfText` and `IsOfFiles` say so.
 
 abbrev pub IsScriptFault : ScriptFault → Type 0
 IsScriptFault script.NoMemory = ⊥

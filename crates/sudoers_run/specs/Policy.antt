@@ -1,37 +1,67 @@
--- The policy of the five commands, and how the reading of its file ended.
-use Rattle.std.specs.Prelude.{◌≡◌, ℕ, List, Result, Ok, Err}
+-- The policy of the commands that follow include lines: of files, from a root on.
+use Rattle.std.specs.Prelude.{◌≡◌, ◌⊎◌, ℕ, List, Result, Ok, Err}
 use Rattle.sudoers_text.specs.declared.fault.TextFault.TheVariants as text
-use Rattle.sudoers_tree.specs.Line.{Line}
-use Rattle.sudoers_tree.specs.declared.fault.ReadFault.{ReadFault}
-use Rattle.sudoers_tree.specs.declared.fault.ReadFault.TheVariants as read
-use Rattle.sudoers_tree.specs.Reading.{read_of}
+use Rattle.sudoers_tree.specs.declared.load.NamedFile.{NamedFile}
+use Rattle.sudoers_tree.specs.declared.load_fault.LoadFault.{LoadFault}
+use Rattle.sudoers_tree.specs.declared.load_fault.LoadFault.TheVariants as load
+use Rattle.sudoers_tree.specs.Load.{Loaded, load_of}
+use Rattle.sudoers_edit.specs.Memory.{IsOfText}
+use Rattle.sudoers_files.specs.declared.fault.GatherFault.{GatherFault}
+use Rattle.sudoers_files.specs.declared.fault.GatherFault.TheVariants as gather
+use Rattle.sudoers_files.specs.Gather.{FailedBefore, gathered}
+use Rattle.sudoers_files.specs.Shelf.{Shelf}
+use Rattle.sudoers_run.specs.declared.fault.LayerFault.{LayerFault}
 use Rattle.sudoers_run.specs.declared.fault.LayerFault.TheVariants as layer
 use Rattle.sudoers_run.specs.declared.fault.ToolFault.{ToolFault}
 use Rattle.sudoers_run.specs.declared.fault.ToolFault.TheVariants as tool
-use Rattle.sudoers_run.specs.Device.{Meter}
-use Rattle.sudoers_run.specs.Reading.{IsTextOf, ReadingEnd, TooLarge, Whole, fault_end, reading_end}
 
--- the policy of a text, or its first error
-abbrev pub policy_of : List ℕ → Result (List Line) ReadFault
-policy_of input = read_of input
+-- what comes of the policy of files that are gathered, or why they cannot be gathered
+abbrev pub of_gathered : {A : Type 0} → (Result Loaded LoadFault → Result A LayerFault) → Result (List NamedFile) GatherFault → Result A LayerFault
+of_gathered next (Ok files) = next (load_of files)
+of_gathered next (Err fault) = Err (layer.Gather fault)
 
--- The policy, or the error, is that of a text. It is what the reader gives, if that is known.
-pub record IsOfReader (old : Meter) (policy : Result (List Line) ReadFault) : Type 0 where
-  pub input : List ℕ
-  pub is_text : IsTextOf old input
-  pub outcome : policy_of input ≡ policy
+-- what comes of the policy that these files are from `root` on
+abbrev pub of_files : {A : Type 0} → (Result Loaded LoadFault → Result A LayerFault) → List ℕ → List NamedFile → Result A LayerFault
+of_files next root known = of_gathered next (gathered known root)
 
--- how the reading of a file ended that has this policy, or this error
-abbrev pub policy_end : Result (List Line) ReadFault → ReadingEnd
-policy_end (Err (read.Text text.TooLarge)) = TooLarge
-policy_end policy = Whole
+-- The files are gathered from `root` on, and this comes of loading them.
+pub record IsPolicyOf (root : List ℕ) (policy : Result Loaded LoadFault) (known : List NamedFile) : Type 0 where
+  pub files : List NamedFile
+  pub gathers : gathered known root ≡ Ok files
+  pub loads : load_of files ≡ policy
 
--- the same, by what comes of loading
-abbrev pub load_end : Result (Result (List Line) ReadFault) ToolFault → ReadingEnd
-load_end (Ok policy) = policy_end policy
-load_end (Err fault) = fault_end fault
+-- an error that says nothing of the files and the words: of a device, or of memory
+abbrev pub IsOutside : LayerFault → Type 0
+IsOutside layer.NoMemory = Unit {0}
+IsOutside (layer.Gather (gather.Device fault)) = Unit {0}
+IsOutside fault = ⊥
 
--- The same, by what comes of a run. An error of the policy shows it; every other later one needs the whole file.
-abbrev pub file_end : {A : Type 0} → Result A ToolFault → ReadingEnd
-file_end (Err (tool.Layer (layer.Policy fault))) = policy_end (Err fault)
-file_end result = reading_end result
+-- the stated error, or one that says nothing of the files and the words
+abbrev pub TellsFiles : {A : Type 0} → LayerFault → Result A LayerFault → Type 0
+TellsFiles fault wanted = IsOutside fault ⊎ (wanted ≡ Err fault)
+
+-- An error that loading has. Want of memory is none, and stands in none.
+abbrev pub IsOfFiles : LoadFault → Type 0
+IsOfFiles load.NoMemory = ⊥
+IsOfFiles (load.InFile file fault) = IsOfText fault
+IsOfFiles fault = Unit {0}
+
+-- an error that gathering has
+abbrev pub IsOfGathering : GatherFault → Type 0
+IsOfGathering gather.NoMemory = ⊥
+IsOfGathering fault = Unit {0}
+
+-- an error with which no policy is loaded: of gathering, or want of memory
+abbrev pub IsUnloaded : LayerFault → Type 0
+IsUnloaded layer.NoMemory = Unit {0}
+IsUnloaded (layer.Gather fault) = IsOfGathering fault
+IsUnloaded fault = ⊥
+
+-- the stated error of gathering, or one that says nothing of the files
+abbrev pub TellsGather : List ℕ → LayerFault → List NamedFile → Type 0
+TellsGather root fault known = IsOutside fault ⊎ ((why : GatherFault) × (fault ≡ layer.Gather why) × (gathered known root ≡ Err why))
+
+-- What a command does to its files. They stay. Its error is `Device` only if a call of them failed or reported no end; without it none did.
+abbrev pub Searches : {A : Type 0} → Result A ToolFault → Shelf → Shelf → Type 0
+Searches (Err (tool.Layer (layer.Gather fault))) old new = (new.files ≡ old.files) × FailedBefore fault old new
+Searches result old new = (new.files ≡ old.files) × (new.failures ≡ old.failures) × (new.endless ≡ old.endless)

@@ -12,7 +12,7 @@ use Rattle.sudoers_run.specs.declared.fault.LayerFault.{LayerFault}
 use Rattle.sudoers_run.specs.declared.fault.LayerFault.TheVariants as layer
 use Rattle.sudoers_run.specs.declared.fault.ToolFault.{ToolFault}
 use Rattle.sudoers_run.specs.declared.fault.ToolFault.TheVariants as tool
-use Rattle.sudoers_run.specs.Policy.{policy_of}
+use Rattle.sudoers_tree.specs.Reading.{read_of}
 use Rattle.sudoers_edit.specs.Memory.{IsOfText}
 use Rattle.sudoers_run.specs.Faults.{IsScriptFault, IsRefusal}
 use Rattle.sudoers_edit_script.specs.Physical.{physical_lines}
@@ -69,7 +69,7 @@ edited_output edits lines = by_edit (run_all 0 edits lines) >>= (λ new. output_
 -- the same of a script and a policy; or the first fault of the script, of the policy, of the edits
 abbrev pub edit_output : List ℕ → List ℕ → Result (List ℕ) LayerFault
 edit_output script policy =
-    by_script (reading script) >>= (λ edits. by_read (policy_of policy) >>= (λ lines. edited_output edits (texts lines)))
+    by_script (reading script) >>= (λ edits. by_read (read_of policy) >>= (λ lines. edited_output edits (texts lines)))
 
 abbrev pub by_layer : {A : Type 0} → Result A LayerFault → Result A ToolFault
 by_layer (Ok x) = Ok x
@@ -103,6 +103,8 @@ IsInputFault (layer.Script fault) = IsScriptFault fault
 IsInputFault (layer.Policy fault) = IsOfText fault
 IsInputFault (layer.Edit place fault) = IsRefusal fault
 IsInputFault layer.NoMemory = Unit {0}
+IsInputFault (layer.Gather fault) = ⊥
+IsInputFault (layer.Load fault) = ⊥
 IsInputFault (layer.Convert fault) = ⊥
 IsInputFault (layer.Filter fault) = ⊥
 IsInputFault (layer.People fault) = ⊥

@@ -1,40 +1,34 @@
--- What `show` writes for a policy file.
-use Rattle.std.specs.Prelude.{ℕ, List, Result, Ok, Err}
-use Rattle.sudoers_tree.specs.Line.{Line}
-use Rattle.sudoers_tree.specs.declared.fault.ReadFault.{ReadFault}
+-- What `show` writes for a policy.
+use Rattle.std.specs.Prelude.{◌⊎◌, ℕ, List, Result, Ok, Err}
+use Rattle.sudoers_tree.specs.declared.load.NamedFile.{NamedFile}
+use Rattle.sudoers_tree.specs.declared.load_fault.LoadFault.{LoadFault}
+use Rattle.sudoers_tree.specs.Load.{Loaded}
 use Rattle.sudoers_run.specs.declared.fault.LayerFault.{LayerFault}
 use Rattle.sudoers_run.specs.declared.fault.LayerFault.TheVariants as layer
 use Rattle.sudoers_run.specs.declared.fault.ToolFault.{ToolFault}
-use Rattle.sudoers_run.specs.Policy.{policy_of}
-use Rattle.sudoers_edit.specs.Memory.{IsOfText}
-use Rattle.sudoers_run.specs.Faults.{DeviceOr}
-use Rattle.sudoers_run.specs.Program.{TellsLayer}
+use Rattle.sudoers_run.specs.Policy.{IsOfFiles, IsUnloaded, TellsFiles, of_files}
+use Rattle.sudoers_run.specs.Faults.{WriteOr}
 use Rattle.sudoers_run.specs.Shown.{shown}
 
--- what is shown of a policy, or the fault of a text that is none
-abbrev pub show_read : Result (List Line) ReadFault → Result (List ℕ) LayerFault
-show_read (Ok lines) = Ok (shown lines)
-show_read (Err fault) = Err (layer.Policy fault)
+-- what is shown of a policy, or the fault of files that are none
+abbrev pub show_read : Result Loaded LoadFault → Result (List ℕ) LayerFault
+show_read (Ok policy) = Ok (shown policy.files)
+show_read (Err fault) = Err (layer.Load fault)
 
-abbrev pub show_output : List ℕ → Result (List ℕ) LayerFault
-show_output input = show_read (policy_of input)
+-- the same of the policy that these files are from `root` on
+abbrev pub show_output : List ℕ → List NamedFile → Result (List ℕ) LayerFault
+show_output root known = of_files show_read root known
 
--- a fault that the file has; those of the devices and of memory say nothing of it
-abbrev pub TellsShow : ToolFault → List ℕ → Type 0
-TellsShow fault input = DeviceOr (λ (said : LayerFault). TellsLayer said (show_output input)) fault
+-- a fault that the files have; those of the devices and of memory say nothing of them
+abbrev pub TellsShow : List ℕ → ToolFault → List NamedFile → Type 0
+TellsShow root fault known = WriteOr (λ (said : LayerFault). TellsFiles said (show_output root known)) fault
 
--- the faults of a file
+-- the faults of files that are gathered
 abbrev pub IsFileFault : LayerFault → Type 0
-IsFileFault (layer.Policy fault) = IsOfText fault
+IsFileFault (layer.Load fault) = IsOfFiles fault
 IsFileFault layer.NoMemory = Unit {0}
-IsFileFault (layer.Script fault) = ⊥
-IsFileFault (layer.Edit place fault) = ⊥
-IsFileFault (layer.Convert fault) = ⊥
-IsFileFault (layer.Filter fault) = ⊥
-IsFileFault (layer.People fault) = ⊥
-IsFileFault (layer.Who fault) = ⊥
-IsFileFault (layer.Ask fault) = ⊥
+IsFileFault fault = ⊥
 
--- the faults of showing a file
+-- the faults of showing a policy
 abbrev pub IsShowFault : ToolFault → Type 0
-IsShowFault fault = DeviceOr IsFileFault fault
+IsShowFault fault = WriteOr (λ (said : LayerFault). IsUnloaded said ⊎ IsFileFault said) fault

@@ -9,6 +9,7 @@ use Rattle.sudoers_tree.specs.declared.kind.LineKind.{LineKind}
 use Rattle.sudoers_tree.specs.declared.kind.LineKind.TheVariants as kind
 use Rattle.sudoers_tree.specs.Line.{Line}
 use Rattle.sudoers_line.specs.Kind.{kind_name}
+use Rattle.sudoers_tree.specs.Files.{FileReading}
 use Rattle.sudoers_tree.specs.Kind.{line_kind}
 
 abbrev pub kind_word : LineKind → List ℕ
@@ -49,7 +50,26 @@ abbrev pub shown_from : ℕ → ℕ → List Line → List ℕ
 shown_from number row [] = []
 shown_from number row (line ∷ lines) = shown_line number row line.node ++ shown_from (number + 1) (row + lf_count line.text) lines
 
--- A policy: each line with its number, its kind and its first physical line, and behind it its definitions of aliases, each
+-- The lines of a file: each with its number, its kind and its first physical line, and behind it its definitions of aliases, each
 -- with how many members it has. All numbers count from 1.
-abbrev pub shown : List Line → List ℕ
-shown lines = shown_from 1 1 lines
+abbrev pub shown_lines : List Line → List ℕ
+shown_lines lines = shown_from 1 1 lines
+
+-- what stands before the lines of a file: its number and its name
+abbrev pub file_head : ℕ → List ℕ → List ℕ
+file_head number name = codes "file " ++ decimal number ++ codes " " ++ name ++ codes "\n"
+
+-- a file with its number, and its lines
+abbrev pub shown_file : ℕ → FileReading → List ℕ
+shown_file number file = file_head number file.name ++ shown_lines file.lines
+
+-- files that are numbered from this number on
+abbrev pub shown_files : ℕ → List FileReading → List ℕ
+shown_files number [] = []
+shown_files number (file ∷ files) = shown_file number file ++ shown_files (number + 1) files
+
+-- A policy: its files, numbered from 1. Of one file only the lines are shown.
+abbrev pub shown : List FileReading → List ℕ
+shown [] = []
+shown (file ∷ []) = shown_lines file.lines
+shown (file ∷ other ∷ files) = shown_files 1 (file ∷ other ∷ files)

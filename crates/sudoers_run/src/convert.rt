@@ -1,59 +1,58 @@
 //! The rules of a policy, in another form.
 ghost use Rattle.std.specs.Prelude.{ℕ, List, ◌≡◌, ◌≢◌, ◌⊎◌, ◌+◌, ◌<◌, ◌≤◌, length, Ok, Err, IfOk, IfErr, IfSome, IsOkAnd, MatchResult, min, ◌-◌, ◌^◌};
 ghost use Rattle.std.specs.Io.KnownBytes.{Keeps, Appends};
-ghost use Rattle.sudoers_text.specs.Fault.{text_limit};
-ghost use Rattle.sudoers_edit.specs.Memory.{IsOfText};
 ghost use Rattle.sudoers_run.specs.Device.{Writes, AppendsFront};
-ghost use Rattle.sudoers_run.specs.Reading.{ReadsFile};
-ghost use Rattle.sudoers_run.specs.Policy.{file_end};
+ghost use Rattle.sudoers_run.specs.Policy.{IsOfFiles, Searches};
 ghost use Rattle.sudoers_run.specs.Program.{TellsLayer};
 ghost use Rattle.std.specs.Borrow.{Bor};
 ghost use Rattle.std.specs.Option.{option_map};
 ghost use Rattle.sudoers_cvt_rewrite.specs.Changed.{changes_shown};
 ghost use Rattle.sudoers_run.specs.Convert.{convert_lines, convert_output, convert_read, converted, filter_in, form_fault, rewritten_rules, TellsConvert, IsConvertFault, IsFilterFault, IsRewriteFault, IsRulesFault};
 
-use crate::device::{Sink, Source};
+use crate::device::Sink;
 use crate::fault::{LayerFault, ToolFault};
 use crate::form::Form;
-use crate::input::load_policy;
+use crate::loading::load_policy;
 use crate::output::write_all;
 use crate::words::ConvertWords;
 use std::alloc::Global;
 use sudoers_cvt::{Rules, print};
 use sudoers_cvt_json::json;
 use sudoers_cvt_rewrite::{Changes, Filter, read_filter, rewrite};
-use sudoers_tree::{Policy, ReadFault};
+use sudoers_files::Files;
+use sudoers_tree::{LoadFault, Policy};
 
-/// Reads a policy file, and writes its rules as `words` ask for: as the text of a policy, all Defaults lines, then all definitions of
-/// aliases, then all user specifications; or as JSON. A filter leaves out what does not match it, and then aliases may be replaced by
+/// Reads the policy `root` with the files that it includes, and writes its rules as `words` ask for: as the text of a policy, all
+/// Defaults lines, then all definitions of aliases, then all user specifications; or as JSON. A filter leaves out what does not match it, and then aliases may be replaced by
 /// their members (cvtsudoers(1)).
 ///
 /// # Errors
 ///
-/// [`ToolFault`]: of reading, then of the file, then of the filter, then of a cyclic alias and of too many members, then of the limits of
+/// [`ToolFault`]: of gathering the files, then of the policy, then of the filter, then of a cyclic alias and of too many members, then of the limits of
 /// a policy or of bytes that are no UTF-8, then of writing. Nothing is written before a fault other than `Write`.
-pub fn run_convert<R: Source, W: Sink>(
+pub fn run_convert<F: Files, W: Sink>(
     alloc: Global,
-    reader: &mut R,
+    files: &mut F,
+    root: &[u8],
     words: &ConvertWords<'_>,
     writer: &mut W,
 ) -> Result<u8, ToolFault>
-    // Status 0, and what is written is the stated function of what is read.
-    ensures ok { IfOk result (λ status. (status ≡ 0) × IfSome (R.meter reader.old).remaining (λ input.
-        IsOkAnd (convert_output words.now input) (Appends (W.contents writer.old) (W.contents writer.new)))) }
-    // A fault of the file is the stated one.
-    ensures fault { IfErr result (λ fault. IfSome (R.meter reader.old).remaining (TellsConvert words.now fault)) }
+    // Status 0, and what is written is the stated function of the files.
+    ensures ok { IfOk result (λ status. (status ≡ 0) × IfSome (F.shelf files.old).files (λ known.
+        IsOkAnd (convert_output words.now root.now known) (Appends (W.contents writer.old) (W.contents writer.new)))) }
+    // A fault of the files and of the filter is the stated one.
+    ensures fault { IfErr result (λ fault. IfSome (F.shelf files.old).files (TellsConvert words.now root.now fault)) }
     // There are no other faults.
     ensures named { IfErr result (IsConvertFault words.now) }
     // After `Write`, what was written is a beginning of the output.
-    ensures front { result ≡ Err ToolFault.Write → IfSome (R.meter reader.old).remaining (λ input.
-        IsOkAnd (convert_output words.now input) (AppendsFront (W.contents writer.old) (W.contents writer.new))) }
-    // How the file was read, and that nothing is written before a fault, as the counts of the devices show.
-    ensures reads { ReadsFile text_limit (file_end result) (R.meter reader.old) (R.meter reader.new) }
+    ensures front { result ≡ Err ToolFault.Write → IfSome (F.shelf files.old).files (λ known.
+        IsOkAnd (convert_output words.now root.now known) (AppendsFront (W.contents writer.old) (W.contents writer.new))) }
+    // What the counts of the files show, and that nothing is written before a fault, as the counts of the writer show.
+    ensures searches { Searches result (F.shelf files.old) (F.shelf files.new) }
     ensures writes { Writes result (W.Sink.failures writer.old) (W.Sink.failures writer.new)
         (W.contents writer.old) (W.contents writer.new) }
 {
-    let policy = load_policy(alloc, reader)?;
+    let policy = load_policy(alloc, files, root)?;
     let text = convert_text(alloc, policy, words)?;
     write_all(writer, text.as_slice())?;
     Ok(0)
@@ -62,10 +61,10 @@ pub fn run_convert<R: Source, W: Sink>(
 /// Returns the rules of `policy` as `words` ask for them, or its error.
 fn convert_text(
     alloc: Global,
-    policy: Result<Policy, ReadFault>,
+    policy: Result<Policy, LoadFault>,
     words: &ConvertWords<'_>,
 ) -> Result<Vec<u8>, LayerFault>
-    requires { IfErr policy IsOfText }
+    requires { IfErr policy IsOfFiles }
     ensures { MatchResult result (λ text. convert_read words.now policy ≡ Ok text.items)
         (λ fault. TellsLayer fault (convert_read words.now policy) × IsRulesFault words.now fault) }
 {
@@ -90,8 +89,8 @@ fn convert_policy(
     policy: &Policy,
     words: &ConvertWords<'_>,
 ) -> Result<Vec<u8>, LayerFault>
-    ensures { MatchResult result (λ out. convert_lines words.now policy.now ≡ Ok out.items)
-        (λ fault. (fault ≡ LayerFault.NoMemory) ⊎ ((convert_lines words.now policy.now ≡ Err fault) × IsRulesFault words.now fault)) }
+    ensures { MatchResult result (λ out. convert_lines words.now policy.now.walk.lines ≡ Ok out.items)
+        (λ fault. (fault ≡ LayerFault.NoMemory) ⊎ ((convert_lines words.now policy.now.walk.lines ≡ Err fault) × IsRulesFault words.now fault)) }
 {
     let filter = read_words(alloc, words.filter)?;
     let changes = Changes {
@@ -113,8 +112,8 @@ fn rewrite_rules(
     form: Form,
     changes: &Changes<'_>,
 ) -> Result<Vec<u8>, LayerFault>
-    ensures { MatchResult result (λ out. rewritten_rules form (changes_shown changes.now) policy.now ≡ Ok out.items)
-        (λ fault. (fault ≡ LayerFault.NoMemory) ⊎ ((rewritten_rules form (changes_shown changes.now) policy.now ≡ Err fault)
+    ensures { MatchResult result (λ out. rewritten_rules form (changes_shown changes.now) policy.now.walk.lines ≡ Ok out.items)
+        (λ fault. (fault ≡ LayerFault.NoMemory) ⊎ ((rewritten_rules form (changes_shown changes.now) policy.now.walk.lines ≡ Err fault)
         × IsRewriteFault form changes.now.expand fault)) }
 {
     let rewritten = rewrite(alloc, policy, changes)?;

@@ -4,9 +4,10 @@ use std::alloc::AllocError;
 use sudoers_cvt::CvtFault;
 use sudoers_cvt_rewrite::FilterFault;
 use sudoers_edit::{EditFault, ScriptFault};
+use sudoers_files::GatherFault;
 use sudoers_list_people::{PeopleFault, WhoFault};
 use sudoers_match_list::AskFault;
-use sudoers_tree::ReadFault;
+use sudoers_tree::{LoadFault, ReadFault};
 use thiserror::Error;
 
 /// A fault of a layer below. Want of memory is `NoMemory` here, wherever it was met.
@@ -15,6 +16,12 @@ pub enum LayerFault {
     /// The text is no policy.
     #[error("{0}")]
     Policy(ReadFault),
+    /// The files of a policy cannot be gathered.
+    #[error("{0}")]
+    Gather(GatherFault),
+    /// The files are no policy.
+    #[error("{0}")]
+    Load(LoadFault),
     /// The script is none, or the inverse list is too long.
     #[error("{0}")]
     Script(ScriptFault),
@@ -74,6 +81,34 @@ impl From<ReadFault> for LayerFault {
         match fault {
             ReadFault::NoMemory => LayerFault::NoMemory,
             fault => LayerFault::Policy(fault),
+        }
+    }
+}
+
+impl From<GatherFault> for LayerFault {
+    ghost use Rattle.std.specs.Prelude.{◌≡◌};
+    ghost use Rattle.sudoers_run.specs.internal.LayerOf.{layer_of_gather};
+
+    ghost from_gives = { λ fault e. e ≡ layer_of_gather fault };
+
+    fn from(fault: GatherFault) -> LayerFault {
+        match fault {
+            GatherFault::NoMemory => LayerFault::NoMemory,
+            fault => LayerFault::Gather(fault),
+        }
+    }
+}
+
+impl From<LoadFault> for LayerFault {
+    ghost use Rattle.std.specs.Prelude.{◌≡◌};
+    ghost use Rattle.sudoers_run.specs.internal.LayerOf.{layer_of_load};
+
+    ghost from_gives = { λ fault e. e ≡ layer_of_load fault };
+
+    fn from(fault: LoadFault) -> LayerFault {
+        match fault {
+            LoadFault::NoMemory => LayerFault::NoMemory,
+            fault => LayerFault::Load(fault),
         }
     }
 }

@@ -1,18 +1,19 @@
 //! The texts of the program's faults.
 ghost use Rattle.std.specs.Prelude.{◌≡◌, ◌+◌, ◌<◌, ◌^◌, ◌++◌, IfOk, OnOk};
 ghost use Rattle.std.specs.Fmt.{decimal};
-ghost use Rattle.sudoers_run.specs.FaultText.{ask_name, cvt_name, file_name, filter_name, include_text, text_of_people, text_of_tool, text_of_layer, text_of_read, text_of_text, text_of_script, text_of_edit, script_text, edit_name, name_text, who_name, why_name};
+ghost use Rattle.sudoers_run.specs.FaultText.{ask_name, cvt_name, file_name, filter_name, gather_name, include_text, text_of_load, text_of_people, text_of_tool, text_of_layer, text_of_read, text_of_text, text_of_script, text_of_edit, script_text, edit_name, name_text, who_name, why_name};
 
 use crate::fault::{LayerFault, ToolFault};
 use std::alloc::{AllocError, Global};
 use sudoers_cvt::CvtFault;
 use sudoers_cvt_rewrite::FilterFault;
 use sudoers_edit::{EditFault, ScriptFault};
+use sudoers_files::{FileFault, GatherFault};
 use sudoers_line::{Kind, Why, kind_name};
 use sudoers_list_people::{PeopleFault, PeopleFile, WhoFault};
 use sudoers_match_list::AskFault;
 use sudoers_text::{TextFault, append_number};
-use sudoers_tree::ReadFault;
+use sudoers_tree::{LoadFault, ReadFault};
 
 /// The text that is shown for a fault, without LF. `file` is the policy's name in it.
 ///
@@ -37,6 +38,8 @@ fn layer_text(alloc: Global, fault: &LayerFault, file: &[u8]) -> Result<Vec<u8>,
 {
     match fault {
         LayerFault::Policy(fault) => read_fault_text(alloc, fault, file),
+        LayerFault::Gather(fault) => Vec::from_slice(alloc, gather_word(*fault)),
+        LayerFault::Load(fault) => load_fault_text(alloc, fault),
         LayerFault::Script(fault) => script_fault_text(alloc, fault),
         LayerFault::Edit(place, fault) => edit_fault_text(alloc, *place, fault, file),
         LayerFault::Convert(fault) => Vec::from_slice(alloc, cvt_word(*fault)),
@@ -122,7 +125,7 @@ fn filter_word(fault: FilterFault) -> &'static [u8]
 }
 
 /// The text of a fault of a policy file.
-pub fn read_fault_text(alloc: Global, fault: &ReadFault, file: &[u8]) -> Result<Vec<u8>, AllocError>
+fn read_fault_text(alloc: Global, fault: &ReadFault, file: &[u8]) -> Result<Vec<u8>, AllocError>
     ensures { IfOk result (λ text. text.items ≡ text_of_read fault.now file.now) }
 {
     match fault {
@@ -152,6 +155,31 @@ pub fn read_fault_text(alloc: Global, fault: &ReadFault, file: &[u8]) -> Result<
             Ok(text)
         }
         ReadFault::NoMemory => Vec::from_slice(alloc, b"NoMemory"),
+    }
+}
+
+/// Returns the text of a fault of files that are loaded.
+pub fn load_fault_text(alloc: Global, fault: &LoadFault) -> Result<Vec<u8>, AllocError>
+    ensures { IfOk result (λ text. text.items ≡ text_of_load fault.now) }
+{
+    match fault {
+        LoadFault::TooManyFiles => Vec::from_slice(alloc, b"TooManyFiles"),
+        LoadFault::SameName { .. } => Vec::from_slice(alloc, b"SameName"),
+        LoadFault::InFile { file, fault } => read_fault_text(alloc, fault, file.as_slice()),
+        LoadFault::NoMemory => Vec::from_slice(alloc, b"NoMemory"),
+    }
+}
+
+/// Returns the name of a fault of files that are gathered.
+fn gather_word(fault: GatherFault) -> &'static [u8]
+    ensures { result.now ≡ gather_name fault }
+{
+    match fault {
+        GatherFault::NoRoot => b"NoRoot",
+        GatherFault::Device(FileFault::Failed) => b"Failed",
+        GatherFault::Device(FileFault::NoEnd) => b"NoEnd",
+        GatherFault::TooManyFiles => b"TooManyFiles",
+        GatherFault::Device(FileFault::NoMemory) | GatherFault::NoMemory => b"NoMemory",
     }
 }
 

@@ -1,43 +1,14 @@
-//! How each command reads its input whole, and the policy in it.
+//! How a command reads an input whole.
 ghost use Rattle.std.specs.Prelude.{◌≡◌, ◌+◌, ◌<◌, ◌≤◌, length, IfOk, IfErr, MatchResult, min, ◌-◌, ◌^◌};
-ghost use Rattle.sudoers_text.specs.Fault.{text_limit};
-ghost use Rattle.sudoers_edit.specs.Memory.{IsOfText};
 ghost use Rattle.sudoers_run.specs.Program.{input_limit};
-ghost use Rattle.sudoers_run.specs.Policy.{IsOfReader, load_end};
 ghost use Rattle.sudoers_run.specs.Reading.{IsFront, IsFrontFault, IsReadFault, IsTextOf, ReadsFile, front_end, reading_end};
 
 use crate::device::{DeviceFailed, Pulled, Source};
-use crate::fault::{LayerFault, ToolFault};
+use crate::fault::ToolFault;
 use std::alloc::Global;
-use sudoers_text::TEXT_LIMIT;
-use sudoers_tree::{Policy, ReadFault};
 
 /// How often one reader is asked at most.
 pub const PULL_LIMIT: usize = 4_194_304;
-
-/// Reads the file of a policy from `reader`, and returns the policy or its error. With the first byte past its limit the file is too
-/// large, and no more is read.
-///
-/// # Errors
-///
-/// Of reading, and want of memory.
-pub fn load_policy<R: Source>(
-    alloc: Global,
-    reader: &mut R,
-) -> Result<Result<Policy, ReadFault>, ToolFault>
-    ensures policy { IfOk result (IsOfReader (R.meter reader.old)) }
-    ensures named { MatchResult result (λ policy. IfErr policy IsOfText) IsFrontFault }
-    ensures reads { ReadsFile text_limit (load_end result) (R.meter reader.old) (R.meter reader.new) }
-{
-    let text = read_front(alloc, reader, TEXT_LIMIT)?;
-    match Policy::read(alloc, text.as_slice()) {
-        Ok(policy) => Ok(Ok(policy)),
-        Err(fault) => match fault {
-            ReadFault::NoMemory => Err(ToolFault::Layer(LayerFault::NoMemory)),
-            fault => Ok(Err(fault)),
-        },
-    }
-}
 
 /// Reads all that `reader` gives, up to `limit` bytes. With the first byte past it the input is too large.
 ///

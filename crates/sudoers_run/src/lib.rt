@@ -1,4 +1,4 @@
-//! The commands of the program over any reader and writer: `edit`, `show`, `check`, `convert`, `list`, and the text of each error.
+//! The commands of the program over any files, readers and writers: `edit`, `show`, `check`, `convert`, `list`, and the text of each error.
 #![tactic(auto)]
 
 mod check;
@@ -9,6 +9,7 @@ mod fault_texts;
 mod form;
 mod input;
 mod list;
+mod loading;
 mod output;
 mod program;
 mod show;

@@ -16,7 +16,7 @@ use std::alloc::Global;
 use sudoers_edit::laws::named_are_written;
 use sudoers_edit::{Edit, Editor, Edits, first_line_len, read_script, write_script};
 use sudoers_edit_script::laws::physical_lines_join;
-use sudoers_tree::Policy;
+use sudoers_tree::OneFile;
 
 /// How many bytes `edit` reads at most.
 pub const INPUT_LIMIT: usize = 4_000_000;
@@ -104,12 +104,12 @@ fn edit_output(alloc: Global, script: &[u8], policy: &[u8]) -> Result<Vec<u8>, L
 {
     named_are_written();
     let edits = read_script(alloc, script)?;
-    let policy = Policy::read(alloc, policy)?;
+    let policy = OneFile::read(alloc, policy)?;
     edited(alloc, edits.as_slice(), policy)
 }
 
 /// What comes of edits of a policy.
-fn edited(alloc: Global, edits: &[Edit], policy: Policy) -> Result<Vec<u8>, LayerFault>
+fn edited(alloc: Global, edits: &[Edit], policy: OneFile) -> Result<Vec<u8>, LayerFault>
     requires { AreNamed edits.now }
     ensures output { MatchResult result (λ out. edited_output edits.now (texts policy) ≡ Ok out.items)
         (λ fault. TellsLayer fault (edited_output edits.now (texts policy))) }
@@ -123,7 +123,7 @@ fn edited(alloc: Global, edits: &[Edit], policy: Policy) -> Result<Vec<u8>, Laye
 }
 
 /// A script, the mark and a policy.
-fn output(alloc: Global, inverse: &Edits, policy: &Policy) -> Result<Vec<u8>, LayerFault>
+fn output(alloc: Global, inverse: &Edits, policy: &OneFile) -> Result<Vec<u8>, LayerFault>
     requires { AreNamed inverse.now }
     ensures output { MatchResult result (λ out. output_text inverse.now (texts policy.now) ≡ Ok out.items)
         (λ fault. TellsLayer fault (output_text inverse.now (texts policy.now))) }

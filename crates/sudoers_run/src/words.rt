@@ -32,6 +32,6 @@ pub struct ListWords<'a> {
     pub group: Option<&'a [u8]>,
     /// The command and its arguments. Without words all that the user may run is listed.
     pub words: &'a [Items<u8>],
-    /// The rule that decides is written in place of the command, with the name of the policy.
+    /// The rule that decides is written in place of the command, with the name of its file.
     pub why: bool,
 }

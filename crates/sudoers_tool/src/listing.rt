@@ -1,15 +1,20 @@
 //! The subcommand `list`: its command line, and its run.
 
-use crate::files::{STDIN, STDIN_NUMBER, open};
+use crate::files::{STDIN, STDIN_NUMBER, disk, open};
 use clap::{Arg, ArgAction, ArgMatches, Command};
 use std::alloc::{AllocError, Global};
 use std::fs;
 use std::os::fd::AsRawFd;
+use sudoers_files::{FileOfStream, Files};
 use sudoers_line::Items;
-use sudoers_run::{Counted, ListWords, Source, ToolFault, run_list};
+use sudoers_run::{Counted, ListWords, ToolFault, run_list};
 
 /// Returns the command line of `list`.
-pub fn list_words<'a>(alloc: Global, file: Arg<'a>) -> Result<Command<'a>, AllocError> {
+pub fn list_words<'a>(
+    alloc: Global,
+    top: Arg<'a>,
+    file: Arg<'a>,
+) -> Result<Command<'a>, AllocError> {
     let command = Command::new(alloc, "list")
         .about("Print what a user may run on a host, or whether he may run a command there")
         .arg(user_word(alloc))?
@@ -28,7 +33,7 @@ pub fn list_words<'a>(alloc: Global, file: Arg<'a>) -> Result<Command<'a>, Alloc
                 .value_name("NAME")
                 .help("Long name of the host"),
         )?;
-    add_question(alloc, command, file)
+    add_question(alloc, command.arg(top)?, file)
 }
 
 /// Returns the command line with what a question asks.
@@ -187,21 +192,19 @@ fn command_of(alloc: Global, words: &ArgMatches<'_>) -> Result<Vec<Items<u8>>, A
     Ok(command)
 }
 
-/// Lists by a policy file, or by the standard input.
+/// Lists by a policy, or by the standard input.
 pub fn list_file(rt: &HostRuntime, file: &str, words: &ArgMatches<'_>) -> Result<u8, ToolFault> {
     let asked = Asked::of(rt.alloc(), file, words)?;
+    let (passwd, group) = open_people(rt, words)?;
     if file == STDIN {
-        let (passwd, group) = open_people(rt, words)?;
         // Had the standard input been closed, the first file that was opened would be it.
         if passwd.as_raw_fd() == STDIN_NUMBER {
             return Err(ToolFault::Read);
         }
-        let mut policy = Counted::new(rt.stdin());
-        return list_policy(rt, &mut policy, passwd, group, &asked);
+        let mut files = FileOfStream::new(rt.stdin());
+        return list_policy(rt, &mut files, passwd, group, &asked);
     }
-    let mut policy = Counted::new(open(rt, file)?);
-    let (passwd, group) = open_people(rt, words)?;
-    list_policy(rt, &mut policy, passwd, group, &asked)
+    list_policy(rt, &mut disk(rt, words)?, passwd, group, &asked)
 }
 
 /// Opens the files of users and of groups that `words` name.
@@ -214,17 +217,17 @@ fn open_people(
     Ok((passwd, group))
 }
 
-/// Lists by a policy and files of people that are open.
-fn list_policy<P: Source>(
+/// Lists by the files of a policy, and by files of people that are open.
+fn list_policy<F: Files>(
     rt: &HostRuntime,
-    policy: &mut P,
+    files: &mut F,
     passwd: fs::File,
     group: fs::File,
     asked: &Asked,
 ) -> Result<u8, ToolFault> {
     run_list(
         rt.alloc(),
-        policy,
+        files,
         asked.file.as_slice(),
         &mut Counted::new(passwd),
         &mut Counted::new(group),

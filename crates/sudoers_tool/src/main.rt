@@ -4,7 +4,7 @@
 mod files;
 mod listing;
 
-use crate::files::{STDIN, open};
+use crate::files::{STDIN, disk};
 use crate::listing::{list_file, list_words};
 use clap::error::ErrorKind;
 use clap::{Arg, ArgAction, ArgMatches, Command, Error};
@@ -12,6 +12,7 @@ use std::alloc::{AllocError, Global};
 use std::io;
 use std::io::Write;
 use std::process::ExitCode;
+use sudoers_files::FileOfStream;
 use sudoers_run::{
     ConvertWords, Counted, Form, ToolFault, fault_text, run_check, run_convert, run_edit, run_show,
 };
@@ -23,7 +24,7 @@ const POLICY: &str = "policy";
 static FORMS: [&str; 2] = ["sudoers", "json"];
 
 /// What `--version` prints after the program's name.
-const VERSION: &str = "0.6.0";
+const VERSION: &str = "0.7.0";
 
 /// What help prints last.
 const EXIT_STATUS: &str =
@@ -63,18 +64,15 @@ fn obey(rt: &HostRuntime, matches: &ArgMatches<'_>) -> ExitCode {
     let (file, outcome) = match matches.subcommand() {
         Some(("check", words)) => {
             let file = words.get_str("FILE").unwrap_or(STDIN);
-            (
-                file,
-                check_file(rt, file, words.get_flag("quiet"), words.get_flag("strict")),
-            )
+            (file, check_file(rt, file, words))
         }
         Some(("show", words)) => {
             let file = words.get_str("FILE").unwrap_or(STDIN);
-            (file, show_file(rt, file))
+            (file, show_file(rt, file, words))
         }
         Some(("convert", words)) => {
             let file = words.get_str("FILE").unwrap_or(STDIN);
-            (file, convert_file(rt, file, &asked_of(words)))
+            (file, convert_file(rt, file, words))
         }
         Some(("list", words)) => {
             let file = words.get_str("FILE").unwrap_or(STDIN);
@@ -95,6 +93,7 @@ fn command_words<'a>(alloc: Global) -> Result<Command<'a>, AllocError> {
     );
     let show = Command::new(alloc, "show")
         .about("Print the logical lines of a policy and its alias definitions, with their numbers")
+        .arg(top_word(alloc))?
         .arg(file_word(alloc))?;
     Command::new(alloc, "sudoers_tool")
         .version(VERSION)
@@ -105,7 +104,7 @@ fn command_words<'a>(alloc: Global) -> Result<Command<'a>, AllocError> {
         .subcommand(check_words(alloc)?)?
         .subcommand(convert_words(alloc)?)?
         .subcommand(edit)?
-        .subcommand(list_words(alloc, file_word(alloc))?)?
+        .subcommand(list_words(alloc, top_word(alloc), file_word(alloc))?)?
         .subcommand(show)
 }
 
@@ -121,10 +120,11 @@ fn check_words<'a>(alloc: Global) -> Result<Command<'a>, AllocError> {
         .help("Treat undefined and cyclic aliases as errors");
     Command::new(alloc, "check")
         .about(
-            "Check the syntax of a policy, and report undefined, cyclic and unused aliases; names of Defaults and included files are not checked",
+            "Check the syntax of a policy with the files that it includes, and report undefined, cyclic and unused aliases; names of Defaults are not checked",
         )
         .arg(quiet)?
         .arg(strict)?
+        .arg(top_word(alloc))?
         .arg(file_word(alloc))
 }
 
@@ -144,12 +144,13 @@ fn convert_words<'a>(alloc: Global) -> Result<Command<'a>, AllocError> {
         .help("Replace aliases by their members");
     Command::new(alloc, "convert")
         .about(
-            "Print the rules of a policy anew, as a policy or as JSON, without comments and includes",
+            "Print the rules of a policy and of the files that it includes anew, as one policy or as JSON, without comments",
         )
         .arg(form)?
         .arg(expand)?
         .arg(filter_word(alloc))?
         .arg(prune_word(alloc))?
+        .arg(top_word(alloc))?
         .arg(file_word(alloc))
 }
 
@@ -167,6 +168,13 @@ fn prune_word<'a>(alloc: Global) -> Arg<'a> {
         .long("prune-matches")
         .action(ArgAction::SetTrue)
         .help("With -m, drop other users and hosts from the lists of these rules")
+}
+
+/// Returns the option with the folder below which absolute names are read.
+fn top_word<'a>(alloc: Global) -> Arg<'a> {
+    Arg::new(alloc, "DIR").long("root").help(
+        "Read FILE and included files whose names begin with `/` below this folder, as of an image; messages name them without it",
+    )
 }
 
 /// Returns the argument that names a policy file.
@@ -204,14 +212,15 @@ fn edit_streams(rt: &HostRuntime) -> Result<u8, ToolFault> {
     run_edit(rt.alloc(), &mut reader, &mut writer)
 }
 
-/// Shows a file, or standard input.
-fn show_file(rt: &HostRuntime, file: &str) -> Result<u8, ToolFault> {
+/// Shows a policy, or standard input.
+fn show_file(rt: &HostRuntime, file: &str, words: &ArgMatches<'_>) -> Result<u8, ToolFault> {
     let mut writer = Counted::new(rt.stdout());
+    let root = file.as_bytes();
     if file == STDIN {
-        return run_show(rt.alloc(), &mut Counted::new(rt.stdin()), &mut writer);
+        let mut files = FileOfStream::new(rt.stdin());
+        return run_show(rt.alloc(), &mut files, root, &mut writer);
     }
-    let opened = open(rt, file)?;
-    run_show(rt.alloc(), &mut Counted::new(opened), &mut writer)
+    run_show(rt.alloc(), &mut disk(rt, words)?, root, &mut writer)
 }
 
 /// Returns the form that the words of `convert` name.
@@ -235,31 +244,35 @@ fn asked_of<'a>(words: &ArgMatches<'a>) -> ConvertWords<'a> {
     }
 }
 
-/// Converts a file, or standard input.
-fn convert_file(rt: &HostRuntime, file: &str, asked: &ConvertWords<'_>) -> Result<u8, ToolFault> {
+/// Converts a policy, or standard input.
+fn convert_file(rt: &HostRuntime, file: &str, words: &ArgMatches<'_>) -> Result<u8, ToolFault> {
     let mut writer = Counted::new(rt.stdout());
+    let asked = asked_of(words);
+    let root = file.as_bytes();
     if file == STDIN {
-        return run_convert(
-            rt.alloc(),
-            &mut Counted::new(rt.stdin()),
-            asked,
-            &mut writer,
-        );
+        let mut files = FileOfStream::new(rt.stdin());
+        return run_convert(rt.alloc(), &mut files, root, &asked, &mut writer);
     }
-    let opened = open(rt, file)?;
-    run_convert(rt.alloc(), &mut Counted::new(opened), asked, &mut writer)
+    run_convert(rt.alloc(), &mut disk(rt, words)?, root, &asked, &mut writer)
 }
 
-/// Checks a file, or standard input.
-fn check_file(rt: &HostRuntime, file: &str, quiet: bool, strict: bool) -> Result<u8, ToolFault> {
+/// Checks a policy, or standard input.
+fn check_file(rt: &HostRuntime, file: &str, words: &ArgMatches<'_>) -> Result<u8, ToolFault> {
     let mut writer = Counted::new(rt.stdout());
-    let name = file.as_bytes();
+    let root = file.as_bytes();
+    let (quiet, strict) = (words.get_flag("quiet"), words.get_flag("strict"));
     if file == STDIN {
-        let mut reader = Counted::new(rt.stdin());
-        return run_check(rt.alloc(), &mut reader, name, quiet, strict, &mut writer);
+        let mut files = FileOfStream::new(rt.stdin());
+        return run_check(rt.alloc(), &mut files, root, quiet, strict, &mut writer);
     }
-    let mut reader = Counted::new(open(rt, file)?);
-    run_check(rt.alloc(), &mut reader, name, quiet, strict, &mut writer)
+    run_check(
+        rt.alloc(),
+        &mut disk(rt, words)?,
+        root,
+        quiet,
+        strict,
+        &mut writer,
+    )
 }
 
 /// Prints an error, and returns exit status 1.

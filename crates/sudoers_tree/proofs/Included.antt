@@ -1,9 +1,10 @@
--- A line without a byte with which the word of an include begins leads nowhere.
-use Rattle.std.proofs.Common.{◌≡◌, ◌<◌, ◌-◌, ℕ, zero, suc, Bool, true, false, if◌then◌else◌, List, [], ◌∷◌, length, take, drop, codes, slice_index, slice_range, Some, None, Result, Ok, Err, refl, sym, ap, ◌∙◌, arith}
+-- A text in which the bytes `include` do not stand has no part that leads anywhere.
+use Rattle.std.proofs.Common.{◌≡◌, ◌+◌, ◌<◌, ◌-◌, ℕ, Bool, true, false, if◌then◌else◌, List, [], ◌∷◌, ◌++◌, length, take, drop, codes, slice_index, slice_range, Option, Some, None, is_some, Result, Ok, Err, refl, sym, ap, subst, ◌∙◌, append_assoc, get_or-append-add, length-append, take-append-drop, arith}
 use Rattle.std.specs.Str.{bytes_eq}
 use Rattle.std.specs.Result.{result_ok}
+use Rattle.std.proofs.lemmas.List.{get_or_append_left}
 use Rattle.std.proofs.lemmas.Slice.Eq.{bytes_eq-Decides}
-use Rattle.memchr.specs.Find.{Nowhere, Passes, is_byte2}
+use Rattle.memchr.specs.Find.{FindsNeedle, Nowhere, OccursAt}
 use Rattle.sudoers_text.specs.declared.token.Token.{Token}
 use Rattle.sudoers_text.specs.Whole.{is_logical_line}
 use Rattle.sudoers_line.specs.declared.fault.LineFault.{LineFault}
@@ -16,45 +17,71 @@ use Rattle.sudoers_line_reader.specs.Outcome.{outcome_of, IsOutcome}
 use Rattle.sudoers_tree.specs.Lead.{lead_of, lead_said, leads}
 use Rattle.sudoers_tree.specs.Single.{said}
 
--- the first byte of a part stands in the whole
-first_there : (line : List ℕ) (a n b : ℕ) (rest : List ℕ) → take n (drop a line) ≡ b ∷ rest → (a < length line) × (slice_index line a ≡ b)
-first_there [] zero zero b rest is = absurd cc
-first_there [] zero (suc n) b rest is = absurd cc
-first_there [] (suc a) zero b rest is = absurd cc
-first_there [] (suc a) (suc n) b rest is = absurd cc
-first_there (x ∷ line) zero zero b rest is = absurd cc
-first_there (x ∷ line) zero (suc n) b rest is = (omega arith, cc)
-first_there (x ∷ line) (suc a) n b rest is =
-    let later = first_there line a n b rest is in
-    (omega (arith, later.0), later.1)
+-- the bytes `include` stand in the text
+abbrev Holds : List ℕ → Type 0
+Holds text = (before : List ℕ) × (after : List ℕ) × (text ≡ before ++ (codes "include" ++ after))
 
--- the word of an include begins with `@` or `#`
-abbrev Begins : List ℕ → Type 0
-Begins text = (b : ℕ) × (rest : List ℕ) × (text ≡ b ∷ rest) × (is_byte2 64 35 b ≡ true)
+holds_front : (text more : List ℕ) → Holds text → Holds (text ++ more)
+holds_front text more (before, after, is) =
+    ( before
+    , after ++ more
+    , ap (λ t. t ++ more) is ∙ append_assoc before (codes "include" ++ after) more ∙ ap (λ t. before ++ t) (append_assoc (codes "include") after more)
+    )
 
-abbrev AllBegin : List (List ℕ × Bool) → Type 0
-AllBegin rows = (text : List ℕ) (dir : Bool) → looked_up rows text ≡ Some dir → Begins text
+holds_behind : (front text : List ℕ) → Holds text → Holds (front ++ text)
+holds_behind front text (before, after, is) =
+    (front ++ before, after, ap (λ t. front ++ t) is ∙ sym (append_assoc front before (codes "include" ++ after)))
 
-begin_next : (b : ℕ) (word : List ℕ) (dir : Bool) (rows : List (List ℕ × Bool)) → is_byte2 64 35 b ≡ true → AllBegin rows → AllBegin ((b ∷ word, dir) ∷ rows)
-begin_next b word dir rows first later text d found = by (bytes_eq text (b ∷ word)) refl found
+holds_part : (text : List ℕ) (from size : ℕ) → Holds (take size (drop from text)) → Holds text
+holds_part text from size part =
+    subst Holds (take-append-drop from text)
+    (holds_behind (take from text) (drop from text)
+    (subst Holds (take-append-drop size (drop from text)) (holds_front (take size (drop from text)) (drop size (drop from text)) part)))
+
+-- ---- where they stand
+
+byte_there : (before after : List ℕ) (j : ℕ) → j < length (codes "include")
+    → slice_index (before ++ (codes "include" ++ after)) (length before + j) ≡ slice_index (codes "include") j
+byte_there before after j within =
+    get_or-append-add before (codes "include" ++ after) j 0 ∙ get_or_append_left (codes "include") after 0 j within
+
+occurs : (before after : List ℕ) → OccursAt (before ++ (codes "include" ++ after)) (codes "include") (length before)
+occurs before after =
+    record {
+      fits = omega (arith, length-append before (codes "include" ++ after), length-append (codes "include") after);
+      reads = byte_there before after
+    }
+
+none_held : (text : List ℕ) → Nowhere (OccursAt text (codes "include")) 0 (length text + 1) → Holds text → ⊥
+none_held text none (before, after, is) =
+    let there : OccursAt text (codes "include") (length before) = subst (λ t. OccursAt t (codes "include") (length before)) (sym is) (occurs before after) in
+    none (length before) (omega arith) (omega (arith, there.fits)) there
+
+-- ---- the words of an include
+
+abbrev AllHold : List (List ℕ × Bool) → Type 0
+AllHold rows = (text : List ℕ) (dir : Bool) → looked_up rows text ≡ Some dir → Holds text
+
+hold_next : (word : List ℕ) (dir : Bool) (rows : List (List ℕ × Bool)) → Holds word → AllHold rows → AllHold ((word, dir) ∷ rows)
+hold_next word dir rows first later text d found = by (bytes_eq text word) refl found
   where
-    by : (t : Bool) → bytes_eq text (b ∷ word) ≡ t → (if t then Some dir else looked_up rows text) ≡ Some d → Begins text
-    by true e f = (b, word, (bytes_eq-Decides text (b ∷ word)).0 e, first)
+    by : (t : Bool) → bytes_eq text word ≡ t → (if t then Some dir else looked_up rows text) ≡ Some d → Holds text
+    by true e f = subst Holds (sym ((bytes_eq-Decides text word).0 e)) first
     by false e f = later text d f
 
-word_begins : AllBegin include_words
-word_begins =
-    begin_next 35 (codes "include") false (drop 1 include_words) refl
-    (begin_next 35 (codes "includedir") true (drop 2 include_words) refl
-    (begin_next 64 (codes "include") false (drop 3 include_words) refl
-    (begin_next 64 (codes "includedir") true [] refl (λ text dir found. absurd cc))))
+words_hold : AllHold include_words
+words_hold =
+    hold_next (codes "#include") false (drop 1 include_words) (35 ∷ [], [], refl)
+    (hold_next (codes "#includedir") true (drop 2 include_words) (35 ∷ [], codes "dir", refl)
+    (hold_next (codes "@include") false (drop 3 include_words) (64 ∷ [], [], refl)
+    (hold_next (codes "@includedir") true [] (64 ∷ [], codes "dir", refl) (λ text dir found. absurd cc))))
 
-piece_begins : (word : Piece) (dir : Bool) → include_word word ≡ Some dir → Begins word.text
+piece_holds : (word : Piece) (dir : Bool) → include_word word ≡ Some dir → Holds word.text
 unfolding include_word
-piece_begins word dir is = by (is_word word.kind) is
+piece_holds word dir is = by (is_word word.kind) is
   where
-    by : (t : Bool) → (if t then looked_up include_words word.text else None) ≡ Some dir → Begins word.text
-    by true found = word_begins word.text dir found
+    by : (t : Bool) → (if t then looked_up include_words word.text else None) ≡ Some dir → Holds word.text
+    by true found = words_hold word.text dir found
     by false found = absurd cc
 
 -- the first piece is a part of the line
@@ -63,23 +90,23 @@ first_piece : (line : List ℕ) (tokens : List Token) (word : Piece) (rest : Lis
 first_piece line [] word rest is = absurd cc
 first_piece line (t ∷ tokens) word rest is = (t, cc)
 
-no_include : (line : List ℕ) (dir : Bool) (path : List ℕ) → Nowhere (Passes (is_byte2 64 35) line) 0 (length line) → ReadsLine line (node.Include dir path) → ⊥
-no_include line dir path none reads =
+include_holds : (line : List ℕ) (dir : Bool) (path : List ℕ) → ReadsLine line (node.Include dir path) → Holds line
+include_holds line dir path reads =
     let include : IsInclude dir path (pieces line reads.tokens) reads.reads.0 = reads.reads.1 in
-    let begins = piece_begins include.word dir include.is_include in
     let part = first_piece line reads.tokens include.word (include.name ∷ reads.reads.0) include.split in
-    let there = first_there line part.0.start (part.0.stop - part.0.start) begins.0 begins.1 (sym part.1 ∙ begins.2) in
-    none part.0.start (omega arith) there.0 (ap (is_byte2 64 35) there.1 ∙ begins.3)
+    holds_part line part.0.start (part.0.stop - part.0.start) (subst Holds part.1 (piece_holds include.word dir include.is_include))
 
-nowhere : (name line : List ℕ) (n : Node) → Nowhere (Passes (is_byte2 64 35) line) 0 (length line) → ReadsLine line n → lead_of name n ≡ None
-nowhere name line (node.Include dir path) none reads = absurd (no_include line dir path none reads)
+-- ---- a line without them
+
+nowhere : (name line : List ℕ) (n : Node) → (Holds line → ⊥) → ReadsLine line n → lead_of name n ≡ None
+nowhere name line (node.Include dir path) none reads = absurd (none (include_holds line dir path reads))
 nowhere name line node.Blank none reads = refl
 nowhere name line node.Comment none reads = refl
 nowhere name line (node.Defaults scope params) none reads = refl
 nowhere name line (node.Alias k defs) none reads = refl
 nowhere name line (node.Spec users groups) none reads = refl
 
-pub leads_nowhere : (name line : List ℕ) → Nowhere (Passes (is_byte2 64 35) line) 0 (length line) → IsOutcome line (outcome_of line) → leads name line ≡ None
+leads_nowhere : (name line : List ℕ) → (Holds line → ⊥) → IsOutcome line (outcome_of line) → leads name line ≡ None
 unfolding said
 leads_nowhere name line none is = by (is_logical_line line) (outcome_of line) is
   where
@@ -87,3 +114,16 @@ leads_nowhere name line none is = by (is_logical_line line) (outcome_of line) is
     by true (Ok n) reads = nowhere name line n none reads
     by true (Err fault) reads = refl
     by false r reads = refl
+
+-- no part of a text without them leads anywhere
+part_leads_nowhere : (text name before line after : List ℕ) → Nowhere (OccursAt text (codes "include")) 0 (length text + 1)
+    → text ≡ before ++ (line ++ after) → IsOutcome line (outcome_of line) → leads name line ≡ None
+part_leads_nowhere text name before line after none is =
+    leads_nowhere name line
+    (λ held. none_held text none (subst Holds (sym is) (holds_behind before (line ++ after) (holds_front line after held))))
+
+-- The same, by whether they are found.
+pub none_leads : (text : List ℕ) (found : Option ℕ) → FindsNeedle text (codes "include") 0 found → is_some found ≡ false
+    → (name before line after : List ℕ) → text ≡ before ++ (line ++ after) → IsOutcome line (outcome_of line) → leads name line ≡ None
+none_leads text None none lacks name before line after = part_leads_nowhere text name before line after none
+none_leads text (Some at) there lacks name before line after = absurd cc

@@ -10,6 +10,8 @@ pub mod ReadUntil
 pub mod ReadsLines
 pub mod Parts
 pub mod LineRows
+pub mod Placed
+pub mod WholeFiles
 pub mod Visits
 pub mod WalkOutcomes
 pub mod WalkSound

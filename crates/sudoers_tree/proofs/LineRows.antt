@@ -1,5 +1,5 @@
 -- Physical lines of the lines of a file.
-use Rattle.std.proofs.Common.{◌≡◌, ℕ, zero, suc, ◌+◌, ◌≤◌, List, [], ◌∷◌, ◌++◌, length, min, take, drop, slice_get, Some, sym, ap, ◌∙◌, arith}
+use Rattle.std.proofs.Common.{◌≡◌, ℕ, zero, suc, ◌+◌, ◌≤◌, ◌*◌, List, [], ◌∷◌, ◌++◌, length, min, take, drop, slice_get, Some, sym, ap, ◌∙◌, arith}
 use Rattle.std.proofs.lemmas.List.{length-append, take-append-drop, take_all, take_more}
 use Rattle.std.proofs.lemmas.Option.{get_or_from_slice_get, slice_get_within}
 use Rattle.sudoers_text.specs.Line.{join}
@@ -10,6 +10,7 @@ use Rattle.sudoers_tree.specs.Policy.{texts}
 use Rattle.sudoers_tree.specs.Files.{row_of}
 use Rattle.sudoers_tree.proofs.Joined.{join_append}
 use Rattle.sudoers_tree.proofs.LineEnds.{lf_short}
+use Rattle.sudoers_tree.proofs.Numbered.{drop_at}
 use Rattle.sudoers_tree.proofs.ReadUntil.{row_more}
 use Rattle.std.proofs.lemmas.List.{map-append}
 
@@ -32,6 +33,19 @@ row_within lines n row lfs line at is count fits =
     ∙ ap join (map-append (λ (l : Line). l.text) (take (n + 1) lines) (drop (n + 1) lines))
     ∙ join_append (texts (take (n + 1) lines)) (texts (drop (n + 1) lines))) in
     omega (arith, next_row lines n row lfs line at is count, lf_short front, whole, length-append front behind, fits)
+
+-- A line of a file, and the row on which it begins, are within the limits of two texts.
+pub line_fits : (lines : List Line) (n : ℕ) (line : Line) → slice_get lines n ≡ Some line → length (join (texts lines)) ≤ text_limit
+    → row_of lines n + length line.text ≤ 2 * text_limit + 1
+line_fits lines n line at fits =
+    let front = join (texts (take n lines)) in
+    let behind = join (texts (drop (n + 1) lines)) in
+    let whole : length (join (texts lines)) ≡ length (front ++ (line.text ++ behind)) =
+    ap length (ap (λ ls. join (texts ls)) (sym (take-append-drop n lines))
+    ∙ ap (λ ls. join (texts (take n lines ++ ls))) (drop_at lines n line at)
+    ∙ ap join (map-append (λ (l : Line). l.text) (take n lines) (line ∷ drop (n + 1) lines))
+    ∙ join_append (texts (take n lines)) (texts (line ∷ drop (n + 1) lines))) in
+    omega (arith, lf_short front, whole, length-append front (line.text ++ behind), length-append line.text behind, fits)
 
 -- Past the last line it is the one behind all.
 pub row_past : (lines : List Line) (n k : ℕ) → k ≡ min n (length lines) → row_of lines k ≡ row_of lines n

@@ -5,14 +5,14 @@ use Rattle.sudoers_tree.specs.declared.load_fault.LoadFault.{LoadFault}
 use Rattle.sudoers_tree.specs.declared.load_fault.LoadFault.TheVariants.{NoMemory, SameName, TooManyFiles}
 use Rattle.sudoers_tree.specs.Files.{FileReading, lines_of}
 use Rattle.sudoers_tree.specs.Walk.{Walked, and_then, depth_limit, enter, nothing, visit, walk_lines, walk_of}
-use Rattle.sudoers_tree.specs.Load.{file_limit, first_repeated, load_of, readings, unless_off, unless_same, walked_over}
+use Rattle.sudoers_tree.specs.Load.{Loaded, file_limit, first_repeated, load_of, loaded_over, readings, unless_off, unless_same, walked_over}
 
 by_parts : (files : List NamedFile) (t : Bool) (o : Option (List ℕ)) → nat_lt file_limit (length files) ≡ t → first_repeated [] files ≡ o
-    → load_of files ≡ (if t then Err TooManyFiles else unless_same o (and_then (readings [] files) walked_over))
+    → load_of files ≡ (if t then Err TooManyFiles else unless_same o (and_then (readings [] files) loaded_over))
 unfolding load_of
 by_parts files t o many same =
-    ap (λ b. if b then Err TooManyFiles else unless_same (first_repeated [] files) (and_then (readings [] files) walked_over)) many
-    ∙ ap (λ n. if t then Err TooManyFiles else unless_same n (and_then (readings [] files) walked_over)) same
+    ap (λ b. if b then Err TooManyFiles else unless_same (first_repeated [] files) (and_then (readings [] files) loaded_over)) many
+    ∙ ap (λ n. if t then Err TooManyFiles else unless_same n (and_then (readings [] files) loaded_over)) same
 
 pub too_many : (files : List NamedFile) → nat_lt file_limit (length files) ≡ true → load_of files ≡ Err TooManyFiles
 too_many files many = by_parts files true (first_repeated [] files) many refl
@@ -22,7 +22,7 @@ pub same_name : (files : List NamedFile) (name : List ℕ) → nat_lt file_limit
 same_name files name few same = by_parts files false (Some name) few same
 
 pub loads_as : (files : List NamedFile) → nat_lt file_limit (length files) ≡ false → first_repeated [] files ≡ None
-    → load_of files ≡ and_then (readings [] files) walked_over
+    → load_of files ≡ and_then (readings [] files) loaded_over
 loads_as files few same = by_parts files false None few same
 
 -- the walk from the first file on
@@ -34,22 +34,22 @@ walk_from read w is = ap (λ v. walk_lines (visit depth_limit read) read 0 0 (li
 -- ---- the fault with which loading ends, or want of memory
 
 -- One of two outcomes: want of memory, or a fault.
-abbrev pub Stops : LoadFault → Result Walked LoadFault → Type 0
+abbrev pub Stops : {A : Type 0} → LoadFault → Result A LoadFault → Type 0
 Stops fault outcome = (fault ≡ NoMemory) ⊎ (outcome ≡ Err fault)
 
-pub not_read : (files : List NamedFile) (fault : LoadFault) (whole : Result Walked LoadFault) → whole ≡ and_then (readings [] files) walked_over
+pub not_read : (files : List NamedFile) (fault : LoadFault) (whole : Result Loaded LoadFault) → whole ≡ and_then (readings [] files) loaded_over
     → (fault ≡ NoMemory) ⊎ (readings [] files ≡ Err fault) → Stops fault whole
 not_read files fault whole is (inl memory) = inl memory
-not_read files fault whole is (inr e) = inr (is ∙ ap (λ r. and_then r walked_over) e)
+not_read files fault whole is (inr e) = inr (is ∙ ap (λ r. and_then r loaded_over) e)
 
-pub not_walked : (files : List NamedFile) (read : List FileReading) (fault : LoadFault) (whole : Result Walked LoadFault)
-    → whole ≡ and_then (readings [] files) walked_over → readings [] files ≡ Ok read → Stops fault (walked_over read) → Stops fault whole
+pub not_walked : (files : List NamedFile) (read : List FileReading) (fault : LoadFault) (whole : Result Loaded LoadFault)
+    → whole ≡ and_then (readings [] files) loaded_over → readings [] files ≡ Ok read → Stops fault (walked_over read) → Stops fault whole
 not_walked files read fault whole is r (inl memory) = inl memory
-not_walked files read fault whole is r (inr e) = inr (is ∙ ap (λ o. and_then o walked_over) r ∙ e)
+not_walked files read fault whole is r (inr e) = inr (is ∙ ap (λ o. and_then o loaded_over) r ∙ ap (λ o. and_then o (λ w. Ok (record { files = read; walk = w }))) e)
 
-pub all_walked : (files : List NamedFile) (read : List FileReading) (w : Walked) (whole : Result Walked LoadFault)
-    → whole ≡ and_then (readings [] files) walked_over → readings [] files ≡ Ok read → walked_over read ≡ Ok w → whole ≡ Ok w
-all_walked files read w whole is r e = is ∙ ap (λ o. and_then o walked_over) r ∙ e
+pub all_walked : (files : List NamedFile) (read : List FileReading) (w : Walked) (whole : Result Loaded LoadFault)
+    → whole ≡ and_then (readings [] files) loaded_over → readings [] files ≡ Ok read → walked_over read ≡ Ok w → whole ≡ Ok (record { files = read; walk = w })
+all_walked files read w whole is r e = is ∙ ap (λ o. and_then o loaded_over) r ∙ ap (λ o. and_then o (λ w. Ok (record { files = read; walk = w }))) e
 
 -- ---- the walk and the files that are not on it
 

@@ -15,6 +15,18 @@ drop_at (y ∷ xs) (suc n) x is =
     let count : suc (n + 1) ≡ suc n + 1 = omega arith in
     drop_at xs n x is ∙ ap (λ k. x ∷ drop k (y ∷ xs)) count
 
+-- The rest of a list from a number on: its first item has that number, and the items behind it are the rest from the next one on.
+pub first_at : {A : Type 0} (rest xs : List A) (n : ℕ) (x : A) → x ∷ rest ≡ drop n xs → slice_get xs n ≡ Some x
+first_at rest [] zero x is = absurd cc
+first_at rest [] (suc n) x is = absurd cc
+first_at rest (y ∷ xs) zero x is = cc
+first_at rest (y ∷ xs) (suc n) x is = first_at rest xs n x is
+
+pub behind_first : {A : Type 0} (rest xs : List A) (n : ℕ) (x : A) → x ∷ rest ≡ drop n xs → rest ≡ drop (n + 1) xs
+behind_first rest xs n x is =
+    let same : x ∷ rest ≡ x ∷ drop (n + 1) xs = is ∙ drop_at xs n x (first_at rest xs n x is) in
+    cc
+
 -- There is an item with each number below how many there are.
 pub item_at : {A : Type 0} (xs : List A) (n : ℕ) → n < length xs → (x : A) × (slice_get xs n ≡ Some x)
 item_at [] n less = absurd (omega (arith, less))

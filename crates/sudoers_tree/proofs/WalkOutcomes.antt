@@ -7,7 +7,7 @@ use Rattle.sudoers_tree.specs.declared.fault.ReadFault.TheVariants.{TooDeep}
 use Rattle.sudoers_tree.specs.declared.load_fault.LoadFault.TheVariants.{InFile}
 use Rattle.sudoers_tree.specs.Fault.{syntax_fault}
 use Rattle.sudoers_tree.specs.Files.{FileReading, fault_of, lines_of, name_of}
-use Rattle.sudoers_tree.specs.Walk.{Site, Walked, and_then, depth_limit, enter, is_on, leads_to, nothing, opened, site, taken, twice, unless_in, visit, visit_each, walk_lines, walk_of}
+use Rattle.sudoers_tree.specs.Walk.{Site, Walked, and_then, depth_limit, enter, is_on, leads_to, nothing, opened, site, spot_of, taken, twice, unless_in, visit, visit_each, walk_lines, walk_of}
 use Rattle.sudoers_tree.specs.Goes.{Goes, Enters, IsWalkOf, end, broken, wrong, shut, stops, onward, none, again, deep, inside, more}
 
 -- ---- what is computed comes of it
@@ -46,24 +46,24 @@ end_is files left f n w (Some fault) is =
 
 lines_are : (files : List FileReading) (left : ℕ) → Visits files left → (f n : ℕ) (lines : List Line) (w : Walked) → Goes files left f n lines w (walk_lines (visit left files) files f n lines w)
 lines_are files left visits f n [] w = end_is files left f n w (fault_of files f) refl
-lines_are files left visits f n (line ∷ lines) w = by_taken (taken (name_of files f) (record { file = f; line = n }) line w) refl (λ within. lines_are files left visits f (n + 1) lines within)
+lines_are files left visits f n (line ∷ lines) w = by_taken (taken (name_of files f) (spot_of files f n) line w) refl (λ within. lines_are files left visits f (n + 1) lines within)
   where
     Next : Type 0
     Next = (within : Walked) → Goes files left f (n + 1) lines within (walk_lines (visit left files) files f (n + 1) lines within)
 
-    by_each : (r : Result Walked LoadFault) (now : Walked) (inner : List ℕ) → taken (name_of files f) (record { file = f; line = n }) line w ≡ Ok now → opened files (site files f n) now (leads_to files f line) ≡ Ok inner
+    by_each : (r : Result Walked LoadFault) (now : Walked) (inner : List ℕ) → taken (name_of files f) (spot_of files f n) line w ≡ Ok now → opened files (site files f n) now (leads_to files f line) ≡ Ok inner
         → Enters files left (site files f n) inner now r → Next
         → Goes files left f n (line ∷ lines) w (and_then r (walk_lines (visit left files) files f (n + 1) lines))
     by_each (Ok within) now inner t o e next =
         onward left f n line lines w now within inner (walk_lines (visit left files) files f (n + 1) lines within) t o e (next within)
     by_each (Err fault) now inner t o e next = stops left f n line lines w now inner fault t o e
 
-    by_opened : (r : Result (List ℕ) LoadFault) (now : Walked) → taken (name_of files f) (record { file = f; line = n }) line w ≡ Ok now → opened files (site files f n) now (leads_to files f line) ≡ r → Next
+    by_opened : (r : Result (List ℕ) LoadFault) (now : Walked) → taken (name_of files f) (spot_of files f n) line w ≡ Ok now → opened files (site files f n) now (leads_to files f line) ≡ r → Next
         → Goes files left f n (line ∷ lines) w (and_then r (λ inner. and_then (visit_each (visit left files) files (site files f n) inner now) (walk_lines (visit left files) files f (n + 1) lines)))
     by_opened (Ok inner) now t o next = by_each (visit_each (visit left files) files (site files f n) inner now) now inner t o (each_is files left visits (site files f n) inner now) next
     by_opened (Err fault) now t o next = shut left f n line lines w now fault t o
 
-    by_taken : (r : Result Walked LoadFault) → taken (name_of files f) (record { file = f; line = n }) line w ≡ r → Next
+    by_taken : (r : Result Walked LoadFault) → taken (name_of files f) (spot_of files f n) line w ≡ r → Next
         → Goes files left f n (line ∷ lines) w (and_then r (λ now. and_then (opened files (site files f n) now (leads_to files f line)) (λ inner.
         and_then (visit_each (visit left files) files (site files f n) inner now) (walk_lines (visit left files) files f (n + 1) lines))))
     by_taken (Ok now) t next = by_opened (opened files (site files f n) now (leads_to files f line)) now t refl next

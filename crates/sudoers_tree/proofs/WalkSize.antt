@@ -25,9 +25,9 @@ use Rattle.sudoers_tree.specs.Policy.{texts}
 use Rattle.sudoers_tree.specs.Fault.{syntax_fault}
 use Rattle.sudoers_tree.specs.Reading.{first_name_fault}
 use Rattle.sudoers_tree.specs.Files.{FileReading, fault_of, lines_of, name_of, reading_of}
-use Rattle.sudoers_tree.specs.Load.{cut_file, file_limit, load_of, readings}
+use Rattle.sudoers_tree.specs.Load.{Loaded, cut_file, file_limit, load_of, readings}
 use Rattle.sudoers_tree.specs.Targets.{files_in, is_before, is_in_folder, number_of, put_in_order, targets}
-use Rattle.sudoers_tree.specs.Walk.{Site, Visit, Walked, and_then, depth_limit, enter, first_on, is_on, leads_to, nothing, opened, site, taken, twice, unless_in, unless_missing, unless_on, visit, visit_each, walk_lines, walk_of}
+use Rattle.sudoers_tree.specs.Walk.{Site, Visit, Walked, and_then, depth_limit, enter, first_on, is_on, leads_to, nothing, opened, site, spot_of, taken, twice, unless_in, unless_missing, unless_on, visit, visit_each, walk_lines, walk_of}
 use Rattle.sudoers_tree.proofs.Joined.{join_push}
 use Rattle.sudoers_tree.proofs.Outcomes.{CutsAre}
 use Rattle.sudoers_tree.proofs.Parts.{read_fits}
@@ -166,7 +166,7 @@ lines_add count visit files within-count enters f n [] w now numbered is = by (o
     by None e = subst (Adds count 0 w) (ok_is w now e) (record { numbered = numbered; fits = omega arith })
     by (Some fault) e = absurd cc
 lines_add count visit files within-count enters f n (line ∷ lines) w now numbered is =
-    by_taken (taken (name_of files f) (record { file = f; line = n }) line w) refl is (λ within. lines_add count visit files within-count enters f (n + 1) lines within now)
+    by_taken (taken (name_of files f) (spot_of files f n) line w) refl is (λ within. lines_add count visit files within-count enters f (n + 1) lines within now)
   where
     whole : length (join (texts (line ∷ lines))) ≡ length line.text + length (join (texts lines))
     whole = length-append line.text (join (texts lines))
@@ -189,13 +189,13 @@ lines_add count visit files within-count enters f n (line ∷ lines) w now numbe
     by_opened (Ok inner) passed here o e later = by_each (visit_each visit files (site files f n) inner passed) passed inner here o refl e later
     by_opened (Err fault) passed here o e later = absurd cc
 
-    by_taken : (r : Outcome) → taken (name_of files f) (record { file = f; line = n }) line w ≡ r
+    by_taken : (r : Outcome) → taken (name_of files f) (spot_of files f n) line w ≡ r
         → and_then r (λ passed. and_then (opened files (site files f n) passed (leads_to files f line)) (λ inner.
         and_then (visit_each visit files (site files f n) inner passed) (walk_lines visit files f (n + 1) lines))) ≡ Ok now → Later
         → Adds count (length (join (texts (line ∷ lines)))) w now
     by_taken (Ok passed) t e later =
         by_opened (opened files (site files f n) passed (leads_to files f line)) passed
-        (taken_adds count (name_of files f) (record { file = f; line = n }) line w passed numbered t) refl e later
+        (taken_adds count (name_of files f) (spot_of files f n) line w passed numbered t) refl e later
     by_taken (Err fault) t e later = absurd cc
 
 -- each file is within the limit of a text
@@ -263,9 +263,9 @@ all_fit (file ∷ files) fit (suc f) = all_fit files fit.1 f
 
 -- Each file is on the walk over files that are loaded at most once. All its lines are within the limit of as many texts as there may be
 -- files.
-pub loaded_within : CutsAre → (files : List NamedFile) (w : Walked) → load_of files ≡ Ok w
-    → IsDistinct nat_eq w.on × (length (join (texts w.lines)) ≤ file_limit * text_limit)
-loaded_within cuts files w is =
-    let load = loaded_as files w is in
-    let fit = readings_fit cuts [] load.read files tt load.reads in
-    walk_adds load.read file_limit (all_fit load.read fit.0) (omega (arith, fit.1, load.few)) (omega arith) w load.walks
+pub loaded_within : CutsAre → (files : List NamedFile) (p : Loaded) → load_of files ≡ Ok p
+    → IsDistinct nat_eq p.walk.on × (length (join (texts p.walk.lines)) ≤ file_limit * text_limit)
+loaded_within cuts files p is =
+    let load = loaded_as files p is in
+    let fit = readings_fit cuts [] p.files files tt load.reads in
+    walk_adds p.files file_limit (all_fit p.files fit.0) (omega (arith, fit.1, load.few)) (omega arith) p.walk load.walks

@@ -9,7 +9,7 @@ use Rattle.sudoers_tree.specs.declared.fault.ReadFault.TheVariants.{TooDeep}
 use Rattle.sudoers_tree.specs.declared.load_fault.LoadFault.TheVariants.{InFile}
 use Rattle.sudoers_tree.specs.Fault.{syntax_fault}
 use Rattle.sudoers_tree.specs.Files.{FileReading, fault_of, lines_of, name_of}
-use Rattle.sudoers_tree.specs.Walk.{Site, Walked, depth_limit, enter, is_on, leads_to, nothing, opened, site, taken, twice}
+use Rattle.sudoers_tree.specs.Walk.{Site, Walked, depth_limit, enter, is_on, leads_to, nothing, opened, site, spot_of, taken, twice}
 
 mutual
   -- what comes of these lines of the file f, from the one with the number n on, where files may be nested so many levels deeper
@@ -20,22 +20,22 @@ mutual
         → Goes files left f n [] w (Err (InFile (name_of files f) (syntax_fault fault)))
     -- a name that the line defines cannot stand there
     wrong : (left f n : ℕ) (line : Line) (lines : List Line) (w : Walked) (fault : LoadFault)
-        → taken (name_of files f) (record { file = f; line = n }) line w ≡ Err fault
+        → taken (name_of files f) (spot_of files f n) line w ≡ Err fault
         → Goes files left f n (line ∷ lines) w (Err fault)
     -- it cannot lead where it does
     shut : (left f n : ℕ) (line : Line) (lines : List Line) (w now : Walked) (fault : LoadFault)
-        → taken (name_of files f) (record { file = f; line = n }) line w ≡ Ok now
+        → taken (name_of files f) (spot_of files f n) line w ≡ Ok now
         → opened files (site files f n) now (leads_to files f line) ≡ Err fault
         → Goes files left f n (line ∷ lines) w (Err fault)
     -- a file to which it leads has a fault
     stops : (left f n : ℕ) (line : Line) (lines : List Line) (w now : Walked) (inner : List ℕ) (fault : LoadFault)
-        → taken (name_of files f) (record { file = f; line = n }) line w ≡ Ok now
+        → taken (name_of files f) (spot_of files f n) line w ≡ Ok now
         → opened files (site files f n) now (leads_to files f line) ≡ Ok inner
         → Enters files left (site files f n) inner now (Err fault)
         → Goes files left f n (line ∷ lines) w (Err fault)
     -- the line, the files to which it leads, and the lines behind it
     onward : (left f n : ℕ) (line : Line) (lines : List Line) (w now within : Walked) (inner : List ℕ) (outcome : Result Walked LoadFault)
-        → taken (name_of files f) (record { file = f; line = n }) line w ≡ Ok now
+        → taken (name_of files f) (spot_of files f n) line w ≡ Ok now
         → opened files (site files f n) now (leads_to files f line) ≡ Ok inner
         → Enters files left (site files f n) inner now (Ok within)
         → Goes files left f (n + 1) lines within outcome

@@ -1,9 +1,10 @@
--- What comes of files that are loaded: the walk over them, or their first fault.
-use Rattle.std.specs.Prelude.{ℕ, ◌+◌, Bool, List, [], ◌∷◌, ◌++◌, length, map, nat_lt, Option, Some, None, Result, Ok, Err, if◌then◌else◌}
+-- What comes of files that are loaded: a policy of several files, or their first fault.
+use Rattle.std.specs.Prelude.{◌≡◌, ◌≤◌, ◌*◌, ℕ, ◌+◌, Bool, List, [], ◌∷◌, ◌++◌, codes, length, map, nat_lt, slice_get, Option, Some, None, Result, Ok, Err, if◌then◌else◌}
 use Rattle.std.specs.List.{list_any}
 use Rattle.std.specs.Option.{option_map}
 use Rattle.std.specs.Str.{bytes_eq}
 use Rattle.sudoers_text.specs.Cut.{cut_of}
+use Rattle.sudoers_text.specs.Fault.{text_limit}
 use Rattle.sudoers_text.specs.Word.{is_reserved}
 use Rattle.sudoers_text.specs.declared.fault.TextFault.{TextFault}
 use Rattle.sudoers_tree.specs.Line.{Line}
@@ -15,8 +16,9 @@ use Rattle.sudoers_tree.specs.declared.load_fault.LoadFault.TheVariants.{InFile,
 use Rattle.sudoers_tree.specs.Definition.{Definition, definitions_in}
 use Rattle.sudoers_tree.specs.Fault.{syntax_fault}
 use Rattle.sudoers_tree.specs.Reading.{or_later}
-use Rattle.sudoers_tree.specs.Files.{FileReading, reading_of}
-use Rattle.sudoers_tree.specs.Walk.{Walked, and_then, is_on, unless_in, walk_of}
+use Rattle.sudoers_tree.specs.Files.{FileReading, lines_of, reading_of}
+use Rattle.sudoers_tree.specs.declared.place.Spot.{Spot}
+use Rattle.sudoers_tree.specs.Walk.{Walked, and_then, is_on, spot_of, unless_in, walk_of}
 
 -- how many files there may be
 abbrev pub file_limit : ℕ
@@ -72,13 +74,44 @@ unless_off w n (file ∷ files) =
 
 -- ---- all files
 
+-- a policy of several files: each file as it is read, and the walk over them
+pub record Loaded : Type 0 where
+  pub files : List FileReading
+  pub walk : Walked
+
 -- the walk over files that are read, or the first fault: that of the walk, or else of a file that is not on it
 abbrev pub walked_over : List FileReading → Result Walked LoadFault
 walked_over read = and_then (walk_of read) (λ w. unless_off w 0 read)
 
+abbrev pub loaded_over : List FileReading → Result Loaded LoadFault
+loaded_over read = and_then (walked_over read) (λ w. Ok (record { files = read; walk = w }))
+
+-- the one file of a text, whose name is `policy`
+abbrev pub one_file : List ℕ → List NamedFile
+one_file text = record { name = codes "policy"; bytes = text } ∷ []
+
+-- The spot says where the line stands: it is that line of that file.
+pub record StandsAt (files : List FileReading) (at : Spot) (line : Line) : Type 0 where
+  pub is_spot : at ≡ spot_of files at.file at.line
+  pub is_line : slice_get (lines_of files at.file) at.line ≡ Some line
+
+-- Each line stands at its spot.
+abbrev pub StandAt : List FileReading → List Spot → List Line → Type 0
+StandAt files [] [] = Unit {0}
+StandAt files (at ∷ spots) (line ∷ lines) = StandsAt files at line × StandAt files spots lines
+StandAt files [] (line ∷ lines) = ⊥
+StandAt files (at ∷ spots) [] = ⊥
+
+-- The line with this number of the walk has a spot, at which it stands. Its row and its text are within the limits of two texts.
+pub record HasSpot (policy : Loaded) (number : ℕ) (line : Line) : Type 0 where
+  pub at : Spot
+  pub is : slice_get policy.walk.spots number ≡ Some at
+  pub stands : StandsAt policy.files at line
+  pub fits : at.row + length line.text ≤ 2 * text_limit + 1
+
 -- What comes of these files: too many are a fault, and two of one name; then the texts that cannot be cut, in their order; then the
 -- first fault of the walk and of the files that are not on it.
-unfoldable pub load_of : List NamedFile → Result Walked LoadFault
+unfoldable pub load_of : List NamedFile → Result Loaded LoadFault
 load_of files =
     if nat_lt file_limit (length files) then Err TooManyFiles
-    else unless_same (first_repeated [] files) (and_then (readings [] files) walked_over)
+    else unless_same (first_repeated [] files) (and_then (readings [] files) loaded_over)

@@ -1,6 +1,6 @@
 -- The walk over files: the lines of the first, each include line followed by the walk of the files to which it leads. Here it is a
 -- function that computes. That it is the walk of `Goes.antt` is a law (`walk_is`).
-use Rattle.std.specs.Prelude.{ℕ, zero, suc, ◌+◌, nat_eq, Bool, List, [], ◌∷◌, ◌++◌, length, Option, Some, None, Result, Ok, Err, if◌then◌else◌}
+use Rattle.std.specs.Prelude.{ℕ, zero, suc, ◌+◌, nat_eq, Bool, List, [], ◌∷◌, ◌++◌, length, slice_index_or, Option, Some, None, Result, Ok, Err, if◌then◌else◌}
 use Rattle.std.specs.List.{list_any}
 use Rattle.std.specs.Option.{option_map}
 use Rattle.sudoers_tree.specs.Line.{Line}
@@ -32,6 +32,10 @@ nothing = record { lines = []; spots = []; on = [] }
 
 abbrev pub is_on : Walked → ℕ → Bool
 is_on w f = list_any (nat_eq f) w.on
+
+-- where the line with this number stands; each line has a spot
+abbrev pub spot_at : Walked → ℕ → Spot
+spot_at w n = slice_index_or w.spots n (record { file = 0; line = 0; row = 1 })
 
 -- the file comes onto the walk
 abbrev pub enter : ℕ → Walked → Walked
@@ -78,6 +82,10 @@ abbrev pub opened : List FileReading → Site → Walked → Option Lead → Res
 opened files at w None = Ok []
 opened files at w (Some lead) = unless_missing files at lead w (targets files lead)
 
+-- where the line with this number of a file stands
+abbrev pub spot_of : List FileReading → ℕ → ℕ → Spot
+spot_of files f n = record { file = f; line = n; row = row_of (lines_of files f) n }
+
 -- how the walk goes on with a file to which a line leads
 abbrev pub Visit : Type 0
 Visit = Site → ℕ → Walked → Result Walked LoadFault
@@ -98,7 +106,7 @@ leads_to files f line = lead_of (name_of files f) line.node
 abbrev pub walk_lines : Visit → List FileReading → ℕ → ℕ → List Line → Walked → Result Walked LoadFault
 walk_lines visit files f n [] w = unless_in (name_of files f) w (option_map syntax_fault (fault_of files f))
 walk_lines visit files f n (line ∷ lines) w =
-    and_then (taken (name_of files f) (record { file = f; line = n }) line w) (λ now.
+    and_then (taken (name_of files f) (spot_of files f n) line w) (λ now.
     and_then (opened files (site files f n) now (leads_to files f line)) (λ inner.
     and_then (visit_each visit files (site files f n) inner now) (walk_lines visit files f (n + 1) lines)))
 

@@ -1,6 +1,6 @@
 //! Files that are read.
 
-ghost use Rattle.std.specs.Prelude.{◌≡◌, ◌≤◌, ◌∷◌, [], ◌++◌, length, slice_get, option_map, IfOk, OnOk, Some};
+ghost use Rattle.std.specs.Prelude.{◌≡◌, ◌≤◌, ◌∷◌, [], ◌++◌, ◌+◌, ℕ, length, slice_get, option_map, IfOk, OnOk, Some};
 ghost use Rattle.sudoers_text.specs.Line.{join};
 ghost use Rattle.sudoers_text.specs.Fault.{text_limit};
 ghost use Rattle.sudoers_tree.specs.Files.{fault_of, lines_of, name_of, reading_of, row_of};
@@ -18,7 +18,6 @@ use crate::fault::{ReadFault, SyntaxFault};
 use crate::index::{Index, first_reserved};
 use crate::line::{Line, LineRow};
 use crate::passing::pass_line;
-use crate::place::Spot;
 use crate::position::lf_count;
 use crate::reading::read_lines;
 use crate::tree::Tree;
@@ -135,6 +134,16 @@ impl Files {
         self.parts.get(file)?.fault
     }
 
+    /// Returns the lines of the file with the number `file`, from 0, that are read; none if there is no such file.
+    pub fn lines(&self, file: usize) -> Rows<'_, LineRow>
+        ensures { lines_shown result ≡ lines_of self.now.files file }
+    {
+        match self.parts.get(file) {
+            Some(part) => self.tree.part(part.start, part.stop),
+            None => self.tree.part(0, 0),
+        }
+    }
+
     /// Returns how many lines of the file are read.
     pub fn line_count(&self, file: usize) -> usize
         ensures { result ≡ length (lines_of self.now.files file) }
@@ -145,12 +154,19 @@ impl Files {
         }
     }
 
-    /// Returns the line at `at`.
-    pub fn line(&self, at: Spot) -> Option<Line<'_>>
-        ensures { option_map line_shown result ≡ slice_get (lines_of self.now.files at.file) at.line }
+    /// Returns the line with the number `number` of a file, both from 0.
+    pub fn line(&self, file: usize, number: usize) -> Option<Line<'_>>
+        ensures { option_map line_shown result ≡ slice_get (lines_of self.now.files file) number }
     {
-        let part = self.parts.get(at.file)?;
-        self.tree.line(part.number(at.line)?)
+        let part = self.parts.get(file)?;
+        self.tree.line(part.number(number)?)
+    }
+
+    /// Returns the lines that are read, and those of the walk.
+    pub fn tree(&self) -> &Tree
+        ensures { result.now.walk ≡ self.now.walk }
+    {
+        &self.tree
     }
 
     /// Returns the lines of the walk.
@@ -169,7 +185,7 @@ impl Files {
         ensures { IfOk result (λ fault. fault ≡ or_later (reserved_in (lines_of self.now.files file)) (option_map syntax_fault (fault_of self.now.files file))) }
     {
         for line in 0..self.line_count(file) {
-            let Some(line) = self.line(Spot { file, line }) else {
+            let Some(line) = self.line(file, line) else {
                 return Ok(None);
             };
             if let Some(fault) = first_reserved(alloc, &line.node)? {
@@ -182,48 +198,60 @@ impl Files {
         }
     }
 
-    /// Appends the line at `at` to the walk, and enters the names that it defines.
+    /// Appends the line with the number `number` of a file to the walk, and enters the names that it defines.
     ///
     /// # Errors
     ///
     /// Why the first name that cannot be entered cannot, or `NoMemory`: memory ran out.
-    pub fn pass(&mut self, alloc: Global, index: &mut Index, at: Spot) -> Result<(), ReadFault>
+    pub fn pass(
+        &mut self,
+        alloc: Global,
+        index: &mut Index,
+        file: usize,
+        number: usize,
+    ) -> Result<(), ReadFault>
         requires { Indexes index.old (definitions self.old.walk) }
         ensures files { self.new.files ≡ self.old.files }
         ensures index { OnOk result (Indexes index.new (definitions self.new.walk)) }
-        ensures passes { (line : LineOf) → slice_get (lines_of self.old.files at.file) at.line ≡ Some line
+        ensures passes { (line : LineOf) → slice_get (lines_of self.old.files file) number ≡ Some line
             → Passes result self.old.walk self.new.walk index.new line }
     {
-        let Some(part) = self.parts.get(at.file) else {
+        let Some(part) = self.parts.get(file) else {
             return Ok(());
         };
-        let Some(number) = part.number(at.line) else {
+        let Some(number) = part.number(number) else {
             return Ok(());
         };
         pass_line(alloc, &mut self.tree, index, number)
     }
 
-    /// A law: the lines of a file are within the limit of a text.
-    fn file_fits(&self, file: usize)
-        ensures { length (join (texts (lines_of self.now.files file))) ≤ text_limit }
+    /// A law: the lines of each file are within the limit of a text.
+    pub fn files_fit(&self)
+        ensures { (file : ℕ) → length (join (texts (lines_of self.now.files file))) ≤ text_limit }
     {
         let _ = &self.parts;
     }
 
-    /// Returns the physical line on which the line at `at` begins, from 1.
-    pub fn row(&self, at: Spot) -> usize
-        ensures { result ≡ row_of (lines_of self.now.files at.file) at.line }
+    /// Returns the physical line on which the line behind the one with the number `number` of a file begins, from 1, if that one
+    /// begins on the physical line `row`.
+    pub fn row_behind(&self, file: usize, number: usize, row: usize) -> usize
+        requires { row ≡ row_of (lines_of self.now.files file) number }
+        ensures { (line : LineOf) → slice_get (lines_of self.now.files file) number ≡ Some line → result ≡ row_of (lines_of self.now.files file) (number + 1) }
     {
-        self.file_fits(at.file);
+        self.files_fit();
+        match self.line(file, number) {
+            Some(line) => row + lf_count(line.text),
+            None => row,
+        }
+    }
+
+    /// Returns the physical line on which the line with the number `number` of a file begins, from 1.
+    pub fn row(&self, file: usize, number: usize) -> usize
+        ensures { result ≡ row_of (lines_of self.now.files file) number }
+    {
         let mut row = 1;
-        for line in 0..at.line.min(self.line_count(at.file)) {
-            let Some(line) = self.line(Spot {
-                file: at.file,
-                line,
-            }) else {
-                return row;
-            };
-            row += lf_count(line.text);
+        for line in 0..number.min(self.line_count(file)) {
+            row = self.row_behind(file, line, row);
         }
         row
     }

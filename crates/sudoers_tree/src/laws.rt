@@ -14,7 +14,7 @@ ghost use Rattle.sudoers_line.specs.Node.{Node as NodeOf};
 ghost use Rattle.sudoers_line.specs.Listed.{listed};
 ghost use Rattle.sudoers_tree.specs.Mention.{members_in, of_kind};
 ghost use Rattle.sudoers_tree.specs.Policy.{IsWalk, texts};
-ghost use Rattle.sudoers_tree.specs.Load.{file_limit, load_of};
+ghost use Rattle.sudoers_tree.specs.Load.{Loaded, StandAt, file_limit, load_of};
 ghost use Rattle.sudoers_text.specs.Fault.{text_limit};
 ghost use Rattle.sudoers_tree.specs.declared.load.NamedFile.{NamedFile as NamedFileOf};
 ghost use Rattle.sudoers_tree.specs.Single.{said};
@@ -24,7 +24,7 @@ ghost use Rattle.sudoers_tree.specs.Goes.{IsWalkOf};
 ghost use Rattle.sudoers_tree.specs.Walk.{Walked, walk_of};
 ghost use Rattle.sudoers_tree.specs.declared.load_fault.LoadFault.{LoadFault as LoadFaultOf};
 
-use crate::policy::Policy;
+use crate::one_file::OneFile;
 use sudoers_line::laws::{no_fault, one_fault};
 use sudoers_line_reader::laws::{one_reading, outcome_is};
 use sudoers_text::laws::{
@@ -82,7 +82,7 @@ pub fn members_are_listed()
 {}
 
 /// A law: each line of a policy is one logical line.
-pub fn lines_are_whole(policy: &Policy)
+pub fn lines_are_whole(policy: &OneFile)
     ensures { AllByRecursion IsLogicalLine (texts policy.now) }
 {
     policy.is_policy();
@@ -116,16 +116,33 @@ pub fn reads_is()
 
 /// The lines of the walk over files that are loaded are a walk: each says what is kept of it, and their names can stand.
 pub fn loaded_is_walk()
-    ensures { (files : List NamedFileOf) (w : Walked) → load_of files ≡ Ok w → IsWalk w.lines }
+    ensures { (files : List NamedFileOf) (policy : Loaded) → load_of files ≡ Ok policy → IsWalk policy.walk.lines }
 {
     outcome_is();
+}
+
+/// Each line of the walk over files that are loaded stands at its spot.
+pub fn loaded_lines_stand()
+    ensures { (files : List NamedFileOf) (policy : Loaded) → load_of files ≡ Ok policy → StandAt policy.files policy.walk.spots policy.walk.lines }
+{
+    outcome_is();
+}
+
+/// Each line of the walk over files that are loaded is one logical line.
+pub fn loaded_lines_are_whole()
+    ensures { (files : List NamedFileOf) (policy : Loaded) → load_of files ≡ Ok policy → AllByRecursion IsLogicalLine (texts policy.walk.lines) }
+{
+    loaded_lines_stand();
+    lines_stand_alone();
+    line_alone_is_whole();
+    whole_line_is();
 }
 
 /// Each file is on the walk over files that are loaded at most once. All its lines are within the limit of as many texts as there may
 /// be files.
 pub fn loaded_is_within()
-    ensures once { (files : List NamedFileOf) (w : Walked) → load_of files ≡ Ok w → IsDistinct nat_eq w.on }
-    ensures within { (files : List NamedFileOf) (w : Walked) → load_of files ≡ Ok w → length (join (texts w.lines)) ≤ file_limit * text_limit }
+    ensures once { (files : List NamedFileOf) (policy : Loaded) → load_of files ≡ Ok policy → IsDistinct nat_eq policy.walk.on }
+    ensures within { (files : List NamedFileOf) (policy : Loaded) → load_of files ≡ Ok policy → length (join (texts policy.walk.lines)) ≤ file_limit * text_limit }
 {
     cut_is();
 }

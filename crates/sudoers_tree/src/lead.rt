@@ -1,11 +1,11 @@
 //! Where include lines lead.
 
-ghost use Rattle.std.specs.Prelude.{◌≡◌, IfOk};
+ghost use Rattle.std.specs.Prelude.{◌≡◌, ◌++◌, ℕ, List, None, false, IfOk};
 ghost use Rattle.sudoers_line_rows.specs.View.{node_shown};
 ghost use Rattle.sudoers_tree.specs.Lead.{folder_of, lead_of, leads, resolved, without_slashes};
 
 use crate::single::read_line;
-use memchr::{memchr2, memrchr};
+use memchr::{memmem, memrchr};
 use std::alloc::{AllocError, Global};
 use sudoers_line::Items;
 use sudoers_line_reader::laws::outcome_is;
@@ -76,6 +76,15 @@ pub fn lead_of(alloc: Global, name: &[u8], node: &Node<'_>) -> Result<Option<Lea
     Ok(Some(Lead::File(Items::from_vec(whole))))
 }
 
+/// Returns whether a line of `text` may lead somewhere. If it returns false, no part of `text` leads anywhere.
+pub fn may_lead(text: &[u8]) -> bool
+    ensures { result ≡ false → (name before line after : List ℕ) → text.now ≡ before ++ (line ++ after) → leads name line ≡ None }
+{
+    outcome_is();
+    // Each word with which an include begins has these bytes.
+    memmem::find(text, b"include").is_some()
+}
+
 /// Returns where the line `line` of the file `name` leads. Bytes that are no line that says something lead nowhere.
 ///
 /// # Errors
@@ -84,14 +93,10 @@ pub fn lead_of(alloc: Global, name: &[u8], node: &Node<'_>) -> Result<Option<Lea
 pub fn leads(alloc: Global, name: &[u8], line: &[u8]) -> Result<Option<Lead>, AllocError>
     ensures { IfOk result (λ lead. lead ≡ leads name.now line.now) }
 {
-    // Each word with which an include begins has one of these bytes.
-    match memchr2(b'@', b'#', line) {
-        Some(_) => lead_said(alloc, name, line),
-        None => {
-            outcome_is();
-            Ok(None)
-        }
+    if !may_lead(line) {
+        return Ok(None);
     }
+    lead_said(alloc, name, line)
 }
 
 /// Returns where the line `line` of the file `name` leads, by what it says.

@@ -15,9 +15,11 @@ pub struct Span {
     pub stop: usize,
 }
 
-/// Where a line of the walk stands: the number of its file, and its own number there, both from 0.
+/// Where a line of the walk stands: the number of its file, its own number there, both from 0, and the physical line of the file on
+/// which it begins, from 1.
 #[derive(Clone, Copy, Debug, PartialEq, Eq)]
 pub struct Spot {
     pub file: usize,
     pub line: usize,
+    pub row: usize,
 }

@@ -1,9 +1,10 @@
 //! Lines of a text that are read, up to the first that says nothing.
 
-ghost use Rattle.std.specs.Prelude.{◌≡◌, ◌≤◌, ◌+◌, [], length, IfOk};
+ghost use Rattle.std.specs.Prelude.{◌≡◌, ◌≤◌, ◌+◌, [], length, take, IfOk};
 ghost use Rattle.sudoers_text.specs.Line.{join};
 ghost use Rattle.sudoers_text.specs.Fault.{text_limit};
 ghost use Rattle.sudoers_tree.specs.Files.{fault_at, read_until};
+ghost use Rattle.sudoers_tree.specs.Physical.{row_behind};
 ghost use Rattle.sudoers_tree.specs.internal.Tree.{ReadsUntil};
 
 use crate::fault::SyntaxFault;
@@ -27,6 +28,22 @@ fn fault_at(row: usize, text: &[u8], at: usize, why: Why) -> SyntaxFault
     }
 }
 
+/// Returns the physical line behind the first `number` of these lines, from 1.
+fn row_behind(lines: &Lines<'_>, number: usize) -> usize
+    requires there { number ≤ length lines.now }
+    requires fits { length (join lines.now) ≤ text_limit }
+    ensures { result ≡ row_behind (join (take number lines.now)) }
+{
+    let mut row = 1;
+    for before in 0..number {
+        let Some(text) = lines.get(before) else {
+            return row;
+        };
+        row += lf_count(text);
+    }
+    row
+}
+
 /// Reads the lines `lines` up to the first that says nothing, appends them to those of `tree`, and returns the fault of that one.
 ///
 /// # Errors
@@ -40,14 +57,16 @@ pub fn read_lines(
     requires fits { length (join lines.now) ≤ text_limit }
     ensures { IfOk result (λ fault. ReadsUntil tree.old tree.new (read_until [] lines.now) fault) }
 {
-    let mut row = 1;
     for number in 0..lines.len() {
         let Some(text) = lines.get(number) else {
             return Ok(None);
         };
         match tree.read(alloc, text) {
-            Ok(()) => row += lf_count(text),
-            Err(LineFault::Syntax { at, why }) => return Ok(Some(fault_at(row, text, at, why))),
+            Ok(()) => {}
+            Err(LineFault::Syntax { at, why }) => {
+                let row = row_behind(lines, number);
+                return Ok(Some(fault_at(row, text, at, why)));
+            }
             Err(LineFault::NoMemory) => return Err(AllocError),
         }
     }

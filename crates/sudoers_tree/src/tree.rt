@@ -1,6 +1,6 @@
 //! Lines that are read into tables, and the walk over them.
 
-ghost use Rattle.std.specs.Prelude.{◌≡◌, ◌++◌, ◌∷◌, [], length, option_map, slice_get, IfOk, OnOk, Some};
+ghost use Rattle.std.specs.Prelude.{◌≡◌, ◌≤◌, ◌-◌, ◌++◌, ◌∷◌, [], drop, take, length, option_map, slice_get, IfOk, OnOk, Some};
 ghost use Rattle.sudoers_line_reader.specs.Outcome.{outcome_of};
 ghost use Rattle.sudoers_tree.specs.Line.{Line as LineOf, line_shown, lines_shown};
 ghost use Rattle.sudoers_tree.specs.internal.Tree.{ReadsOne, no_lines};
@@ -98,6 +98,18 @@ impl Tree {
         match self.rows.get(at) {
             Some(row) => Some(Line::of(&self.tables, row)),
             None => None,
+        }
+    }
+
+    /// Returns the lines that are read from the one with the number `start`, from 0, up to that with the number `stop`.
+    pub fn part(&self, start: usize, stop: usize) -> Rows<'_, LineRow>
+        requires starts { start ≤ stop }
+        requires stops { stop ≤ length self.now.all }
+        ensures { lines_shown result ≡ take (stop - start) (drop start self.now.all) }
+    {
+        Rows {
+            tables: &self.tables,
+            rows: &self.rows.as_slice()[start..stop],
         }
     }
 

@@ -1,6 +1,6 @@
 //! The lines of a policy in file order, with the names that they define.
 
-ghost use Rattle.std.specs.Prelude.{◌≡◌, ◌≤◌, length, slice_get};
+ghost use Rattle.std.specs.Prelude.{◌≡◌, ◌≤◌, ◌*◌, length, slice_get};
 ghost use Rattle.std.specs.Option.{option_map};
 ghost use Rattle.sudoers_text.specs.Line.{join};
 ghost use Rattle.sudoers_text.specs.Fault.{text_limit};
@@ -9,6 +9,7 @@ ghost use Rattle.sudoers_line_rows.specs.View.{defs_shown, members_shown, node_s
 ghost use Rattle.sudoers_tree.specs.Line.{Line as LineOf, line_shown, lines_shown};
 ghost use Rattle.sudoers_tree.specs.Definition.{definitions, place_of, members_of};
 ghost use Rattle.sudoers_tree.specs.Index.{Indexes};
+ghost use Rattle.sudoers_tree.specs.Load.{file_limit};
 ghost use Rattle.sudoers_tree.specs.Policy.{IsWalk, texts};
 
 use crate::index::Index;
@@ -27,11 +28,12 @@ pub struct Walk<'a> {
 }
 
 impl<'a> Model for Walk<'a> {
-    ghost use Rattle.std.specs.Prelude.{List, length, ◌≤◌};
+    ghost use Rattle.std.specs.Prelude.{List, length, ◌≤◌, ◌*◌};
     ghost use Rattle.sudoers_text.specs.Line.{join};
     ghost use Rattle.sudoers_text.specs.Fault.{text_limit};
     ghost use Rattle.sudoers_tree.specs.Line.{Line};
     ghost use Rattle.sudoers_tree.specs.Definition.{definitions};
+    ghost use Rattle.sudoers_tree.specs.Load.{file_limit};
     ghost use Rattle.sudoers_tree.specs.Policy.{IsWalk, texts};
     ghost use Rattle.sudoers_tree.specs.Index.{Indexes};
 
@@ -40,7 +42,7 @@ impl<'a> Model for Walk<'a> {
     ghost view = { λ walk. walk.tree.now.walk };
 
     ghost invariant = { λ walk. IsWalk walk.tree.now.walk × Indexes walk.index.now (definitions walk.tree.now.walk)
-        × (length (join (texts walk.tree.now.walk)) ≤ text_limit) };
+        × (length (join (texts walk.tree.now.walk)) ≤ file_limit * text_limit) };
 }
 
 impl<'a> Walk<'a> {
@@ -48,7 +50,7 @@ impl<'a> Walk<'a> {
     pub(crate) fn of(tree: &'a Tree, index: &'a Index) -> Walk<'a>
         requires walk { IsWalk tree.now.walk }
         requires index { Indexes index.now (definitions tree.now.walk) }
-        requires within { length (join (texts tree.now.walk)) ≤ text_limit }
+        requires within { length (join (texts tree.now.walk)) ≤ file_limit * text_limit }
         ensures { result ≡ tree.now.walk }
     {
         Walk { tree, index }
@@ -61,9 +63,9 @@ impl<'a> Walk<'a> {
         let _ = &self.tree;
     }
 
-    /// A law: the texts are within the limit.
+    /// A law: the texts are within the limits of as many files as a policy may have.
     pub fn is_within_limit(&self)
-        ensures { length (join (texts self.now)) ≤ text_limit }
+        ensures { length (join (texts self.now)) ≤ file_limit * text_limit }
     {
         let _ = &self.tree;
     }

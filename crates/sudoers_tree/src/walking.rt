@@ -82,7 +82,7 @@ impl Walking {
         Ok(LoadFault::InFile {
             file: self.name(alloc, at.file)?,
             fault: ReadFault::Twice {
-                line: self.files.row(at),
+                line: self.files.row(at.file, at.line),
                 name: self.name(alloc, file)?,
             },
         })
@@ -96,7 +96,7 @@ impl Walking {
         Ok(LoadFault::InFile {
             file: self.name(alloc, at.file)?,
             fault: ReadFault::NotLoaded {
-                line: self.files.row(at),
+                line: self.files.row(at.file, at.line),
                 name,
             },
         })
@@ -109,7 +109,7 @@ impl Walking {
         Ok(LoadFault::InFile {
             file: self.name(alloc, at.file)?,
             fault: ReadFault::TooDeep {
-                line: self.files.row(at),
+                line: self.files.row(at.file, at.line),
             },
         })
     }
@@ -140,7 +140,7 @@ impl Walking {
         ensures comes { (line : LineOf) → slice_get (lines_of self.old.files.files at.file) at.line ≡ Some line
             → Comes result self.old self.new (taken (name_of self.old.files.files at.file) at line (walked self.old)) }
     {
-        if let Err(fault) = self.files.pass(alloc, &mut self.index, at) {
+        if let Err(fault) = self.files.pass(alloc, &mut self.index, at.file, at.line) {
             return Err(match fault {
                 ReadFault::NoMemory => LoadFault::NoMemory,
                 fault => self.in_file(alloc, at.file, fault),
@@ -157,7 +157,7 @@ impl Walking {
             (λ inner. opened self.now.files.files (site self.now.files.files at.file at.line) (walked self.now) (leads_to self.now.files.files at.file line) ≡ Ok inner.items)
             (λ fault. (fault ≡ NoMemory) ⊎ (opened self.now.files.files (site self.now.files.files at.file at.line) (walked self.now) (leads_to self.now.files.files at.file line) ≡ Err fault)) }
     {
-        let Some(line) = self.files.line(at) else {
+        let Some(line) = self.files.line(at.file, at.line) else {
             return Ok(Vec::new(alloc));
         };
         let Some(lead) = lead_of(alloc, self.files.name(at.file), &line.node)? else {
@@ -218,10 +218,12 @@ impl Walking {
             (walk_lines (visit left self.old.files.files) self.old.files.files file 0 (lines_of self.old.files.files file) (enter file (walked self.old))) }
     {
         self.on.push(file)?;
+        let mut row = 1;
         for line in 0..self.files.line_count(file) {
-            let at = Spot { file, line };
+            let at = Spot { file, line, row };
             self.take(alloc, at)?;
             self.follow(alloc, left, at)?;
+            row = self.files.row_behind(file, line, row);
         }
         self.end(alloc, file)
     }

@@ -33,10 +33,10 @@ pub fn decide_list<K: MemberKind>(
     members: &Rows<'_, MemberRow>,
     asked: &K::Asked,
 ) -> Result<Verdict, AskFault>
-    ensures verdict { IfOk result (λ verdict. IsVerdict kind policy.now (K.test asked.now) (members_shown members.now) verdict) }
-    ensures straight { IfOk result (λ verdict. (HasReachableCycle policy.now ⊎ LeadsToCycle kind policy.now (members_shown members.now)) → ⊥) }
+    ensures verdict { IfOk result (λ verdict. IsVerdict kind policy.now.walk.lines (K.test asked.now) (members_shown members.now) verdict) }
+    ensures straight { IfOk result (λ verdict. (HasReachableCycle policy.now.walk.lines ⊎ LeadsToCycle kind policy.now.walk.lines (members_shown members.now)) → ⊥) }
     ensures fault { IfErr result (λ fault. (fault ≡ NoMemory)
-        ⊎ ((fault ≡ Cycle) × (HasReachableCycle policy.now ⊎ LeadsToCycle kind policy.now (members_shown members.now)))) }
+        ⊎ ((fault ≡ Cycle) × (HasReachableCycle policy.now.walk.lines ⊎ LeadsToCycle kind policy.now.walk.lines (members_shown members.now)))) }
 {
     decide::<K>(alloc, policy, kind, members, asked)
 }
@@ -47,7 +47,7 @@ pub fn decide_list<K: MemberKind>(
 ///
 /// Memory ran out.
 pub fn find_cycle(alloc: Global, policy: &Policy) -> Result<bool, AllocError>
-    ensures { IfOk result (λ cycle. IsTrue cycle ↔ HasReachableCycle policy.now) }
+    ensures { IfOk result (λ cycle. IsTrue cycle ↔ HasReachableCycle policy.now.walk.lines) }
 {
     reachable_cycle(alloc, policy)
 }
@@ -62,11 +62,11 @@ pub fn answer_request<'a>(
     policy: &'a Policy,
     request: &Request,
 ) -> Result<Option<Answer<'a>>, AskFault>
-    ensures answer { IfOk result (λ answer. IsAnswer policy.now request.now (option_map answer_shown answer)) }
-    ensures straight { IfOk result (λ _. HasReachableCycle policy.now → ⊥) }
+    ensures answer { IfOk result (λ answer. IsAnswer policy.now.walk.lines request.now (option_map answer_shown answer)) }
+    ensures straight { IfOk result (λ _. HasReachableCycle policy.now.walk.lines → ⊥) }
     ensures short { IfOk result (λ _. length (joined request.now.args) ≤ argument_limit) }
-    ensures fault { IfErr result (λ fault. (fault ≡ NoMemory) ⊎ (((fault ≡ Cycle) × HasReachableCycle policy.now)
-        ⊎ ((fault ≡ TooLong) × (HasReachableCycle policy.now → ⊥) × (argument_limit < length (joined request.now.args))))) }
+    ensures fault { IfErr result (λ fault. (fault ≡ NoMemory) ⊎ (((fault ≡ Cycle) × HasReachableCycle policy.now.walk.lines)
+        ⊎ ((fault ≡ TooLong) × (HasReachableCycle policy.now.walk.lines → ⊥) × (argument_limit < length (joined request.now.args))))) }
 {
     answer(alloc, policy, request)
 }
@@ -97,9 +97,9 @@ pub fn find_rule<'a>(
 ///
 /// `Cycle`: a reachable alias is cyclic. Or memory ran out.
 pub fn default_user<'a>(alloc: Global, policy: &'a Policy, who: &Who) -> Result<&'a [u8], AskFault>
-    ensures name { IfOk result (λ name. IsRunasDefault policy.now who.now name.now) }
-    ensures straight { IfOk result (λ _. HasReachableCycle policy.now → ⊥) }
-    ensures fault { IfErr result (λ fault. (fault ≡ NoMemory) ⊎ ((fault ≡ Cycle) × HasReachableCycle policy.now)) }
+    ensures name { IfOk result (λ name. IsRunasDefault policy.now.walk.lines who.now name.now) }
+    ensures straight { IfOk result (λ _. HasReachableCycle policy.now.walk.lines → ⊥) }
+    ensures fault { IfErr result (λ fault. (fault ≡ NoMemory) ⊎ ((fault ≡ Cycle) × HasReachableCycle policy.now.walk.lines)) }
 {
     runas_default(alloc, policy, who)
 }
@@ -114,9 +114,9 @@ pub fn groups_of_hosts(
     policy: &Policy,
     who: &Who,
 ) -> Result<Vec<GroupPlace>, AskFault>
-    ensures groups { IfOk result (λ places. AreHostGroups policy.now who.now places.items) }
-    ensures straight { IfOk result (λ _. HasReachableCycle policy.now → ⊥) }
-    ensures fault { IfErr result (λ fault. (fault ≡ NoMemory) ⊎ ((fault ≡ Cycle) × HasReachableCycle policy.now)) }
+    ensures groups { IfOk result (λ places. AreHostGroups policy.now.walk.lines who.now places.items) }
+    ensures straight { IfOk result (λ _. HasReachableCycle policy.now.walk.lines → ⊥) }
+    ensures fault { IfErr result (λ fault. (fault ≡ NoMemory) ⊎ ((fault ≡ Cycle) × HasReachableCycle policy.now.walk.lines)) }
 {
     host_groups(alloc, policy, who)
 }

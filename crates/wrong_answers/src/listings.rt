@@ -19,9 +19,9 @@ use sudoers_tree::Policy;
 ///
 /// `Cycle`: a reachable alias is cyclic. Or memory ran out.
 pub fn list_rules(alloc: Global, policy: &Policy, who: &Who) -> Result<Vec<u8>, AskFault>
-    ensures text { IfOk result (λ text. IsListing policy.now who.now text.items) }
-    ensures straight { IfOk result (λ _. HasReachableCycle policy.now → ⊥) }
-    ensures fault { IfErr result (λ fault. (fault ≡ NoMemory) ⊎ ((fault ≡ Cycle) × HasReachableCycle policy.now)) }
+    ensures text { IfOk result (λ text. IsListing policy.now.walk.lines who.now text.items) }
+    ensures straight { IfOk result (λ _. HasReachableCycle policy.now.walk.lines → ⊥) }
+    ensures fault { IfErr result (λ fault. (fault ≡ NoMemory) ⊎ ((fault ≡ Cycle) × HasReachableCycle policy.now.walk.lines)) }
 {
     list(alloc, policy, who)
 }
@@ -36,12 +36,11 @@ pub fn explain_answer(
     policy: &Policy,
     request: &Request,
     answer: Option<Answer<'_>>,
-    file: &[u8],
 ) -> Result<Vec<u8>, AskFault>
-    requires { IsAnswer policy.now request.now (option_map answer_shown answer) }
-    ensures text { IfOk result (λ text. IsReason policy.now request.now file.now (option_map answer_shown answer.entry) text.items) }
-    ensures straight { IfOk result (λ _. HasReachableCycle policy.now → ⊥) }
-    ensures fault { IfErr result (λ fault. (fault ≡ NoMemory) ⊎ ((fault ≡ Cycle) × HasReachableCycle policy.now)) }
+    requires { IsAnswer policy.now.walk.lines request.now (option_map answer_shown answer) }
+    ensures text { IfOk result (λ text. IsReason policy.now request.now (option_map answer_shown answer.entry) text.items) }
+    ensures straight { IfOk result (λ _. HasReachableCycle policy.now.walk.lines → ⊥) }
+    ensures fault { IfErr result (λ fault. (fault ≡ NoMemory) ⊎ ((fault ≡ Cycle) × HasReachableCycle policy.now.walk.lines)) }
 {
-    explain(alloc, policy, request, answer, file)
+    explain(alloc, policy, request, answer)
 }

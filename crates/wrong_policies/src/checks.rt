@@ -15,7 +15,7 @@ use sudoers_tree::{Kind, Place, Policy};
 ///
 /// Memory ran out.
 pub fn check_policy(alloc: Global, policy: &Policy) -> Result<Report, AllocError>
-    ensures { IfOk result (λ report. report ≡ report_of policy.now) }
+    ensures { IfOk result (λ report. report ≡ report_of policy.now.walk) }
 {
     check(alloc, policy)
 }
@@ -27,20 +27,20 @@ pub fn is_fine_report(report: &Report, strict: bool) -> bool
     report.is_fine(strict)
 }
 
-/// Returns the text of `report` for the file of the name `file`.
+/// Returns the text of `report`, a report on `policy`.
 ///
 /// # Errors
 ///
 /// Memory ran out.
 pub fn report_of_policy(
     alloc: Global,
+    policy: &Policy,
     report: &Report,
-    file: &[u8],
     strict: bool,
 ) -> Result<Vec<u8>, AllocError>
-    ensures { IfOk result (λ text. text.items ≡ text_of_report file.now strict report.now) }
+    ensures { IfOk result (λ text. text.items ≡ text_of_report policy.now strict report.now) }
 {
-    report_text(alloc, report, file, strict)
+    report_text(alloc, policy, report, strict)
 }
 
 /// Returns the aliases to which no user specification and no Defaults line leads.
@@ -49,7 +49,7 @@ pub fn report_of_policy(
 ///
 /// Memory ran out.
 pub fn unused_aliases(alloc: Global, policy: &Policy) -> Result<Vec<(Kind, Place)>, AllocError>
-    ensures { IfOk result (λ places. places.items ≡ map (λ (d : Definition). (d.kind, d.place)) (unused_of policy.now)) }
+    ensures { IfOk result (λ places. places.items ≡ map (λ (d : Definition). (d.kind, d.place)) (unused_of policy.now.walk.lines)) }
 {
     unused(alloc, policy)
 }

@@ -11,7 +11,7 @@ mod texts;
 pub use checks::{check_policy, is_fine_report, report_of_policy, unused_aliases};
 pub use leads::{lead_of_line, lead_of_node};
 pub use lines::reading_of_line;
-pub use loads::load_files;
+pub use loads::{file_text, load_files, load_text, walk_spots};
 pub use policies::{
     definition_of, insert_line, mentions_of, policy_text, read_policy, reread_policy,
 };

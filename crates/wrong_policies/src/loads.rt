@@ -1,30 +1,63 @@
-//! Files that are loaded.
+//! Policies of several files.
 
-ghost use Rattle.std.specs.Prelude.{◌≡◌, ◌⊎◌, MatchResult, Ok, Err};
+ghost use Rattle.std.specs.Prelude.{◌≡◌, ◌⊎◌, MatchResult, IfOk, Ok, Err};
+ghost use Rattle.sudoers_text.specs.Line.{join};
 ghost use Rattle.sudoers_tree.specs.declared.load_fault.LoadFault.TheVariants.{NoMemory};
-ghost use Rattle.sudoers_tree.specs.Load.{load_of};
+ghost use Rattle.sudoers_tree.specs.Files.{lines_of};
+ghost use Rattle.sudoers_tree.specs.Load.{load_of, one_file};
+ghost use Rattle.sudoers_tree.specs.Policy.{texts};
 
 use std::alloc::{AllocError, Global};
 use sudoers_text::cut;
-use sudoers_tree::{FileWalk, Items, LoadFault, NamedFile, leads};
+use sudoers_tree::{Items, LoadFault, NamedFile, Policy, Spot, leads};
 
 /// Whether the include lines of a file come behind its other lines. A wrong body says that they do.
 const INCLUDED_LAST: bool = false;
 
-/// Returns the walk over `files` from the first on.
+/// Returns the policy of `files`, from the first on.
 ///
 /// # Errors
 ///
 /// The first fault of the files, or memory ran out.
-pub fn load_files(alloc: Global, files: &[NamedFile]) -> Result<FileWalk, LoadFault>
-    ensures { MatchResult result (λ walk. load_of files.now ≡ Ok walk)
+pub fn load_files(alloc: Global, files: &[NamedFile]) -> Result<Policy, LoadFault>
+    ensures { MatchResult result (λ policy. load_of files.now ≡ Ok policy)
         (λ fault. (fault ≡ NoMemory) ⊎ (load_of files.now ≡ Err fault)) }
 {
     if INCLUDED_LAST {
         let moved = files_included_last(alloc, files)?;
-        return FileWalk::load(alloc, moved.as_slice());
+        return Policy::load(alloc, moved.as_slice());
     }
-    FileWalk::load(alloc, files)
+    Policy::load(alloc, files)
+}
+
+/// Returns the policy of the one file whose text is `text`.
+///
+/// # Errors
+///
+/// The first fault of the file, or memory ran out.
+pub fn load_text(alloc: Global, text: &[u8]) -> Result<Policy, LoadFault>
+    ensures { MatchResult result (λ policy. load_of (one_file text.now) ≡ Ok policy)
+        (λ fault. (fault ≡ NoMemory) ⊎ (load_of (one_file text.now) ≡ Err fault)) }
+{
+    Policy::read(alloc, text)
+}
+
+/// Returns where each line of the walk stands.
+pub fn walk_spots(policy: &Policy) -> &[Spot]
+    ensures { result.now ≡ policy.now.walk.spots }
+{
+    policy.spots()
+}
+
+/// Returns the text of the file with the number `file`.
+///
+/// # Errors
+///
+/// Memory ran out.
+pub fn file_text(alloc: Global, policy: &Policy, file: usize) -> Result<Vec<u8>, AllocError>
+    ensures { IfOk result (λ text. text.items ≡ join (texts (lines_of policy.now.files file))) }
+{
+    policy.text(alloc, file)
 }
 
 /// Returns `files` with the include lines of each behind its other lines.

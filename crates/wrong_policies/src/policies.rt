@@ -1,4 +1,4 @@
-//! A policy: its text, its definitions and mentions, and its changed lines.
+//! A policy of one text: that text, its definitions and mentions, and its changed lines.
 
 ghost use Rattle.std.specs.Prelude.{◌≡◌, ◌≤◌, ◌⊎◌, length, insert, false, IfOk, IfErr, OnOk, OnErr};
 ghost use Rattle.sudoers_text.specs.Ended.{has_unended_inside};
@@ -12,17 +12,17 @@ ghost use Rattle.sudoers_tree.specs.Policy.{texts};
 ghost use Rattle.sudoers_tree.specs.Reading.{read_of, ReadGives};
 
 use std::alloc::{AllocError, Global};
-use sudoers_tree::{Kind, Place, Policy, ReadFault, Span};
+use sudoers_tree::{Kind, OneFile, Place, ReadFault, Span};
 
 /// Returns the policy that `text` is.
 ///
 /// # Errors
 ///
 /// The first fault of the text, or memory ran out.
-pub fn read_policy(alloc: Global, text: &[u8]) -> Result<Policy, ReadFault>
+pub fn read_policy(alloc: Global, text: &[u8]) -> Result<OneFile, ReadFault>
     ensures { ReadGives result (read_of text.now) }
 {
-    Policy::read(alloc, text)
+    OneFile::read(alloc, text)
 }
 
 /// Returns the policy that `text` is, with what `policy` knows of its lines.
@@ -30,7 +30,7 @@ pub fn read_policy(alloc: Global, text: &[u8]) -> Result<Policy, ReadFault>
 /// # Errors
 ///
 /// The first fault of the text, or memory ran out.
-pub fn reread_policy(policy: &Policy, text: &[u8]) -> Result<Policy, ReadFault>
+pub fn reread_policy(policy: &OneFile, text: &[u8]) -> Result<OneFile, ReadFault>
     ensures { ReadGives result (read_of text.now) }
 {
     policy.reread(text)
@@ -41,14 +41,14 @@ pub fn reread_policy(policy: &Policy, text: &[u8]) -> Result<Policy, ReadFault>
 /// # Errors
 ///
 /// Memory ran out.
-pub fn policy_text(policy: &Policy) -> Result<Vec<u8>, AllocError>
+pub fn policy_text(policy: &OneFile) -> Result<Vec<u8>, AllocError>
     ensures { IfOk result (λ text. text.items ≡ join (texts policy.now)) }
 {
     policy.text()
 }
 
 /// Returns where the alias `name` of `kind` is defined.
-pub fn definition_of(policy: &Policy, kind: Kind, name: &[u8]) -> Option<Place>
+pub fn definition_of(policy: &OneFile, kind: Kind, name: &[u8]) -> Option<Place>
     ensures { result ≡ place_of kind name.now policy.now }
 {
     policy.definition(kind, name)
@@ -59,7 +59,7 @@ pub fn definition_of(policy: &Policy, kind: Kind, name: &[u8]) -> Option<Place>
 /// # Errors
 ///
 /// Memory ran out.
-pub fn mentions_of(policy: &Policy, kind: Kind, name: &[u8]) -> Result<Vec<Span>, AllocError>
+pub fn mentions_of(policy: &OneFile, kind: Kind, name: &[u8]) -> Result<Vec<Span>, AllocError>
     ensures { IfOk result (λ spans. spans.items ≡ mentions kind name.now policy.now) }
 {
     policy.mentions(kind, name)
@@ -70,7 +70,7 @@ pub fn mentions_of(policy: &Policy, kind: Kind, name: &[u8]) -> Result<Vec<Span>
 /// # Errors
 ///
 /// The first fault of the changed text, or memory ran out. The policy is then as it was.
-pub fn insert_line(policy: &mut Policy, at: usize, line: &[u8]) -> Result<(), ReadFault>
+pub fn insert_line(policy: &mut OneFile, at: usize, line: &[u8]) -> Result<(), ReadFault>
     requires at { at ≤ length policy.old }
     requires line { IsLogicalLine line.now }
     requires ended { has_unended_inside (insert (texts policy.old) at line.now) ≡ false }

@@ -3,6 +3,7 @@
 ghost use Rattle.sudoers_run.specs.Device.{Writes};
 
 use std::alloc::Global;
+use sudoers_files::Files;
 use sudoers_run::{
     ConvertWords, ListWords, Sink, Source, ToolFault, run_check, run_convert, run_edit, run_list,
 };
@@ -28,10 +29,10 @@ pub fn edit_before_errors<R: Source, W: Sink>(
 /// # Errors
 ///
 /// Those of `run_check`.
-pub fn check_before_errors<R: Source, W: Sink>(
+pub fn check_before_errors<F: Files, W: Sink>(
     alloc: Global,
-    reader: &mut R,
-    file: &[u8],
+    files: &mut F,
+    root: &[u8],
     quiet: bool,
     strict: bool,
     writer: &mut W,
@@ -39,7 +40,7 @@ pub fn check_before_errors<R: Source, W: Sink>(
     ensures writes { Writes result (W.Sink.failures writer.old) (W.Sink.failures writer.new)
         (W.contents writer.old) (W.contents writer.new) }
 {
-    run_check(alloc, reader, file, quiet, strict, writer)
+    run_check(alloc, files, root, quiet, strict, writer)
 }
 
 /// Reads a policy file, and writes its rules in another form. Before an error it writes nothing.
@@ -47,16 +48,17 @@ pub fn check_before_errors<R: Source, W: Sink>(
 /// # Errors
 ///
 /// Those of `run_convert`.
-pub fn convert_before_errors<R: Source, W: Sink>(
+pub fn convert_before_errors<F: Files, W: Sink>(
     alloc: Global,
-    reader: &mut R,
+    files: &mut F,
+    root: &[u8],
     words: &ConvertWords<'_>,
     writer: &mut W,
 ) -> Result<u8, ToolFault>
     ensures writes { Writes result (W.Sink.failures writer.old) (W.Sink.failures writer.new)
         (W.contents writer.old) (W.contents writer.new) }
 {
-    run_convert(alloc, reader, words, writer)
+    run_convert(alloc, files, root, words, writer)
 }
 
 /// Reads a policy, passwd and group, and writes what a user may run. Before an error it writes nothing.
@@ -64,10 +66,10 @@ pub fn convert_before_errors<R: Source, W: Sink>(
 /// # Errors
 ///
 /// Those of `run_list`.
-pub fn list_before_errors<P: Source, U: Source, G: Source, W: Sink>(
+pub fn list_before_errors<F: Files, U: Source, G: Source, W: Sink>(
     alloc: Global,
-    policy: &mut P,
-    file: &[u8],
+    files: &mut F,
+    root: &[u8],
     passwd: &mut U,
     group: &mut G,
     words: &ListWords<'_>,
@@ -76,5 +78,5 @@ pub fn list_before_errors<P: Source, U: Source, G: Source, W: Sink>(
     ensures writes { Writes result (W.Sink.failures writer.old) (W.Sink.failures writer.new)
         (W.contents writer.old) (W.contents writer.new) }
 {
-    run_list(alloc, policy, file, passwd, group, words, writer)
+    run_list(alloc, files, root, passwd, group, words, writer)
 }

@@ -3,6 +3,7 @@
 ghost use Rattle.sudoers_run.specs.List.{ReadsFiles};
 
 use std::alloc::Global;
+use sudoers_files::Files;
 use sudoers_run::{ListWords, Sink, Source, ToolFault, run_list};
 
 /// Reads a policy, passwd and group in this order, each only after the one before it ended. `Read` means that a reader failed, and
@@ -11,17 +12,16 @@ use sudoers_run::{ListWords, Sink, Source, ToolFault, run_list};
 /// # Errors
 ///
 /// Those of `run_list`.
-pub fn list_devices<P: Source, U: Source, G: Source, W: Sink>(
+pub fn list_devices<F: Files, U: Source, G: Source, W: Sink>(
     alloc: Global,
-    policy: &mut P,
-    file: &[u8],
+    files: &mut F,
+    root: &[u8],
     passwd: &mut U,
     group: &mut G,
     words: &ListWords<'_>,
     writer: &mut W,
 ) -> Result<u8, ToolFault>
-    ensures reads { ReadsFiles result (P.meter policy.old) (P.meter policy.new) (U.meter passwd.old) (U.meter passwd.new)
-        (G.meter group.old) (G.meter group.new) }
+    ensures reads { ReadsFiles result (U.meter passwd.old) (U.meter passwd.new) (G.meter group.old) (G.meter group.new) }
 {
-    run_list(alloc, policy, file, passwd, group, words, writer)
+    run_list(alloc, files, root, passwd, group, words, writer)
 }

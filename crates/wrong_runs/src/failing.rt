@@ -1,23 +1,23 @@
-//! How a reader that fails is reported.
+//! How a device that fails is reported.
 
-ghost use Rattle.sudoers_run.specs.Policy.{file_end};
-ghost use Rattle.sudoers_run.specs.Reading.{ReadsFile};
-ghost use Rattle.sudoers_text.specs.Fault.{text_limit};
+ghost use Rattle.sudoers_run.specs.Policy.{Searches};
 
 use std::alloc::Global;
-use sudoers_run::{Sink, Source, ToolFault, run_show};
+use sudoers_files::Files;
+use sudoers_run::{Sink, ToolFault, run_show};
 
-/// Reads a policy file, and writes its lines. `Read` means that the reader failed, and `NoEnd` that it did not end.
+/// Reads a policy, and writes its lines. `Device` means that a file or a folder could not be read.
 ///
 /// # Errors
 ///
 /// Those of `run_show`.
-pub fn show_or_fail<R: Source, W: Sink>(
+pub fn show_or_fail<F: Files, W: Sink>(
     alloc: Global,
-    reader: &mut R,
+    files: &mut F,
+    root: &[u8],
     writer: &mut W,
 ) -> Result<u8, ToolFault>
-    ensures reads { ReadsFile text_limit (file_end result) (R.meter reader.old) (R.meter reader.new) }
+    ensures searches { Searches result (F.shelf files.old) (F.shelf files.new) }
 {
-    run_show(alloc, reader, writer)
+    run_show(alloc, files, root, writer)
 }

@@ -10,6 +10,7 @@ ghost use Rattle.sudoers_run.specs.Show.{show_output, TellsShow};
 ghost use Rattle.sudoers_run.specs.declared.fault.ToolFault.TheVariants as ToolFault;
 
 use std::alloc::Global;
+use sudoers_files::Files;
 use sudoers_run::{
     ConvertWords, ListWords, Sink, Source, ToolFault, run_check, run_convert, run_edit, run_list,
     run_show,
@@ -20,16 +21,17 @@ use sudoers_run::{
 /// # Errors
 ///
 /// Those of `run_show`: the first fault of the file, or of a device. With `Write`, what is written is a beginning.
-pub fn show_told_errors<R: Source, W: Sink>(
+pub fn show_told_errors<F: Files, W: Sink>(
     alloc: Global,
-    reader: &mut R,
+    files: &mut F,
+    root: &[u8],
     writer: &mut W,
 ) -> Result<u8, ToolFault>
-    ensures fault { IfErr result (λ fault. IfSome (R.meter reader.old).remaining (TellsShow fault)) }
-    ensures front { result ≡ Err ToolFault.Write → IfSome (R.meter reader.old).remaining (λ input.
-        IsOkAnd (show_output input) (AppendsFront (W.contents writer.old) (W.contents writer.new))) }
+    ensures fault { IfErr result (λ fault. IfSome (F.shelf files.old).files (TellsShow root.now fault)) }
+    ensures front { result ≡ Err ToolFault.Write → IfSome (F.shelf files.old).files (λ known.
+        IsOkAnd (show_output root.now known) (AppendsFront (W.contents writer.old) (W.contents writer.new))) }
 {
-    run_show(alloc, reader, writer)
+    run_show(alloc, files, root, writer)
 }
 
 /// Reads a script and a policy, and writes the undo script and the edited policy.
@@ -54,19 +56,19 @@ pub fn edit_told_errors<R: Source, W: Sink>(
 /// # Errors
 ///
 /// Those of `run_check`: of the devices and of memory alone. With `Write`, what is written is a beginning.
-pub fn check_told_errors<R: Source, W: Sink>(
+pub fn check_told_errors<F: Files, W: Sink>(
     alloc: Global,
-    reader: &mut R,
-    file: &[u8],
+    files: &mut F,
+    root: &[u8],
     quiet: bool,
     strict: bool,
     writer: &mut W,
 ) -> Result<u8, ToolFault>
     ensures named { IfErr result IsCheckFault }
-    ensures front { result ≡ Err ToolFault.Write → IfSome (R.meter reader.old).remaining (λ input.
-        AppendsFront (W.contents writer.old) (W.contents writer.new) (check_output file.now quiet strict input)) }
+    ensures front { result ≡ Err ToolFault.Write → IfSome (F.shelf files.old).files (λ known.
+        IsOkAnd (check_output quiet strict root.now known) (AppendsFront (W.contents writer.old) (W.contents writer.new))) }
 {
-    run_check(alloc, reader, file, quiet, strict, writer)
+    run_check(alloc, files, root, quiet, strict, writer)
 }
 
 /// Reads a policy file, and writes its rules in another form.
@@ -75,17 +77,18 @@ pub fn check_told_errors<R: Source, W: Sink>(
 ///
 /// Those of `run_convert`: the first fault of the file, the filter or the rules, or of a device. With `Write`, what is
 /// written is a beginning.
-pub fn convert_told_errors<R: Source, W: Sink>(
+pub fn convert_told_errors<F: Files, W: Sink>(
     alloc: Global,
-    reader: &mut R,
+    files: &mut F,
+    root: &[u8],
     words: &ConvertWords<'_>,
     writer: &mut W,
 ) -> Result<u8, ToolFault>
-    ensures fault { IfErr result (λ fault. IfSome (R.meter reader.old).remaining (TellsConvert words.now fault)) }
-    ensures front { result ≡ Err ToolFault.Write → IfSome (R.meter reader.old).remaining (λ input.
-        IsOkAnd (convert_output words.now input) (AppendsFront (W.contents writer.old) (W.contents writer.new))) }
+    ensures fault { IfErr result (λ fault. IfSome (F.shelf files.old).files (TellsConvert words.now root.now fault)) }
+    ensures front { result ≡ Err ToolFault.Write → IfSome (F.shelf files.old).files (λ known.
+        IsOkAnd (convert_output words.now root.now known) (AppendsFront (W.contents writer.old) (W.contents writer.new))) }
 {
-    run_convert(alloc, reader, words, writer)
+    run_convert(alloc, files, root, words, writer)
 }
 
 /// Reads a policy, passwd and group, and writes what a user may run.
@@ -94,18 +97,18 @@ pub fn convert_told_errors<R: Source, W: Sink>(
 ///
 /// Those of `run_list`: the first fault of the files or of the words, or of a device. With `Write`, what is written is a
 /// beginning.
-pub fn list_told_errors<P: Source, U: Source, G: Source, W: Sink>(
+pub fn list_told_errors<F: Files, U: Source, G: Source, W: Sink>(
     alloc: Global,
-    policy: &mut P,
-    file: &[u8],
+    files: &mut F,
+    root: &[u8],
     passwd: &mut U,
     group: &mut G,
     words: &ListWords<'_>,
     writer: &mut W,
 ) -> Result<u8, ToolFault>
-    ensures fault { IfErr result (λ fault. OfTexts (P.meter policy.old) (U.meter passwd.old) (G.meter group.old) (TellsList words.now file.now fault)) }
-    ensures front { result ≡ Err ToolFault.Write → OfTexts (P.meter policy.old) (U.meter passwd.old) (G.meter group.old) (λ p u g.
-        (text : List ℕ) × ((status : ℕ) × IsListOutcome words.now file.now p u g (Ok (text, status))) × AppendsFront (W.contents writer.old) (W.contents writer.new) text) }
+    ensures fault { IfErr result (λ fault. IfSome (F.shelf files.old).files (λ known. OfTexts (U.meter passwd.old) (G.meter group.old) (TellsList words.now root.now known fault))) }
+    ensures front { result ≡ Err ToolFault.Write → IfSome (F.shelf files.old).files (λ known. OfTexts (U.meter passwd.old) (G.meter group.old) (λ u g.
+        (text : List ℕ) × ((status : ℕ) × IsListOutcome words.now root.now known u g (Ok (text, status))) × AppendsFront (W.contents writer.old) (W.contents writer.new) text)) }
 {
-    run_list(alloc, policy, file, passwd, group, words, writer)
+    run_list(alloc, files, root, passwd, group, words, writer)
 }

@@ -1,58 +1,54 @@
 -- A device of the proof, which no public contract cites: notes line by line.
 use Rattle.std.specs.Prelude.{◌≡◌, ℕ, ◌+◌, Bool, true, false, List, [], ◌∷◌, ◌++◌, take, drop, map, Option, Some, None}
 use Rattle.std.specs.List.{list_any}
-use Rattle.sudoers_text.specs.Fault.{lf_count}
 use Rattle.sudoers_line.specs.declared.node.Kind.{Kind}
 use Rattle.sudoers_line.specs.Node.{Def, Node}
 use Rattle.sudoers_line.specs.Node as node
 use Rattle.sudoers_tree.specs.Line.{Line}
 use Rattle.sudoers_tree.specs.declared.place.Place.{Place}
-use Rattle.sudoers_tree.specs.Physical.{column_behind}
+use Rattle.sudoers_tree.specs.declared.place.Spot.{Spot}
+use Rattle.sudoers_tree.specs.Walk.{Walked, spot_at}
 use Rattle.sudoers_tree.specs.Definition.{Definition, defined}
 use Rattle.sudoers_check.specs.declared.report.Note.{Note}
 use Rattle.sudoers_check.specs.Mentioned.{Mention, mentioned_in, is_of}
 use Rattle.sudoers_check.specs.Numbers.{count_in}
-use Rattle.sudoers_check.specs.Report.{undefined_behind}
+use Rattle.sudoers_check.specs.Report.{note_on, undefined_behind}
 use Rattle.sudoers_check.specs.internal.Seen.{has_seen}
 
--- a note in a line that begins on this physical line
-abbrev pub note_in : ℕ → List ℕ → Kind → List ℕ → ℕ → Note
-note_in row text k name start = record { kind = k; name = name; line = row + lf_count (take start text); col = column_behind (take start text) }
-
 -- notes of those of a line's definitions that have this mark
-abbrev pub noted_defs : Bool → ℕ → List ℕ → Kind → List Bool → List Def → List Note
-noted_defs wanted row text k [] ds = []
-noted_defs wanted row text k (m ∷ ms) [] = []
-noted_defs true row text k (true ∷ ms) (d ∷ ds) = note_in row text k d.name d.start ∷ noted_defs true row text k ms ds
-noted_defs true row text k (false ∷ ms) (d ∷ ds) = noted_defs true row text k ms ds
-noted_defs false row text k (true ∷ ms) (d ∷ ds) = noted_defs false row text k ms ds
-noted_defs false row text k (false ∷ ms) (d ∷ ds) = note_in row text k d.name d.start ∷ noted_defs false row text k ms ds
+abbrev pub noted_defs : Bool → Spot → List ℕ → Kind → List Bool → List Def → List Note
+noted_defs wanted at text k [] ds = []
+noted_defs wanted at text k (m ∷ ms) [] = []
+noted_defs true at text k (true ∷ ms) (d ∷ ds) = note_on at text k d.name d.start ∷ noted_defs true at text k ms ds
+noted_defs true at text k (false ∷ ms) (d ∷ ds) = noted_defs true at text k ms ds
+noted_defs false at text k (true ∷ ms) (d ∷ ds) = noted_defs false at text k ms ds
+noted_defs false at text k (false ∷ ms) (d ∷ ds) = note_on at text k d.name d.start ∷ noted_defs false at text k ms ds
 
-abbrev pub noted_node : Bool → ℕ → List ℕ → List Bool → Node → List Note
-noted_node wanted row text marks (node.Alias k defs) = noted_defs wanted row text k marks defs
-noted_node wanted row text marks node.Blank = []
-noted_node wanted row text marks node.Comment = []
-noted_node wanted row text marks (node.Include dir path) = []
-noted_node wanted row text marks (node.Defaults scope params) = []
-noted_node wanted row text marks (node.Spec users groups) = []
+abbrev pub noted_node : Bool → Spot → List ℕ → List Bool → Node → List Note
+noted_node wanted at text marks (node.Alias k defs) = noted_defs wanted at text k marks defs
+noted_node wanted at text marks node.Blank = []
+noted_node wanted at text marks node.Comment = []
+noted_node wanted at text marks (node.Include dir path) = []
+noted_node wanted at text marks (node.Defaults scope params) = []
+noted_node wanted at text marks (node.Spec users groups) = []
 
--- of lines of which the first begins on this physical line
-abbrev pub noted_from : Bool → ℕ → List Bool → List Line → List Note
-noted_from wanted row marks [] = []
-noted_from wanted row marks (line ∷ lines) =
-    noted_node wanted row line.text (take (count_in line.node) marks) line.node
-    ++ noted_from wanted (row + lf_count line.text) (drop (count_in line.node) marks) lines
+-- of lines of a walk that are numbered from this number on
+abbrev pub noted_from : Bool → Walked → ℕ → List Bool → List Line → List Note
+noted_from wanted walk n marks [] = []
+noted_from wanted walk n marks (line ∷ lines) =
+    noted_node wanted (spot_at walk n) line.text (take (count_in line.node) marks) line.node
+    ++ noted_from wanted walk (n + 1) (drop (count_in line.node) marks) lines
 
 -- notes of mentions in a line
-abbrev pub noted_mentions : ℕ → List ℕ → List Mention → List Note
-noted_mentions row text ms = map (λ (m : Mention). note_in row text m.kind m.name m.span.start) ms
+abbrev pub noted_mentions : Spot → List ℕ → List Mention → List Note
+noted_mentions at text ms = map (λ (m : Mention). note_on at text m.kind m.name m.span.start) ms
 
--- notes of the undefined names of lines behind these mentions
-abbrev pub undefined_from : List Definition → ℕ → List Mention → ℕ → List Line → List Note
-undefined_from ds row before n [] = []
-undefined_from ds row before n (line ∷ lines) =
-    noted_mentions row line.text (undefined_behind ds before (mentioned_in n line.node))
-    ++ undefined_from ds (row + lf_count line.text) (before ++ mentioned_in n line.node) (n + 1) lines
+-- notes of the undefined names of lines of a walk that are numbered from this number on, behind these mentions
+abbrev pub undefined_from : List Definition → Walked → List Mention → ℕ → List Line → List Note
+undefined_from ds walk before n [] = []
+undefined_from ds walk before n (line ∷ lines) =
+    noted_mentions (spot_at walk n) line.text (undefined_behind ds before (mentioned_in n line.node))
+    ++ undefined_from ds walk (before ++ mentioned_in n line.node) (n + 1) lines
 
 -- The keys are those of the undefined names among these mentions.
 abbrev pub Agrees : List Definition → List (List ℕ) → List Mention → Type 0

@@ -21,14 +21,14 @@ printed_behind (g ∷ gs) = codes " : " ++ printed_list false Runas (g ∷ gs)
 
 -- what is held of a line
 abbrev pub numbered_shown : LineAt → ℕ × Line
-numbered_shown l = (l.row, line_shown l.line)
+numbered_shown l = (l.number, line_shown l.line)
 
 -- what is held of a member of an alias
 abbrev pub inner_shown : InnerHeld → Inner
 inner_shown inner = record { name = inner.name.now; member = member_shown inner.member }
 
 abbrev pub rule_held : RuleHeld → Head → Rule
-rule_held r h = record { spot = r.spot; command = effective_command (h, member_shown r.command.member) }
+rule_held r h = record { line = r.at.number; text = r.at.line.text.now; command = effective_command (h, member_shown r.command.member) }
 
 -- It is held of the rule that is wanted.
 abbrev pub IsRule : RuleHeld → Option Rule → Type 0

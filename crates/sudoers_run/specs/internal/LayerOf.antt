@@ -1,7 +1,14 @@
 -- A layer's fault as the program tells it: want of memory is one fault, wherever it was met.
+use Rattle.std.specs.Prelude.{Result, Ok, Err}
+use Rattle.sudoers_run.specs.declared.fault.ToolFault.{ToolFault}
+use Rattle.sudoers_run.specs.declared.fault.ToolFault.TheVariants as tool
 use Rattle.std.specs.Prelude.{ℕ}
 use Rattle.sudoers_tree.specs.declared.fault.ReadFault.{ReadFault}
 use Rattle.sudoers_tree.specs.declared.fault.ReadFault.TheVariants as read
+use Rattle.sudoers_tree.specs.declared.load_fault.LoadFault.{LoadFault}
+use Rattle.sudoers_tree.specs.declared.load_fault.LoadFault.TheVariants as load
+use Rattle.sudoers_files.specs.declared.fault.GatherFault.{GatherFault}
+use Rattle.sudoers_files.specs.declared.fault.GatherFault.TheVariants as gather
 use Rattle.sudoers_edit.specs.declared.fault.EditFault.{EditFault}
 use Rattle.sudoers_edit.specs.declared.fault.EditFault.TheVariants as edit
 use Rattle.sudoers_edit_script.specs.declared.script.ScriptFault.{ScriptFault}
@@ -19,6 +26,11 @@ use Rattle.sudoers_match_list.specs.declared.verdict.AskFault.TheVariants as ask
 use Rattle.sudoers_run.specs.declared.fault.LayerFault.{LayerFault}
 use Rattle.sudoers_run.specs.declared.fault.LayerFault.TheVariants as layer
 
+-- what comes of a layer, as what comes of the program
+abbrev pub by_layer : {A : Type 0} → Result A LayerFault → Result A ToolFault
+by_layer (Ok x) = Ok x
+by_layer (Err fault) = Err (tool.Layer fault)
+
 abbrev pub layer_of_read : ReadFault → LayerFault
 layer_of_read (read.Text fault) = layer.Policy (read.Text fault)
 layer_of_read (read.Syntax line col why) = layer.Policy (read.Syntax line col why)
@@ -29,6 +41,18 @@ layer_of_read (read.NotLoaded line name) = layer.Policy (read.NotLoaded line nam
 layer_of_read (read.Twice line name) = layer.Policy (read.Twice line name)
 layer_of_read (read.TooDeep line) = layer.Policy (read.TooDeep line)
 layer_of_read read.NoMemory = layer.NoMemory
+
+abbrev pub layer_of_gather : GatherFault → LayerFault
+layer_of_gather gather.NoRoot = layer.Gather gather.NoRoot
+layer_of_gather (gather.Device fault) = layer.Gather (gather.Device fault)
+layer_of_gather gather.TooManyFiles = layer.Gather gather.TooManyFiles
+layer_of_gather gather.NoMemory = layer.NoMemory
+
+abbrev pub layer_of_load : LoadFault → LayerFault
+layer_of_load load.TooManyFiles = layer.Load load.TooManyFiles
+layer_of_load (load.SameName file) = layer.Load (load.SameName file)
+layer_of_load (load.InFile file fault) = layer.Load (load.InFile file fault)
+layer_of_load load.NoMemory = layer.NoMemory
 
 abbrev pub layer_of_script : ScriptFault → LayerFault
 layer_of_script (script.BadWord line) = layer.Script (script.BadWord line)

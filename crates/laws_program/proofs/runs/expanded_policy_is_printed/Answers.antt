@@ -1,8 +1,11 @@
 use Rattle.std.proofs.Common.{◌≡◌, true, false, List, Result, Ok, Err, refl, sym, ap, subst, ◌∙◌, nat_lt}
 use Rattle.sudoers_tree.specs.Line.{Line}
-use Rattle.sudoers_tree.specs.declared.fault.ReadFault.{ReadFault}
-use Rattle.sudoers_tree.specs.Policy.{IsPolicy}
-use Rattle.sudoers_tree.specs.Reading.{read_of, IsOutcome}
+use Rattle.sudoers_tree.specs.declared.load.NamedFile.{NamedFile}
+use Rattle.sudoers_tree.specs.declared.load_fault.LoadFault.{LoadFault}
+use Rattle.sudoers_tree.specs.Load.{Loaded, load_of}
+use Rattle.sudoers_tree.specs.Reading.{read_of}
+use Rattle.sudoers_files.specs.declared.fault.GatherFault.{GatherFault}
+use Rattle.sudoers_files.specs.Gather.{gathered}
 use Rattle.sudoers_check.specs.Chains.{HasReachableCycle}
 use Rattle.sudoers_cvt.specs.Rules.{Rules, rules_of, printed, fits}
 use Rattle.sudoers_cvt_rewrite.specs.Count.{member_limit}
@@ -12,22 +15,25 @@ use Rattle.laws_program.specs.Expanded.{expanded}
 use Rattle.sudoers_run.specs.declared.fault.LayerFault.TheVariants as layer
 use Rattle.sudoers_run.specs.declared.words.ConvertWords.{ConvertWords}
 use Rattle.sudoers_run.specs.Convert.{convert_read}
+use Rattle.sudoers_run.specs.Policy.{of_gathered}
 use Rattle.laws_program.specs.Converted.{IsExpanded, expanding_words, plain_words}
+use Rattle.laws_program.proofs.Sounds.{sound_lines}
 use Rattle.laws_program.proofs.Outputs.{if_fits, opened}
 use Rattle.laws_program.proofs.runs.expanded_policy_is_printed.Goals as goal
 
 pub returns : goal.returns
-returns c prune input out e = by (read_of input) refl
+returns c prune root known out e = gather (gathered known root) refl e
   where
     words : ConvertWords
     words = expanding_words prune
 
-    by : (o : Result (List Line) ReadFault) → read_of input ≡ o → IsExpanded input out
-    by (Err fault) is = let no : Err (layer.Policy fault) ≡ Ok out = sym (ap (convert_read words) is) ∙ e in absurd cc
-    by (Ok lines) is =
-        let policy : IsPolicy lines = (subst (IsOutcome input) is (c.read_is.ensures input)).0 in
+    load : (files : List NamedFile) → gathered known root ≡ Ok files → (o : Result Loaded LoadFault) → load_of files ≡ o → convert_read words o ≡ Ok out → IsExpanded root known out
+    load files g (Err fault) is done = absurd cc
+    load files g (Ok p) is done =
+        let lines : List Line = p.walk.lines in
+        let policy = sound_lines c.loaded_is_walk.ensures c.loaded_lines_are_whole.ensures files p is in
         let rules : Rules = used_rules (expanded lines) in
-        let found = opened (has_round lines) (nat_lt member_limit (member_count (expanded lines))) (fits rules) (printed rules) out (sym (ap (convert_read words) is) ∙ e) in
+        let found = opened (has_round lines) (nat_lt member_limit (member_count (expanded lines))) (fits rules) (printed rules) out done in
         let straight : HasReachableCycle lines → ⊥ = λ r.
         let round = round_is lines (c.chains_are.ensures.unused lines) (c.chains_are.ensures.used lines) (c.chains_are.ensures.cyclic lines) (c.chains_are.ensures.straight lines) true (λ t. r, λ h. refl) in
         let clash : true ≡ false = round ∙ found.0 in absurd cc in
@@ -36,9 +42,9 @@ returns c prune input out e = by (read_of input) refl
         let size = c.second_printing_of_expansion_is_same.ensures.size lines read.read policy found.1 read.is in
         let text = c.second_printing_of_expansion_is_same.ensures.text lines read.read policy found.1 read.is in
         record {
-          lines = lines;
+          policy = p;
           printed = read.read;
-          was_read = is;
+          was_loaded = record { files = files; gathers = g; loads = is };
           is_read = is_read;
           same = read.same;
           there = c.printed_expansion_answers.ensures.there lines read.read policy straight found.1 read.is;
@@ -47,5 +53,9 @@ returns c prune input out e = by (read_of input) refl
           is_straight = c.printed_expansion_answers.ensures.straight lines read.read policy straight found.1 read.is;
           default = c.printed_expansion_answers.ensures.default lines read.read policy straight found.1 read.is;
           groups = c.printed_expansion_answers.ensures.groups lines read.read policy straight found.1 read.is;
-          again = λ p. ap (convert_read (plain_words p)) is_read ∙ ap (λ b. if_fits b (printed (rules_of read.read))) size ∙ ap Ok text ∙ ap Ok (sym found.2);
+          again = λ prune. ap (λ b. if_fits b (printed (rules_of read.read))) size ∙ ap Ok text ∙ ap Ok (sym found.2);
         }
+
+    gather : (r : Result (List NamedFile) GatherFault) → gathered known root ≡ r → of_gathered (convert_read words) r ≡ Ok out → IsExpanded root known out
+    gather (Ok files) g done = load files g (load_of files) refl done
+    gather (Err fault) g done = absurd cc

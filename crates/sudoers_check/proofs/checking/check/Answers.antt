@@ -9,8 +9,8 @@ use Rattle.sudoers_check.proofs.checking.check.Goals as goal
 
 pub returns : goal.returns
 returns c =
-    let lines : List Line = c.args.policy.now in
-    let noted = map (note_of_definition lines) in
+    let lines : List Line = c.args.policy.now.walk.lines in
+    let noted = map (note_of_definition c.args.policy.now.walk) in
     let cyclic_marks : c.as_slice.result.now ≡ map (is_cyclic lines) (definitions lines) =
     c.as_slice.ensures.value ∙ c.in_ok-cyclic.ensures ∙ ap (λ ls. map (is_cyclic ls) (definitions ls)) (c.in_ok-numbers.ensures ∙ c.walk.ensures) in
     let used_marks : c.as_slice-2.result.now ≡ map (is_used lines) (definitions lines) =

@@ -10,5 +10,5 @@ returns-after-loop-row c =
     let defs = c.args.defs.now in
     let none = drop_of_length-le defs.rows.now c.loop-row-test.false in
     let l = c.loop-row in
-    sym (append-nil l.notes.items) ∙ ap (λ xs. l.notes.items ++ xs) (sym (noted_none c.args.wanted l.cursor.row l.cursor.text.now c.args.kind l.rest.now))
-    ∙ ap (λ rows. l.notes.items ++ noted_defs c.args.wanted l.cursor.row l.cursor.text.now c.args.kind l.rest.now (map (def_in defs.tables.now) rows)) (sym none) ∙ l.invariant
+    sym (append-nil l.notes.items) ∙ ap (λ xs. l.notes.items ++ xs) (sym (noted_none c.args.wanted l.cursor.spot l.cursor.text.now c.args.kind l.rest.now))
+    ∙ ap (λ rows. l.notes.items ++ noted_defs c.args.wanted l.cursor.spot l.cursor.text.now c.args.kind l.rest.now (map (def_in defs.tables.now) rows)) (sym none) ∙ l.invariant

@@ -4,4 +4,4 @@ use Rattle.sudoers_check.proofs.report.append_notes.Given as goal
 
 abbrev pub invariant-loop-note : goal.invariant-loop-note
 invariant-loop-note l =
-    l.text.items ++ flat_map (note_text l.file l.word) (drop l.note-index l.notes) ≡ l.initial.text.items ++ flat_map (note_text l.file l.word) l.notes
+    l.text.items ++ flat_map (note_text l.policy l.word) (drop l.note-index l.notes) ≡ l.initial.text.items ++ flat_map (note_text l.policy l.word) l.notes

@@ -15,14 +15,14 @@ straight_of lines walk same straight = subst (λ ls. HasReachableCycle ls → �
 pub returns-in-Ok-clause-straight : goal.returns-in-Ok-clause-straight
 returns-in-Ok-clause-straight c =
     let laws = c.chains_are.ensures in
-    let lines = c.args.policy.now in
+    let lines = c.args.policy.now.walk.lines in
     IfOk-weaker c.rewrite_acyclic.result _ (λ new. has_round lines ≡ false)
     (λ new is. no_round lines (laws.unused lines) (laws.used lines) (laws.cyclic lines) (laws.straight lines) (straight_of lines c.walk.result c.walk.ensures c.in-Ok.ensures.straight)) c.rewrite_acyclic.ensures.lines
 
 pub returns-in-Ok-clause-fault : goal.returns-in-Ok-clause-fault
 returns-in-Ok-clause-fault c =
     let laws = c.chains_are.ensures in
-    let lines = c.args.policy.now in
+    let lines = c.args.policy.now.walk.lines in
     let changes = changes_shown c.args.changes.now in
     let none = no_round lines (laws.unused lines) (laws.used lines) (laws.cyclic lines) (laws.straight lines) (straight_of lines c.walk.result c.walk.ensures c.in-Ok.ensures.straight) in
     IfErr-weaker c.rewrite_acyclic.result _ (IsWhole changes.expand (has_round lines) (member_count (rewritten changes lines)))
@@ -35,7 +35,7 @@ returns-in-Ok-clause-fault c =
 pub returns-in-Err-Cycle-clause-fault : goal.returns-in-Err-Cycle-clause-fault
 returns-in-Err-Cycle-clause-fault c =
     let laws = c.chains_are.ensures in
-    let lines = c.args.policy.now in
+    let lines = c.args.policy.now.walk.lines in
     elim c.in-Err-Cycle.ensures.fault [
       | inl n ↦ absurd cc
       | inr h ↦ inr (inl (refl, a_round lines (laws.unused lines) (laws.used lines) (laws.cyclic lines) (laws.straight lines) (subst HasReachableCycle c.walk.ensures h.1)))

@@ -18,7 +18,7 @@ use Rattle.sudoers_edit.proofs.pruning.removals.Goals as goal
 pub loop-number-init : goal.loop-number-init
 loop-number-init c =
     let policy : List Line = c.args.policy.now in
-    let places : c.as_slice-rest.result.now ≡ map place_in (unused_of policy) = c.as_slice-rest.ensures.value ∙ c.in_ok-places.ensures in (
+    let places : c.as_slice-rest.result.now ≡ map place_in (unused_of policy) = c.as_slice-rest.ensures.value ∙ c.in_ok-places.ensures ∙ ap (λ lines. map place_in (unused_of lines)) c.walk.ensures in (
       ap (λ xs. xs ++ removals_along 0 (lines_shown c.lines-lines.result) c.as_slice-rest.result.now) c.new-removals.ensures.items,
       All-same (λ (p : Kind × Place). p.1.def < 2 ^ 32) c.as_slice-rest.result.now (map place_in (unused_of policy)) places
           (All-map (λ (p : Kind × Place). p.1.def < 2 ^ 32) place_in (unused_of policy)
@@ -48,7 +48,7 @@ returns c =
     let policy : List Line = c.args.policy.now in
     let says : LineRow → Line = line_in c.lines-lines.result.tables.now in
     let items : List LineRow = c.lines-lines.result.rows.now in
-    let places : c.as_slice-rest.result.now ≡ map place_in (unused_of policy) = c.as_slice-rest.ensures.value ∙ c.in_ok-places.ensures in
+    let places : c.as_slice-rest.result.now ≡ map place_in (unused_of policy) = c.as_slice-rest.ensures.value ∙ c.in_ok-places.ensures ∙ ap (λ lines. map place_in (unused_of lines)) c.walk.ensures in
     let none : map says (drop c.loop-number.number items) ≡ [] = ap (map says) (drop_all c.loop-number.number items c.loop-number-test.false) in
     c.reverse.ensures.items
     ∙ ap reverse (sym (append-nil c.loop-number.removals.items)

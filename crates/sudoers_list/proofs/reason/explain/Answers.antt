@@ -8,12 +8,10 @@ use Rattle.sudoers_list.proofs.reason.explain.Goals as goal
 
 pub returns-clause-text : goal.returns-clause-text
 returns-clause-text c =
-    let lines = c.args.policy.now in
+    let policy = c.args.policy.now in
     let r = c.args.request.now in
-    let text = c.in_ok-explain_answer.field-0.items in
-    let same = c.in_ok-policy.ensures.walk ∙ c.walk.ensures in
+    let same = c.in_ok-acyclic.ensures.walk ∙ c.walk.ensures in
     let found = option_map found_answer c.in_ok-found.found in
-    let answer = option_map answer_shown c.args.answer in
-    subst (λ (a : Option Answer). IsReason lines r c.args.file.now a text)
-    (c.one_answer.ensures lines r found answer (subst (λ (ls : List Line). IsAnswer ls r found) same c.in_ok-found.ensures.answer) c.requires)
-    (subst (λ (ls : List Line). IsReason ls r c.args.file.now found text) same c.in_ok-explain_answer.ensures)
+    subst (λ (a : Option Answer). IsReason policy r a c.in_ok-text.text.items)
+    (c.one_answer.ensures policy.walk.lines r found (option_map answer_shown c.args.answer) (subst (λ (ls : List Line). IsAnswer ls r found) same c.in_ok-found.ensures.answer) c.requires)
+    c.in_ok-text.ensures

@@ -7,21 +7,19 @@ use Rattle.sudoers_tree.specs.Line.{Line}
 use Rattle.sudoers_match.specs.Answer.{Answer}
 use Rattle.sudoers_match.specs.Found.{found_answer}
 use Rattle.sudoers_match.specs.Heads.{Head}
-use Rattle.sudoers_list.specs.declared.spot.Spot.{Spot}
 use Rattle.sudoers_list.specs.internal.Inside.{numbered_shown}
-use Rattle.sudoers_list.specs.Rule.{spot_in}
 use Rattle.sudoers_list.proofs.Ruled.{found_rule, none_is_not_some}
 use Rattle.sudoers_list.proofs.TagsSaid.{answered_is, is_tagged, tagged}
 use Rattle.sudoers_list.proofs.rule.find_rule.Goals as goal
 
 pub unreachable-requires : goal.unreachable-requires
 unreachable-requires c =
-    let on = found_rule c.args.walk.now c.args.found.now c.requires in
+    let on = found_rule c.args.policy.now.walk.lines c.args.found.now c.requires in
     none_is_not_some on.0 (ap (option_map numbered_shown) (sym c.in_default.is) ∙ c.find_line.ensures.line ∙ on.1)
 
-pub returns : goal.returns
-returns c =
-    let lines = c.args.walk.now in
+pub returns-clause-rule : goal.returns-clause-rule
+returns-clause-rule c =
+    let lines = c.args.policy.now.walk.lines in
     let found = c.args.found.now in
     let a : Answer = found_answer found in
     let m : Member = member_shown found.member in
@@ -33,6 +31,6 @@ returns c =
       tagged a.tags h,
       is_tagged found.head a.tags h c.requires.in_groups.in_group.is_head,
       on.2
-          ∙ ap₂ (λ (spot : Spot) (command : CmdSpec). Some (record { spot = spot; command = command }))
-          (ap (λ (l : ℕ × Line). spot_in l.0 l.1.text m.start) (sym at) ∙ sym c.spot_in.ensures) (sym (answered_is a.tags h m)),
+          ∙ ap₂ (λ (l : ℕ × Line) (command : CmdSpec). Some (record { line = l.0; text = l.1.text; command = command }))
+          (sym at) (sym (answered_is a.tags h m)),
     )

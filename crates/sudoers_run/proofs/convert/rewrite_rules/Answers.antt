@@ -11,7 +11,7 @@ pub returns : goal.returns
 returns c =
     let f = c.args.form in
     let changes : Changes = changes_shown c.args.changes.now in
-    let lines : List Line = c.args.policy.now in
+    let lines : List Line = c.args.policy.now.walk.lines in
     let new : List Line = rewritten changes lines in
     let are : c.in_ok-rules.rules ≡ used_rules new = c.in_ok-rules.ensures.rules ∙ ap used_rules c.in_ok-rewritten.ensures.lines in
     let within : changes.expand ≡ true → member_count new ≤ member_limit =

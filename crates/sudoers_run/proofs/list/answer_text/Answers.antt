@@ -1,6 +1,9 @@
-use Rattle.std.proofs.Common.{◌≡◌, Err, MatchBool, rules, subst, sym}
+use Rattle.std.proofs.Common.{◌≡◌, List, Err, MatchBool, rules, subst, sym}
 use Rattle.std.specs.Option.{option_map}
+use Rattle.sudoers_tree.specs.Line.{Line}
+use Rattle.sudoers_check.specs.Chains.{HasReachableCycle}
 use Rattle.sudoers_match_list.specs.declared.verdict.AskFault.{AskFault}
+use Rattle.sudoers_match.specs.Answer.{IsAnswer}
 use Rattle.sudoers_match.specs.Found.{found_answer}
 use Rattle.sudoers_list.specs.Reason.{IsReason}
 use Rattle.sudoers_run.specs.internal.LayerOf.{layer_of_ask}
@@ -8,14 +11,18 @@ use Rattle.sudoers_run.specs.List.{allowed_text}
 use Rattle.sudoers_run.proofs.ListLemmas.{Answered, answer_refused}
 use Rattle.sudoers_run.proofs.list.answer_text.Goals as goal
 
+-- What is acyclic on a walk is so in its policy.
+straight_of : (walk lines : List Line) → walk ≡ lines → (HasReachableCycle walk → ⊥) → HasReachableCycle lines → ⊥
+straight_of walk lines same straight = subst (λ ls. HasReachableCycle ls → ⊥) same straight
+
 pub returns-in_err-found-clause-answered : goal.returns-in_err-found-clause-answered
 returns-in_err-found-clause-answered c =
     let w = c.args.words.now in
-    let lines = c.args.policy.now in
+    let p = c.args.policy.now in
     let r = c.args.request.now in
     let fault : AskFault = c.in_err-found.field-0.0 in
     let same : c.from_residual.result ≡ Err (layer_of_ask fault) = search rules in
-    subst (Answered w c.args.file.now lines r) (sym same) (answer_refused w c.args.file.now lines r c.is_acyclic.ensures.straight fault c.in_err-found.ensures.fault)
+    subst (Answered w p r) (sym same) (answer_refused w p r (straight_of c.args.acyclic.now p.walk.lines c.requires.walk c.is_acyclic.ensures.straight) fault c.in_err-found.ensures.fault)
 
 pub returns-then-words-clause-answered : goal.returns-then-words-clause-answered
 returns-then-words-clause-answered c =
@@ -23,11 +30,11 @@ returns-then-words-clause-answered c =
     let answer = option_map found_answer c.in_ok-found.found in
     let text = c.in_ok-text.text.items in
     record {
-      straight = c.is_acyclic.ensures.straight;
+      straight = straight_of c.args.acyclic.now c.args.policy.now.walk.lines c.requires.walk c.is_acyclic.ensures.straight;
       short = c.in_ok-found.ensures.short;
       answer = answer;
-      is_answer = c.in_ok-found.ensures.answer;
-      text = subst (λ b. MatchBool b (IsReason c.args.policy.now c.args.request.now c.args.file.now answer text) (text ≡ allowed_text w.words.now answer)) (sym c.if-words.true) c.in_ok-text.ensures;
+      is_answer = subst (λ (ls : List Line). IsAnswer ls c.args.request.now answer) c.requires.walk c.in_ok-found.ensures.answer;
+      text = subst (λ b. MatchBool b (IsReason c.args.policy.now c.args.request.now answer text) (text ≡ allowed_text w.words.now answer)) (sym c.if-words.true) c.in_ok-text.ensures;
       status = c.allowed_status-status.ensures;
     }
 
@@ -37,10 +44,10 @@ returns-clause-answered c =
     let answer = option_map found_answer c.in_ok-found.found in
     let text = c.in_ok-text-2.text.items in
     record {
-      straight = c.is_acyclic.ensures.straight;
+      straight = straight_of c.args.acyclic.now c.args.policy.now.walk.lines c.requires.walk c.is_acyclic.ensures.straight;
       short = c.in_ok-found.ensures.short;
       answer = answer;
-      is_answer = c.in_ok-found.ensures.answer;
-      text = subst (λ b. MatchBool b (IsReason c.args.policy.now c.args.request.now c.args.file.now answer text) (text ≡ allowed_text w.words.now answer)) (sym c.if-words.false) c.in_ok-text-2.ensures;
+      is_answer = subst (λ (ls : List Line). IsAnswer ls c.args.request.now answer) c.requires.walk c.in_ok-found.ensures.answer;
+      text = subst (λ b. MatchBool b (IsReason c.args.policy.now c.args.request.now answer text) (text ≡ allowed_text w.words.now answer)) (sym c.if-words.false) c.in_ok-text-2.ensures;
       status = c.allowed_status-status.ensures;
     }

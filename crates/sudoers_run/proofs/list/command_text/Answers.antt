@@ -8,7 +8,7 @@ use Rattle.sudoers_match.specs.Default.{IsRunasDefault}
 use Rattle.sudoers_list_people.specs.Asked.{request_told}
 use Rattle.sudoers_run.specs.declared.fault.LayerFault.{LayerFault}
 use Rattle.sudoers_run.specs.List.{text_shown}
-use Rattle.sudoers_run.proofs.ListLemmas.{Answered, Told, default_answered, default_refused, first_told, named_answered, nobody_of, shown_some, who_kept}
+use Rattle.sudoers_run.proofs.ListLemmas.{Told, default_answered, default_refused, first_told, named_answered, nobody_of, shown_some, who_kept}
 use Rattle.sudoers_run.proofs.list.command_text.Goals as goal
 use Rattle.sudoers_run.proofs.list.command_text.Goals.{then-is_some-via-then-is_some, then-is_some-via-else-is_some+then-is_some-2}
 
@@ -29,13 +29,13 @@ returns-then-is_some-clause-asked c =
       | then-is_some-via-then-is_some v ↦ inl (sym c.is_some.ensures ∙ v.if-is_some.true)
       | then-is_some-via-else-is_some+then-is_some-2 v ↦ inr (shown_some w.group (sym v.is_some-else-is_some.ensures ∙ v.if-is_some-2.true))
     ] in
-    named_answered w c.args.file.now c.args.policy.now people who one first told c.answer_text.result
-    (subst (λ (ls : List Line). Answered w c.args.file.now ls first c.answer_text.result) (c.in_ok-policy.ensures.walk ∙ c.walk.ensures) c.answer_text.ensures.answered)
+    named_answered w c.args.policy.now people who one first told c.answer_text.result
+    c.answer_text.ensures.answered
 
 pub returns-in_err-request-clause-asked : goal.returns-in_err-request-clause-asked
 returns-in_err-request-clause-asked c =
     let w = c.args.words.now in
-    let lines = c.args.policy.now in
+    let p = c.args.policy.now in
     let people = c.args.people.now in
     let who = c.args.who in
     let first = c.in_ok-first.first in
@@ -44,23 +44,23 @@ returns-in_err-request-clause-asked c =
     ap (λ (n : Bor (List ℕ)). request_told people who n.now (text_shown w.group) w.words.now w.moment.now) (sym c.unwrap_or-named.ensures) ∙ c.in_ok-first.ensures.told in
     let fault : LayerFault = c.in_err-request.field-0.0 in
     let same : c.from_residual-in_err-request.result ≡ Err fault = search rules in
-    subst (Told w c.args.file.now lines people who) (sym same)
-    (default_refused w c.args.file.now lines people who (nobody_of w.target (sym c.is_some.ensures ∙ c.if-is_some.false)) (nobody_of w.group (sym c.is_some-else-is_some.ensures ∙ c.if-is_some-2.false))
-    first told (acyclic_of c.args.policy.now c.walk.result c.walk.ensures c.in_ok-policy.ensures.straight) user (subst (λ (ls : List Line). IsRunasDefault ls first.who user) (c.in_ok-policy.ensures.walk ∙ c.walk.ensures) c.in_ok-default.ensures)
+    subst (Told w p people who) (sym same)
+    (default_refused w p people who (nobody_of w.target (sym c.is_some.ensures ∙ c.if-is_some.false)) (nobody_of w.group (sym c.is_some-else-is_some.ensures ∙ c.if-is_some-2.false))
+    first told (acyclic_of c.args.policy.now.walk.lines c.walk.result c.walk.ensures c.in_ok-acyclic.ensures.straight) user (subst (λ (ls : List Line). IsRunasDefault ls first.who user) (c.in_ok-acyclic.ensures.walk ∙ c.walk.ensures) c.in_ok-default.ensures)
     fault c.in_err-request.ensures.told)
 
-pub answer_text-requires-2 : goal.answer_text-requires-2
-answer_text-requires-2 c =
+pub answer_text-requires-2-clause-default : goal.answer_text-requires-2-clause-default
+answer_text-requires-2-clause-default c =
     let w = c.args.words.now in
     let user = c.in_ok-default.default.now in
-    subst (λ (asks : Who). IsRunasDefault c.in_ok-policy.policy asks user)
+    subst (λ (asks : Who). IsRunasDefault c.args.policy.now.walk.lines asks user)
     (sym (who_kept c.args.people.now c.in_ok-first.first.who user (text_shown w.group) w.words.now w.moment.now c.in_ok-request.request c.in_ok-request.ensures.told))
-    c.in_ok-default.ensures
+    (subst (λ (ls : List Line). IsRunasDefault ls c.in_ok-first.first.who user) (c.in_ok-acyclic.ensures.walk ∙ c.walk.ensures) c.in_ok-default.ensures)
 
 pub returns-clause-asked : goal.returns-clause-asked
 returns-clause-asked c =
     let w = c.args.words.now in
-    let lines = c.args.policy.now in
+    let p = c.args.policy.now in
     let people = c.args.people.now in
     let who = c.args.who in
     let first = c.in_ok-first.first in
@@ -68,7 +68,7 @@ returns-clause-asked c =
     let user = c.in_ok-default.default.now in
     let told : first_told w people who w.target ≡ Ok first =
     ap (λ (n : Bor (List ℕ)). request_told people who n.now (text_shown w.group) w.words.now w.moment.now) (sym c.unwrap_or-named.ensures) ∙ c.in_ok-first.ensures.told in
-    default_answered w c.args.file.now lines people who (nobody_of w.target (sym c.is_some.ensures ∙ c.if-is_some.false)) (nobody_of w.group (sym c.is_some-else-is_some.ensures ∙ c.if-is_some-2.false))
-    first told (acyclic_of c.args.policy.now c.walk.result c.walk.ensures c.in_ok-policy.ensures.straight) user (subst (λ (ls : List Line). IsRunasDefault ls first.who user) (c.in_ok-policy.ensures.walk ∙ c.walk.ensures) c.in_ok-default.ensures)
+    default_answered w p people who (nobody_of w.target (sym c.is_some.ensures ∙ c.if-is_some.false)) (nobody_of w.group (sym c.is_some-else-is_some.ensures ∙ c.if-is_some-2.false))
+    first told (acyclic_of c.args.policy.now.walk.lines c.walk.result c.walk.ensures c.in_ok-acyclic.ensures.straight) user (subst (λ (ls : List Line). IsRunasDefault ls first.who user) (c.in_ok-acyclic.ensures.walk ∙ c.walk.ensures) c.in_ok-default.ensures)
     request c.in_ok-request.ensures.told c.answer_text-2.result
-    (subst (λ (ls : List Line). Answered w c.args.file.now ls request c.answer_text-2.result) (c.in_ok-policy.ensures.walk ∙ c.walk.ensures) c.answer_text-2.ensures.answered)
+    c.answer_text-2.ensures.answered

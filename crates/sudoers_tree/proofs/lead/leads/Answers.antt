@@ -1,6 +1,6 @@
-use Rattle.std.proofs.Common.{sym}
-use Rattle.sudoers_tree.proofs.Included.{leads_nowhere}
+use Rattle.std.proofs.Common.{[], sym, append-nil}
 use Rattle.sudoers_tree.proofs.lead.leads.Goals as goal
 
-pub returns-in-None : goal.returns-in-None
-returns-in-None c = sym (leads_nowhere c.args.name.now c.args.line.now c.in-None.ensures (c.outcome_is.ensures c.args.line.now))
+pub returns-then-not-may_lead : goal.returns-then-not-may_lead
+returns-then-not-may_lead c =
+    sym (c.may_lead.ensures c.if-not-may_lead.true c.args.name.now [] c.args.line.now [] (sym (append-nil c.args.line.now)))

@@ -3,4 +3,4 @@ use Rattle.sudoers_tree.specs.Files.{lines_of, row_of}
 use Rattle.sudoers_tree.proofs.files.Files.row.Given as goal
 
 abbrev pub invariant-loop-line : goal.invariant-loop-line
-invariant-loop-line l = l.row ≡ row_of (lines_of l.self.files l.at.file) l.line
+invariant-loop-line l = l.row ≡ row_of (lines_of l.self.files l.file) l.line

@@ -1,5 +1,5 @@
 use Rattle.std.proofs.Common.{◌≡◌, drop, ◌+◌, ◌*◌}
-use Rattle.sudoers_tree.specs.Files.{lines_of}
+use Rattle.sudoers_tree.specs.Files.{lines_of, row_of}
 use Rattle.sudoers_tree.specs.Walk.{enter, site, visit, visit_each, walk_lines}
 use Rattle.sudoers_tree.specs.internal.Walking.{IsWalking, walked}
 use Rattle.sudoers_tree.proofs.walking.Walking.+walk.Given as goal
@@ -20,6 +20,7 @@ invariant-take_file-loop-line l =
     × IsWalking l.self
     × (walk_lines (visit l.left l.fn.self.files.files) l.fn.self.files.files l.file l.line (drop l.line (lines_of l.fn.self.files.files l.file)) (walked l.self)
     ≡ walk_lines (visit l.left l.fn.self.files.files) l.fn.self.files.files l.file 0 (lines_of l.fn.self.files.files l.file) (enter l.file (walked l.fn.self)))
+    × (l.row ≡ row_of (lines_of l.fn.self.files.files l.file) l.line)
 
 abbrev pub invariant-follow-loop-file : goal.invariant-follow-loop-file
 invariant-follow-loop-file l =

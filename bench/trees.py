@@ -1,0 +1,34 @@
+"""A policy of several files: the lines of an ordinary policy, in the files of an included folder."""
+
+import os
+
+import policies
+
+
+def parts(lines, count):
+    """`lines` in `count` parts of about the same number of bytes, with whole lines."""
+    share = sum(map(len, lines)) / count
+    parted = [b""] * count
+    before = 0
+    for line in lines:
+        parted[min(int(before / share), count - 1)] += line
+        before += len(line)
+    return parted
+
+
+def write_tree(folder, size, count):
+    """Writes a file that includes a folder of `count` files, with `size` bytes together, and returns its path."""
+    included = os.path.join(folder, "sudoers.d")
+    os.mkdir(included, 0o755)
+    for number, part in enumerate(parts(policies.policy(size), count)):
+        write_policy(os.path.join(included, f"{number:03}"), part)
+    root = os.path.join(folder, "sudoers")
+    write_policy(root, f"@includedir {included}\n".encode())
+    return root
+
+
+def write_policy(path, text):
+    """Writes a file with the mode that `visudo` asks for."""
+    with open(path, "wb") as file:
+        file.write(text)
+    os.chmod(path, 0o440)

@@ -1,0 +1,48 @@
+//! The policy of a command: files, from a root on.
+
+ghost use Rattle.std.specs.Prelude.{◌≡◌, false, IfErr, IfOk, IfSome, MatchResult};
+ghost use Rattle.sudoers_run.specs.Policy.{IsOfFiles, IsPolicyOf, IsUnloaded, Searches, TellsGather};
+ghost use Rattle.sudoers_run.specs.internal.LayerOf.{by_layer};
+
+use crate::fault::LayerFault;
+use std::alloc::Global;
+use sudoers_files::{Files, gather};
+use sudoers_text::TextFault;
+use sudoers_tree::{LoadFault, Policy, ReadFault};
+
+/// Gathers the files of a policy from `root` on, and returns the policy or its error.
+///
+/// # Errors
+///
+/// `Gather`: the files cannot be gathered. `NoMemory`: memory ran out.
+pub fn load_policy<F: Files>(
+    alloc: Global,
+    files: &mut F,
+    root: &[u8],
+) -> Result<Result<Policy, LoadFault>, LayerFault>
+    ensures policy { IfOk result (λ policy. IfSome (F.shelf files.old).files (IsPolicyOf root.now policy)) }
+    ensures fault { IfErr result (λ fault. IfSome (F.shelf files.old).files (TellsGather root.now fault)) }
+    ensures named { MatchResult result (λ policy. IfErr policy IsOfFiles) IsUnloaded }
+    ensures searches { Searches (by_layer result) (F.shelf files.old) (F.shelf files.new) }
+{
+    let found = gather(alloc, root, files)?;
+    match Policy::load(alloc, found.as_slice()) {
+        Ok(policy) => Ok(Ok(policy)),
+        Err(fault) if is_of_memory(&fault) => Err(LayerFault::NoMemory),
+        Err(fault) => Ok(Err(fault)),
+    }
+}
+
+/// Returns whether an error of files is want of memory, or holds it.
+fn is_of_memory(fault: &LoadFault) -> bool
+    ensures { result ≡ false → IsOfFiles fault.now }
+{
+    match fault {
+        LoadFault::NoMemory => true,
+        LoadFault::InFile { fault, .. } => matches!(
+            fault,
+            ReadFault::NoMemory | ReadFault::Text(TextFault::NoMemory)
+        ),
+        LoadFault::TooManyFiles | LoadFault::SameName { .. } => false,
+    }
+}

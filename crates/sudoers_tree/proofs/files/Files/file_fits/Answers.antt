@@ -1,8 +1,0 @@
-use Rattle.std.proofs.Common.{ap}
-use Rattle.sudoers_tree.specs.internal.Files.{Read}
-use Rattle.sudoers_tree.proofs.Parts.{file_fits}
-use Rattle.sudoers_tree.proofs.files.Files.file_fits.Goals as goal
-
-pub returns : goal.returns
-returns c =
-    file_fits c.self.inside.tree.all c.self.inside.parts.items c.args.self.now.files c.args.file (ap (λ (r : Read). r.files) c.self.view_is) c.self.invariant

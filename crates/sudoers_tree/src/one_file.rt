@@ -1,0 +1,316 @@
+//! Policies of one text, which can be changed.
+
+ghost use Rattle.std.specs.Prelude.{◌≡◌, ◌<◌, ◌≤◌, ◌++◌, ◌⊎◌, [], List, ℕ, length, slice_get, insert, remove, false, Option, None, IfOk, IfErr, OnOk, OnErr};
+ghost use Rattle.sudoers_text.specs.Ended.{has_unended_inside};
+ghost use Rattle.sudoers_text.specs.Whole.{IsLogicalLine};
+ghost use Rattle.sudoers_tree.specs.Changed.{replaced as with_another};
+ghost use Rattle.std.specs.Option.{option_map, option_copied};
+ghost use Rattle.sudoers_text.specs.Line.{join};
+ghost use Rattle.sudoers_text.specs.Fault.{text_limit};
+ghost use Rattle.sudoers_line.specs.Node.{Def as DefOf};
+ghost use Rattle.sudoers_line.specs.declared.node.Kind.{Kind as KindOf};
+ghost use Rattle.sudoers_line_rows.specs.View.{defs_shown, members_shown, node_shown};
+ghost use Rattle.sudoers_tree.specs.Line.{Line as LineOf, lines_shown};
+ghost use Rattle.sudoers_tree.specs.Kind.{line_kind};
+ghost use Rattle.sudoers_tree.specs.Definition.{place_of, members_of};
+ghost use Rattle.sudoers_tree.specs.Mention.{mentions};
+ghost use Rattle.sudoers_tree.specs.Policy.{IsPolicy, texts};
+ghost use Rattle.sudoers_tree.specs.Fault.{IsFaultOf};
+ghost use Rattle.sudoers_tree.specs.Reading.{read_behind, read_of, ReadGives};
+ghost use Rattle.sudoers_tree.specs.Index.{ReadsAll};
+ghost use Rattle.sudoers_tree.specs.internal.Tree.{no_lines};
+
+use crate::changed::{append_texts, text_replaced, text_with, text_without};
+use crate::fault::ReadFault;
+use crate::index::Index;
+use crate::kind::LineKind;
+use crate::laws::{lines_are_whole, read_is, whole_lines_are_read};
+use crate::line::{Line, LineRow};
+use crate::mention::append_mentions;
+use crate::passing::pass_all;
+use crate::place::{Place, Span};
+use crate::reading::read_lines;
+use crate::tree::Tree;
+use crate::walk::Walk;
+use std::alloc::{AllocError, Global};
+use std::boxed::Box;
+use std::marker::Model;
+use sudoers_line::Kind;
+use sudoers_line_reader::laws::outcome_is;
+use sudoers_line_rows::{MemberRow, Node, Rows};
+use sudoers_text::{Lines, cut};
+
+/// A policy of one text. Of its include lines none is followed. Contracts see the list of its lines with what they say.
+#[derive(Drop)]
+pub struct OneFile {
+    lines: Box<Indexed>,
+    size: usize,
+    alloc: Global,
+}
+
+/// Lines that are read, and the names that those of the walk define.
+#[derive(Drop)]
+struct Indexed {
+    tree: Tree,
+    index: Index,
+}
+
+impl Model for OneFile {
+    ghost use Rattle.std.specs.Prelude.{◌≡◌, List, length, Ok};
+    ghost use Rattle.sudoers_text.specs.Line.{join};
+    ghost use Rattle.sudoers_tree.specs.Line.{Line};
+    ghost use Rattle.sudoers_tree.specs.Definition.{definitions};
+    ghost use Rattle.sudoers_tree.specs.Index.{Indexes};
+    ghost use Rattle.sudoers_tree.specs.Policy.{IsPolicy, texts};
+    ghost use Rattle.sudoers_tree.specs.Reading.{read_of};
+
+    ghost Value = { List Line };
+
+    ghost view = { λ policy. policy.lines.value.tree.walk };
+
+    ghost invariant = { λ policy. (read_of (join (texts policy.lines.value.tree.walk)) ≡ Ok policy.lines.value.tree.walk)
+        × (policy.size ≡ length (join (texts policy.lines.value.tree.walk)))
+        × Indexes policy.lines.value.index (definitions policy.lines.value.tree.walk)
+        × IsPolicy policy.lines.value.tree.walk };
+}
+
+impl OneFile {
+    /// The policy that a text is (sudoers(5), SUDOERS FILE FORMAT).
+    ///
+    /// # Errors
+    ///
+    /// [`ReadFault`]: what is wrong with the text's cut into lines; else the first line with a fault: that it says nothing, or
+    /// the first of its definitions that cannot stand, as its name is reserved, defined already, or one too many.
+    pub fn read(alloc: Global, text: &[u8]) -> Result<OneFile, ReadFault>
+        // What is given is a policy, and the text is its lines joined.
+        ensures policy { IfOk result (λ lines. IsPolicy lines × (join (texts lines) ≡ text.now)) }
+        // A fault is the text's first, or memory ran out.
+        ensures fault { IfErr result (λ fault. (fault ≡ ReadFault.NoMemory) ⊎ IsFaultOf text.now fault) }
+        // In one word: the text's outcome, of which there is exactly one.
+        ensures outcome { ReadGives result (read_of text.now) }
+    {
+        read_knowing(alloc, None, text)
+    }
+
+    /// Returns the policy that `text` is, as [`OneFile::read`] does. A line of this policy that stands there at the same place,
+    /// or beside it, is not read again.
+    ///
+    /// # Errors
+    ///
+    /// Those of [`OneFile::read`].
+    pub fn reread(&self, text: &[u8]) -> Result<OneFile, ReadFault>
+        // What is given is a policy, and the text is its lines joined.
+        ensures policy { IfOk result (λ lines. IsPolicy lines × (join (texts lines) ≡ text.now)) }
+        // A fault is the text's first, or memory ran out.
+        ensures fault { IfErr result (λ fault. (fault ≡ ReadFault.NoMemory) ⊎ IsFaultOf text.now fault) }
+        // In one word: the text's outcome, of which there is exactly one.
+        ensures outcome { ReadGives result (read_of text.now) }
+    {
+        let tree = &self.lines.tree;
+        if tree.is_mostly_unused(self.size) {
+            return OneFile::read(self.alloc, text);
+        }
+        read_knowing(self.alloc, Some(tree), text)
+    }
+
+    /// A law: the lines are a policy, and are those of their text.
+    pub fn is_policy(&self)
+        ensures policy { IsPolicy self.now }
+        ensures read { read_of (join (texts self.now)) ≡ Ok self.now }
+    {
+        let _ = &self.lines;
+    }
+
+    /// Returns the lines in file order, with the names that they define.
+    pub fn walk(&self) -> Walk<'_>
+        ensures { result ≡ self.now }
+    {
+        Walk::of(&self.lines.tree, &self.lines.index)
+    }
+
+    /// A law: the text is within the limit.
+    pub fn text_is_within_limit(&self)
+        ensures { length (join (texts self.now)) ≤ text_limit }
+    {
+        let _ = &self.lines;
+    }
+
+    /// The text, byte for byte.
+    ///
+    /// # Errors
+    ///
+    /// Want of memory alone.
+    pub fn text(&self) -> Result<Vec<u8>, AllocError>
+        ensures { IfOk result (λ text. text.items ≡ join (texts self.now)) }
+    {
+        let mut text = Vec::with_capacity(self.alloc, self.size)?;
+        let lines = self.walk().lines();
+        append_texts(lines.tables, lines.rows, &mut text)?;
+        Ok(text)
+    }
+
+    /// Puts a line before the line at a place, or behind the last.
+    ///
+    /// # Errors
+    ///
+    /// Those of reading the changed text; the policy is then as it was.
+    pub fn with_line(&mut self, at: usize, line: &[u8]) -> Result<(), ReadFault>
+        requires at { at ≤ length self.old }
+        requires line { IsLogicalLine line.now }
+        requires ended { has_unended_inside (insert (texts self.old) at line.now) ≡ false }
+        ensures lines { OnOk result (texts self.new ≡ insert (texts self.old) at line.now) }
+        ensures fault { IfErr result (λ fault. (fault ≡ ReadFault.NoMemory) ⊎ IsFaultOf (join (insert (texts self.old) at line.now)) fault) }
+        ensures unchanged { OnErr result (self.new ≡ self.old) }
+    {
+        lines_are_whole(self);
+        whole_lines_are_read();
+        let text = text_with(self.alloc, &self.lines(), at, line)?;
+        *self = self.reread(text.as_slice())?;
+        Ok(())
+    }
+
+    /// Takes the line at a place out.
+    ///
+    /// # Errors
+    ///
+    /// Those of reading the changed text; the policy is then as it was.
+    pub fn without_line(&mut self, at: usize) -> Result<(), ReadFault>
+        requires at { at < length self.old }
+        requires ended { has_unended_inside (remove (texts self.old) at) ≡ false }
+        ensures lines { OnOk result (texts self.new ≡ remove (texts self.old) at) }
+        ensures fault { IfErr result (λ fault. (fault ≡ ReadFault.NoMemory) ⊎ IsFaultOf (join (remove (texts self.old) at)) fault) }
+        ensures unchanged { OnErr result (self.new ≡ self.old) }
+    {
+        lines_are_whole(self);
+        whole_lines_are_read();
+        let text = text_without(self.alloc, &self.lines(), at)?;
+        *self = self.reread(text.as_slice())?;
+        Ok(())
+    }
+
+    /// Puts another line in the place of one.
+    ///
+    /// # Errors
+    ///
+    /// Those of reading the changed text; the policy is then as it was.
+    #[tactic(auto, using(crate::proofs::ChangedText::whole_replaced))]
+    pub fn replaced(&mut self, at: usize, line: &[u8]) -> Result<(), ReadFault>
+        requires at { at < length self.old }
+        requires line { IsLogicalLine line.now }
+        requires ended { has_unended_inside (with_another at line.now (texts self.old)) ≡ false }
+        ensures lines { OnOk result (texts self.new ≡ with_another at line.now (texts self.old)) }
+        ensures fault { IfErr result (λ fault. (fault ≡ ReadFault.NoMemory) ⊎ IsFaultOf (join (with_another at line.now (texts self.old))) fault) }
+        ensures unchanged { OnErr result (self.new ≡ self.old) }
+    {
+        lines_are_whole(self);
+        whole_lines_are_read();
+        let text = text_replaced(self.alloc, &self.lines(), at, line)?;
+        *self = self.reread(text.as_slice())?;
+        Ok(())
+    }
+
+    /// How many lines there are.
+    pub fn len(&self) -> usize
+        ensures { result ≡ length self.now }
+    {
+        self.walk().lines().rows.len()
+    }
+
+    /// The lines with what they say.
+    pub fn lines(&self) -> Rows<'_, LineRow>
+        ensures { lines_shown result ≡ self.now }
+    {
+        self.walk().lines()
+    }
+
+    /// The allocator of its lines.
+    pub fn allocator(&self) -> Global {
+        self.alloc
+    }
+
+    /// The text of a line, its line end included. Lines count from 0; none stands past the last.
+    pub fn line(&self, i: usize) -> Option<&[u8]>
+        ensures { option_copied result ≡ option_map (λ (line : LineOf). line.text) (slice_get self.now i) }
+    {
+        Some(self.walk().line(i)?.text)
+    }
+
+    /// The kind of a line.
+    pub fn line_kind(&self, i: usize) -> Option<LineKind>
+        ensures { result ≡ option_map (λ (line : LineOf). line_kind line.node) (slice_get self.now i) }
+    {
+        Some(LineKind::of(&self.node(i)?))
+    }
+
+    /// What a line says.
+    pub fn node(&self, i: usize) -> Option<Node<'_>>
+        ensures { option_map node_shown result ≡ option_map (λ (line : LineOf). line.node) (slice_get self.now i) }
+    {
+        self.walk().node(i)
+    }
+
+    /// Where the name is defined as an alias of this kind.
+    pub fn definition(&self, kind: Kind, name: &[u8]) -> Option<Place>
+        ensures { result ≡ place_of kind name.now self.now }
+    {
+        self.walk().definition(kind, name)
+    }
+
+    /// The members of the alias.
+    pub fn members(&self, kind: Kind, name: &[u8]) -> Option<Rows<'_, MemberRow>>
+        ensures { option_map members_shown result ≡ members_of kind name.now self.now }
+    {
+        self.walk().members(kind, name)
+    }
+
+    /// Where the name stands as a member of a list of this kind, in file order.
+    ///
+    /// # Errors
+    ///
+    /// Want of memory alone.
+    pub fn mentions(&self, kind: Kind, name: &[u8]) -> Result<Vec<Span>, AllocError>
+        ensures { IfOk result (λ spans. spans.items ≡ mentions kind name.now self.now) }
+    {
+        let mut spans = Vec::new(self.alloc);
+        let lines = self.walk().lines();
+        for (number, row) in lines.rows.iter().enumerate() {
+            let line = Line::of(lines.tables, row);
+            append_mentions(self.alloc, kind, name, number, &line.node, &mut spans)?;
+        }
+        Ok(spans)
+    }
+}
+
+/// Returns the policy that a text is. What the lines of `known` say is not read again.
+fn read_knowing(alloc: Global, known: Option<&Tree>, text: &[u8]) -> Result<OneFile, ReadFault>
+    ensures policy { IfOk result (λ lines. IsPolicy lines × (join (texts lines) ≡ text.now)) }
+    ensures fault { IfErr result (λ fault. (fault ≡ ReadFault.NoMemory) ⊎ IsFaultOf text.now fault) }
+    ensures outcome { ReadGives result (read_of text.now) }
+{
+    read_is();
+    let lines = cut(alloc, text)?;
+    let mut tree = Tree::new(alloc, known, lines.len())?;
+    let index = read_walk(alloc, &mut tree, &lines)?;
+    Ok(OneFile {
+        lines: Box::new(alloc, Indexed { tree, index })?,
+        size: text.len(),
+        alloc,
+    })
+}
+
+/// Reads lines into a tree of no lines, puts them onto the walk, and returns the names that they define, or the first fault.
+fn read_walk(alloc: Global, tree: &mut Tree, lines: &Lines<'_>) -> Result<Index, ReadFault>
+    requires empty { tree.old ≡ no_lines }
+    requires fits { length (join lines.now) ≤ text_limit }
+    ensures { ReadsAll result tree.new.walk (read_behind [] lines.now) }
+{
+    outcome_is();
+    let fault = read_lines(alloc, tree, lines)?;
+    let mut index = Index::new(alloc);
+    pass_all(alloc, tree, &mut index)?;
+    if let Some(fault) = fault {
+        return Err(fault.into());
+    }
+    tree.forget(alloc);
+    Ok(index)
+}
