@@ -22,11 +22,11 @@ abbrev Holds : List ℕ → Type 0
 Holds text = (before : List ℕ) × (after : List ℕ) × (text ≡ before ++ (codes "include" ++ after))
 
 holds_front : (text more : List ℕ) → Holds text → Holds (text ++ more)
-holds_front text more (before, after, is) =
-    ( before
-    , after ++ more
-    , ap (λ t. t ++ more) is ∙ append_assoc before (codes "include" ++ after) more ∙ ap (λ t. before ++ t) (append_assoc (codes "include") after more)
-    )
+holds_front text more (before, after, is) = (
+  before,
+  after ++ more,
+  ap (λ t. t ++ more) is ∙ append_assoc before (codes "include" ++ after) more ∙ ap (λ t. before ++ t) (append_assoc (codes "include") after more),
+)
 
 holds_behind : (front text : List ℕ) → Holds text → Holds (front ++ text)
 holds_behind front text (before, after, is) =
@@ -49,7 +49,7 @@ occurs : (before after : List ℕ) → OccursAt (before ++ (codes "include" ++ a
 occurs before after =
     record {
       fits = omega (arith, length-append before (codes "include" ++ after), length-append (codes "include") after);
-      reads = byte_there before after
+      reads = byte_there before after;
     }
 
 none_held : (text : List ℕ) → Nowhere (OccursAt text (codes "include")) 0 (length text + 1) → Holds text → ⊥
