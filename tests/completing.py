@@ -47,7 +47,8 @@ ROWS = (
     (("check", "w"), ("web team",)),
     (("check", "p"), ("policy",)),
     (("check", "x"), ()),
-    (("check", "-"), ("-h", "--help", "-q", "-s", "--root")),
+    (("check", "-"), ("-h", "--help", "-q", "-s", "--root", "--skipped")),
+    (("check", "--s"), ("--skipped",)),
     (("check", "--r"), ("--root",)),
     (("check", "--root", ""), (FOLDER,)),
     (("check", "--root", "p"), ()),
@@ -139,7 +140,7 @@ ROWS = (
 
 # zsh offers the options if there is nothing else to offer.
 ZSH_ROWS = {
-    ("check", "policy", ""): ("-h", "--help", "-q", "-s", "--root"),
+    ("check", "policy", ""): ("-h", "--help", "-q", "-s", "--root", "--skipped"),
     ("convert", "-f", "sudoers", "policy", ""): (
         *("-e", "--expand-aliases", "-h", "--help"),
         *("-m", "--match", "-p", "--prune-matches", "--root"),

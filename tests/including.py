@@ -65,6 +65,39 @@ PRINTED = (
     ),
     ("quiet_check_of_a_folder_of_three_files", SITE, "check -q main", "", 0),
     (
+        "skipped_files_of_a_folder",
+        {**SITE, **OTHER_NAMES},
+        "check --skipped main",
+        "d/c:1:1: undefined User_Alias DBA\nd/b:2:12: unused User_Alias IDLE\nmain: parsed OK\n"
+        "d/.hidden: not read: its name contains '.'\nd/b~: not read: its name ends in '~'\n"
+        "d/x.y: not read: its name contains '.'\n",
+        0,
+    ),
+    ("skipped_files_with_quiet", {**SITE, **OTHER_NAMES}, "check -q --skipped main", "", 0),
+    ("no_skipped_files", SITE, "check -s --skipped main", "d/c:1:1: undefined User_Alias DBA\nd/b:2:12: unused User_Alias IDLE\nmain: faults found\n", 1),
+    (
+        "skipped_files_of_a_policy_with_an_error",
+        {"main": "@includedir d\nbob\n@includedir a.d", "d/x.y~": "", "a.d/x~": ""},
+        "check --skipped main",
+        "main:2:4: syntax error: EndOfLine\nd/x.y~: not read: its name contains '.'\na.d/x~: not read: its name ends in '~'\n",
+        1,
+    ),
+    (
+        "skipped_files_of_an_included_file",
+        {"main": "@include d/a\n", "d/a": "@includedir e\n@includedir none\n", "d/e/f": "# f\n", "d/e/f.rpmsave": "# f\n"},
+        "check --skipped main",
+        "main: parsed OK\nd/e/f.rpmsave: not read: its name contains '.'\n",
+        0,
+    ),
+    (
+        "skipped_files_of_an_image",
+        {**IMAGE, "image/etc/sudoers.d/web.conf": "# web\n"},
+        "check --skipped --root image /etc/sudoers",
+        "/etc/local:2:12: unused User_Alias IDLE\n/etc/sudoers: parsed OK\n"
+        "/etc/sudoers.d/web.conf: not read: its name contains '.'\n",
+        0,
+    ),
+    (
         "show_of_a_folder_of_three_files",
         {**SITE, **OTHER_NAMES},
         "show main",
@@ -249,6 +282,7 @@ NOT_READABLE = (
 # Standard input includes no file, also one that is there; and `edit` follows no include.
 STREAMS = (
     ("check -", "@include main\n", Wanted(b"-:1:1: include main not loaded\n", status=1)),
+    ("check --skipped -", "@includedir d\n", Wanted(b"-: parsed OK\n")),
     ("check -", "@include -\n", Wanted(b"-:1:1: include - twice\n", status=1)),
     ("check -", "@includedir d\nbob ALL = SH\n", Wanted(b"-:2:11: undefined Cmnd_Alias SH\n-: parsed OK\n")),
     ("show -", "#include /none\n", fault("-:1:1: include /none not loaded")),

@@ -84,6 +84,7 @@ complete -c sudoers_tool -n __fish_use_subcommand -a list -d 'Print what a user 
 complete -c sudoers_tool -n __fish_use_subcommand -a show -d 'Print the lines of a policy'
 complete -c sudoers_tool -n '__fish_seen_subcommand_from check' -s q -d 'Print nothing; only set the exit status'
 complete -c sudoers_tool -n '__fish_seen_subcommand_from check' -s s -d 'Treat undefined and cyclic aliases as errors'
+complete -c sudoers_tool -n '__fish_seen_subcommand_from check' -l skipped -d 'List the files in included folders that are not read'
 complete -c sudoers_tool -n '__fish_seen_subcommand_from convert' -s e -l expand-aliases -d 'Replace aliases by their members'
 complete -c sudoers_tool -n '__fish_seen_subcommand_from convert' -s f -l form -x -a 'json sudoers' -d 'Form of the output: sudoers or json'
 complete -c sudoers_tool -n '__fish_seen_subcommand_from convert' -s m -l match -x -a '(__sudoers_tool_filter)' -d 'Print only rules for some users, groups and hosts'

@@ -15,10 +15,14 @@ led_by files None = []
 led_by files (Some (File name)) = name ∷ []
 led_by files (Some (Dir dir)) = led_in dir (names_in dir files)
 
+-- the names that `names_of` gives for where these lines of the file `name` lead, one after another
+abbrev pub by_lines : (Option Lead → List (List ℕ)) → List ℕ → List (List ℕ) → List (List ℕ)
+by_lines names_of name [] = []
+by_lines names_of name (line ∷ lines) = names_of (leads name line) ++ by_lines names_of name lines
+
 -- where these lines of the file `name` lead, one after another
 abbrev pub included_by : List NamedFile → List ℕ → List (List ℕ) → List (List ℕ)
-included_by files name [] = []
-included_by files name (line ∷ lines) = led_by files (leads name line) ++ included_by files name lines
+included_by files = by_lines (led_by files)
 
 -- the lines of a text; none, if it cannot be cut
 abbrev pub lines_of : Result (List (List ℕ)) TextFault → List (List ℕ)

@@ -1,8 +1,8 @@
 //! The files of a folder that is included.
 
-ghost use Rattle.std.specs.Prelude.{◌≡◌, ◌++◌, ◌∷◌, [], ℕ, Vec, map, IfOk, OnOk};
+ghost use Rattle.std.specs.Prelude.{◌≡◌, ◌++◌, ◌∷◌, [], ℕ, true, false, Vec, map, IfOk, OnOk};
 ghost use Rattle.std.specs.declared.alloc.Global.{Global as GlobalOf};
-ghost use Rattle.sudoers_files.specs.Folder.{in_order, led_in, name_in, with_base};
+ghost use Rattle.sudoers_files.specs.Folder.{in_order, is_wanted, led_in, name_in, skipped_in, with_base};
 
 use std::alloc::{AllocError, Global};
 use std::collections::BTreeSet;
@@ -18,27 +18,60 @@ fn name_in(alloc: Global, dir: &[u8], base: &[u8]) -> Result<Items<u8>, AllocErr
     Ok(Items::from_vec(name))
 }
 
-/// Returns those of the names `bases` to which an include of their folder leads, in the order of their bytes.
-fn in_order(alloc: Global, bases: &[Items<u8>]) -> Result<BTreeSet<Vec<u8>>, AllocError>
-    ensures { IfOk result (λ order. map (λ (base : Vec ℕ GlobalOf). base.items) order.keys ≡ in_order [] bases.now) }
+/// Returns whether the name `base` is among those to which an include of its folder leads, if `led`, and else among the others.
+fn is_wanted(base: &[u8], led: bool) -> bool
+    ensures { result ≡ is_wanted led base.now }
+{
+    if led { is_base(base) } else { !is_base(base) }
+}
+
+/// Returns those of the names `bases` that are wanted, in the order of their bytes.
+fn in_order(
+    alloc: Global,
+    bases: &[Items<u8>],
+    led: bool,
+) -> Result<BTreeSet<Vec<u8>>, AllocError>
+    ensures { IfOk result (λ order. map (λ (base : Vec ℕ GlobalOf). base.items) order.keys ≡ in_order led [] bases.now) }
 {
     let mut order = BTreeSet::new(alloc);
     for base in bases {
-        put(alloc, base.as_slice(), &mut order)?;
+        put(alloc, base.as_slice(), led, &mut order)?;
     }
     Ok(order)
 }
 
-/// Inserts the name `base` into names in the order of their bytes, if an include of its folder leads to it.
-fn put(alloc: Global, base: &[u8], order: &mut BTreeSet<Vec<u8>>) -> Result<(), AllocError>
+/// Inserts the name `base` into names in the order of their bytes, if it is wanted.
+fn put(
+    alloc: Global,
+    base: &[u8],
+    led: bool,
+    order: &mut BTreeSet<Vec<u8>>,
+) -> Result<(), AllocError>
     ensures { OnOk result (map (λ (name : Vec ℕ GlobalOf). name.items) order.new.keys
-        ≡ with_base base.now (map (λ (name : Vec ℕ GlobalOf). name.items) order.old.keys)) }
+        ≡ with_base led base.now (map (λ (name : Vec ℕ GlobalOf). name.items) order.old.keys)) }
 {
-    if !is_base(base) {
+    if !is_wanted(base, led) {
         return Ok(());
     }
     order.insert(Vec::from_slice(alloc, base)?)?;
     Ok(())
+}
+
+/// Returns the names of the files in the folder `dir` whose names there are among `bases` and wanted, in the order of their bytes.
+fn names_in_order(
+    alloc: Global,
+    dir: &[u8],
+    bases: &[Items<u8>],
+    led: bool,
+) -> Result<Vec<Items<u8>>, AllocError>
+    ensures { IfOk result (λ names. names.items ≡ map (name_in dir.now) (in_order led [] bases.now)) }
+{
+    let mut order = in_order(alloc, bases, led)?;
+    let mut names = Vec::with_capacity(alloc, order.len())?;
+    while let Some(base) = order.pop_first() {
+        names.push(name_in(alloc, dir, base.as_slice())?)?;
+    }
+    Ok(names)
 }
 
 /// Returns the names of the files in the folder `dir` to which an include of it leads, in the order of their bytes. In the folder the
@@ -50,10 +83,21 @@ fn put(alloc: Global, base: &[u8], order: &mut BTreeSet<Vec<u8>>) -> Result<(), 
 pub fn led_in(alloc: Global, dir: &[u8], bases: &[Items<u8>]) -> Result<Vec<Items<u8>>, AllocError>
     ensures { IfOk result (λ names. names.items ≡ led_in dir.now bases.now) }
 {
-    let mut order = in_order(alloc, bases)?;
-    let mut names = Vec::with_capacity(alloc, order.len())?;
-    while let Some(base) = order.pop_first() {
-        names.push(name_in(alloc, dir, base.as_slice())?)?;
-    }
-    Ok(names)
+    names_in_order(alloc, dir, bases, true)
+}
+
+/// Returns the names of the files in the folder `dir` that an include of it skips, in the order of their bytes. In the folder the files
+/// have the names `bases`.
+///
+/// # Errors
+///
+/// Memory ran out.
+pub fn skipped_in(
+    alloc: Global,
+    dir: &[u8],
+    bases: &[Items<u8>],
+) -> Result<Vec<Items<u8>>, AllocError>
+    ensures { IfOk result (λ names. names.items ≡ skipped_in dir.now bases.now) }
+{
+    names_in_order(alloc, dir, bases, false)
 }

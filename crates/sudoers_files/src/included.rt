@@ -1,12 +1,13 @@
 //! The files to which the lines of a file lead.
 
-ghost use Rattle.std.specs.Prelude.{◌≡◌, ◌++◌, List, Some, IfErr, IfOk, OnOk};
+ghost use Rattle.std.specs.Prelude.{◌≡◌, ◌++◌, [], ℕ, List, Option, Some, None, IfErr, IfOk, OnOk};
 ghost use Rattle.sudoers_text.specs.Cut.{cut_of};
 ghost use Rattle.sudoers_tree.specs.declared.load.NamedFile.{NamedFile as NamedFileOf};
+ghost use Rattle.sudoers_tree.specs.declared.lead.Lead.{Lead as LeadOf};
 ghost use Rattle.sudoers_tree.specs.Lead.{leads};
 ghost use Rattle.sudoers_files.specs.Gather.{Asks, IsOutside};
 ghost use Rattle.sudoers_files.specs.Shelf.{names_in};
-ghost use Rattle.sudoers_files.specs.Included.{included_by, led_by, lines_of};
+ghost use Rattle.sudoers_files.specs.Included.{by_lines, led_by, lines_of};
 
 use crate::fault::GatherFault;
 use crate::files::Files;
@@ -22,7 +23,8 @@ use sudoers_tree::{Items, Lead, leads, may_lead};
 ///
 /// Memory ran out.
 pub fn include_lines(alloc: Global, name: &[u8], bytes: &[u8]) -> Result<Vec<Items<u8>>, AllocError>
-    ensures { (files : List NamedFileOf) → IfOk result (λ kept. included_by files name.now kept.items ≡ included_by files name.now (lines_of (cut_of bytes.now))) }
+    ensures { (names_of : Option LeadOf → List (List ℕ)) → names_of None ≡ []
+        → IfOk result (λ kept. by_lines names_of name.now kept.items ≡ by_lines names_of name.now (lines_of (cut_of bytes.now))) }
 {
     cut_is();
     if !may_lead(bytes) {
@@ -41,7 +43,8 @@ fn lines_that_lead(
     name: &[u8],
     lines: &Lines<'_>,
 ) -> Result<Vec<Items<u8>>, AllocError>
-    ensures { (files : List NamedFileOf) → IfOk result (λ kept. included_by files name.now kept.items ≡ included_by files name.now lines.now) }
+    ensures { (names_of : Option LeadOf → List (List ℕ)) → names_of None ≡ []
+        → IfOk result (λ kept. by_lines names_of name.now kept.items ≡ by_lines names_of name.now lines.now) }
 {
     let mut kept = Vec::new(alloc);
     for number in 0..lines.len() {
@@ -60,8 +63,8 @@ fn keep(
     line: &[u8],
     kept: &mut Vec<Items<u8>>,
 ) -> Result<(), AllocError>
-    ensures { (files : List NamedFileOf) → OnOk result (included_by files name.now kept.new.items
-        ≡ included_by files name.now kept.old.items ++ led_by files (leads name.now line.now)) }
+    ensures { (names_of : Option LeadOf → List (List ℕ)) → names_of None ≡ []
+        → OnOk result (by_lines names_of name.now kept.new.items ≡ by_lines names_of name.now kept.old.items ++ names_of (leads name.now line.now)) }
 {
     let Some(_) = leads(alloc, name, line)? else {
         return Ok(());
@@ -71,7 +74,7 @@ fn keep(
 }
 
 /// Returns the names of the files in the folder `dir`, as [`Files::names`] does.
-fn names_in<F: Files>(
+pub fn names_in<F: Files>(
     alloc: Global,
     files: &mut F,
     dir: &[u8],

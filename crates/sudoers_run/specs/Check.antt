@@ -1,12 +1,17 @@
 -- What `check` writes for a policy.
-use Rattle.std.specs.Prelude.{◌≡◌, ℕ, Bool, if◌then◌else◌, List, [], ◌++◌, codes, Result, Ok, Err}
+use Rattle.std.specs.Prelude.{◌≡◌, ℕ, Bool, if◌then◌else◌, List, [], ◌∷◌, ◌++◌, codes, Result, Ok, Err}
+use Rattle.sudoers_line.specs.Piece.{has_byte}
 use Rattle.sudoers_tree.specs.declared.load.NamedFile.{NamedFile}
 use Rattle.sudoers_tree.specs.declared.load_fault.LoadFault.{LoadFault}
-use Rattle.sudoers_tree.specs.Load.{Loaded}
+use Rattle.sudoers_tree.specs.Load.{Loaded, load_of}
+use Rattle.sudoers_tree.specs.Targets.{base_of}
 use Rattle.sudoers_check.specs.Report.{report_of, report_text, is_fine}
+use Rattle.sudoers_files.specs.Gather.{gathered}
+use Rattle.sudoers_files.specs.Skipped.{skipped}
 use Rattle.sudoers_run.specs.declared.fault.LayerFault.{LayerFault}
 use Rattle.sudoers_run.specs.declared.fault.ToolFault.{ToolFault}
-use Rattle.sudoers_run.specs.Policy.{IsUnloaded, TellsFiles, of_files}
+use Rattle.sudoers_run.specs.declared.words.CheckWords.{CheckWords}
+use Rattle.sudoers_run.specs.Policy.{IsUnloaded, TellsFiles, of_files, of_found}
 use Rattle.sudoers_run.specs.Faults.{WriteOr}
 use Rattle.sudoers_run.specs.FaultText.{text_of_load}
 
@@ -24,9 +29,25 @@ check_status strict (Err fault) = 1
 abbrev pub status_of : Bool → List ℕ → List NamedFile → Result ℕ LayerFault
 status_of strict root known = of_files (λ policy. Ok (check_status strict policy)) root known
 
+-- why the file of this name is not read, which lies in a folder that is included
+abbrev pub skip_reason : List ℕ → List ℕ
+skip_reason name = if has_byte 46 (base_of name) then codes "contains '.'" else codes "ends in '~'"
+
+-- the line on such a file
+abbrev pub skipped_line : List ℕ → List ℕ
+skipped_line name = name ++ codes ": not read: its name " ++ skip_reason name ++ codes "\n"
+
+abbrev pub skipped_text : List (List ℕ) → List ℕ
+skipped_text [] = []
+skipped_text (name ∷ names) = skipped_line name ++ skipped_text names
+
+-- the report on the files that are gathered from those that are known, and lines on the files that these skip, if they are asked for
+abbrev pub found_text : CheckWords → List NamedFile → List NamedFile → List ℕ
+found_text words known found = check_text words.strict (load_of found) ++ (if words.skipped then skipped_text (skipped known found) else [])
+
 -- what is written: nothing, if it is to be quiet
-abbrev pub check_output : Bool → Bool → List ℕ → List NamedFile → Result (List ℕ) LayerFault
-check_output quiet strict root known = of_files (λ policy. Ok (if quiet then [] else check_text strict policy)) root known
+abbrev pub check_output : CheckWords → List ℕ → List NamedFile → Result (List ℕ) LayerFault
+check_output words root known = of_found (λ found. Ok (if words.quiet then [] else found_text words known found)) (gathered known root)
 
 -- a fault that gathering the files has; those of the devices and of memory say nothing of them
 abbrev pub TellsCheck : Bool → List ℕ → ToolFault → List NamedFile → Type 0

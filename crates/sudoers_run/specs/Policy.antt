@@ -15,10 +15,14 @@ use Rattle.sudoers_run.specs.declared.fault.LayerFault.TheVariants as layer
 use Rattle.sudoers_run.specs.declared.fault.ToolFault.{ToolFault}
 use Rattle.sudoers_run.specs.declared.fault.ToolFault.TheVariants as tool
 
+-- what comes of files that are gathered, or why they cannot be gathered
+abbrev pub of_found : {A : Type 0} → (List NamedFile → Result A LayerFault) → Result (List NamedFile) GatherFault → Result A LayerFault
+of_found next (Ok found) = next found
+of_found next (Err fault) = Err (layer.Gather fault)
+
 -- what comes of the policy of files that are gathered, or why they cannot be gathered
 abbrev pub of_gathered : {A : Type 0} → (Result Loaded LoadFault → Result A LayerFault) → Result (List NamedFile) GatherFault → Result A LayerFault
-of_gathered next (Ok files) = next (load_of files)
-of_gathered next (Err fault) = Err (layer.Gather fault)
+of_gathered next = of_found (λ found. next (load_of found))
 
 -- what comes of the policy that these files are from `root` on
 abbrev pub of_files : {A : Type 0} → (Result Loaded LoadFault → Result A LayerFault) → List ℕ → List NamedFile → Result A LayerFault

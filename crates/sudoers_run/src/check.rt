@@ -1,61 +1,115 @@
 //! The check of a policy.
-ghost use Rattle.std.specs.Prelude.{◌≡◌, ◌≢◌, ◌+◌, ◌<◌, ◌≤◌, ◌++◌, true, codes, length, Ok, Err, IfOk, IfErr, IfSome, IsOkAnd, min, ◌-◌, ◌^◌};
+ghost use Rattle.std.specs.Prelude.{◌≡◌, ◌≢◌, ◌+◌, ◌<◌, ◌≤◌, ◌++◌, true, codes, length, List, Ok, Err, Some, IfOk, IfErr, IfSome, IsOkAnd, OnOk, min, ◌-◌, ◌^◌};
 ghost use Rattle.std.specs.Io.KnownBytes.{Keeps, Appends};
 ghost use Rattle.sudoers_run.specs.Device.{Writes, AppendsFront};
-ghost use Rattle.sudoers_run.specs.Policy.{Searches};
+ghost use Rattle.sudoers_tree.specs.declared.load.NamedFile.{NamedFile as NamedFileOf};
+ghost use Rattle.sudoers_tree.specs.Load.{load_of};
+ghost use Rattle.sudoers_run.specs.Policy.{IsOutside, Searches};
 ghost use Rattle.sudoers_run.specs.FaultText.{text_of_load};
-ghost use Rattle.sudoers_run.specs.Check.{check_text as text_of_check, check_status, check_output, status_of, IsCheckFault, TellsCheck};
+ghost use Rattle.sudoers_run.specs.Check.{check_text as text_of_check, check_status, check_output, found_text, skip_reason, skipped_line, skipped_text, status_of, IsCheckFault, TellsCheck};
+ghost use Rattle.sudoers_run.specs.internal.LayerOf.{by_layer};
 
 use crate::device::Sink;
-use crate::fault::ToolFault;
+use crate::fault::{LayerFault, ToolFault};
 use crate::fault_texts::load_fault_text;
-use crate::loading::load_policy;
+use crate::loading::{find_files, load_found};
 use crate::output::{Output, write_all};
+use crate::words::CheckWords;
 use std::alloc::{AllocError, Global};
 use sudoers_check::{check, report_text};
-use sudoers_files::Files;
-use sudoers_tree::{LoadFault, Policy};
+use sudoers_files::{Files, skipped};
+use sudoers_tree::{Items, LoadFault, NamedFile, Policy, base_of};
 
 /// Reads the policy `root` with the files that it includes, and writes what is to be noted of its aliases, or, if it is no policy, its
-/// fault. The status is 0 if the policy is fine, and else 1. With `strict`, undefined names and cyclic aliases are faults. With `quiet`,
-/// nothing is written (visudo(8)).
+/// fault. The status is 0 if the policy is fine, and else 1 (visudo(8)). What else is written, `words` say.
 ///
 /// # Errors
 ///
-/// [`ToolFault`]: of gathering the files, then of memory, then of writing. Nothing is written before a fault other than `Write`.
+/// [`ToolFault`]: of gathering the files, then of memory, then of a folder whose skipped files are asked for, then of writing. Nothing is
+/// written before a fault other than `Write`.
 pub fn run_check<F: Files, W: Sink>(
     alloc: Global,
     files: &mut F,
     root: &[u8],
-    quiet: bool,
-    strict: bool,
+    words: &CheckWords,
     writer: &mut W,
 ) -> Result<u8, ToolFault>
     // The status and what is written are the stated functions of the files.
-    ensures status { IfOk result (λ status. IfSome (F.shelf files.old).files (λ known. status_of strict root.now known ≡ Ok status)) }
+    ensures status { IfOk result (λ status. IfSome (F.shelf files.old).files (λ known. status_of words.now.strict root.now known ≡ Ok status)) }
     ensures ok { IfOk result (λ status. IfSome (F.shelf files.old).files (λ known.
-        IsOkAnd (check_output quiet strict root.now known) (Appends (W.contents writer.old) (W.contents writer.new)))) }
+        IsOkAnd (check_output words.now root.now known) (Appends (W.contents writer.old) (W.contents writer.new)))) }
     // A fault of gathering the files is the stated one.
-    ensures fault { IfErr result (λ fault. IfSome (F.shelf files.old).files (TellsCheck strict root.now fault)) }
+    ensures fault { IfErr result (λ fault. IfSome (F.shelf files.old).files (TellsCheck words.now.strict root.now fault)) }
     // There are no other faults.
     ensures named { IfErr result IsCheckFault }
     // After `Write`, what was written is a beginning of the output.
     ensures front { result ≡ Err ToolFault.Write → IfSome (F.shelf files.old).files (λ known.
-        IsOkAnd (check_output quiet strict root.now known) (AppendsFront (W.contents writer.old) (W.contents writer.new))) }
+        IsOkAnd (check_output words.now root.now known) (AppendsFront (W.contents writer.old) (W.contents writer.new))) }
     // What the counts of the files show, and that nothing is written before a fault, as the counts of the writer show.
     ensures searches { Searches result (F.shelf files.old) (F.shelf files.new) }
     ensures writes { Writes result (W.Sink.failures writer.old) (W.Sink.failures writer.new)
         (W.contents writer.old) (W.contents writer.new) }
     ensures statuses { IfOk result (λ status. status ≤ 1) }
     // With `quiet`, nothing is written, whatever is read.
-    ensures silent { quiet ≡ true → (result ≢ Err ToolFault.Write) × Keeps (W.contents writer.old) (W.contents writer.new) }
+    ensures silent { words.now.quiet ≡ true → (result ≢ Err ToolFault.Write) × Keeps (W.contents writer.old) (W.contents writer.new) }
 {
-    let policy = load_policy(alloc, files, root)?;
-    let output = check_text(alloc, policy, strict)?;
-    if !quiet {
+    let found = find_files(alloc, files, root)?;
+    let output = check_found(alloc, files, found.as_slice(), words)?;
+    if !words.quiet {
         write_all(writer, output.text.as_slice())?;
     }
     Ok(output.status)
+}
+
+/// Returns what is written of the files `found`, and the exit status.
+fn check_found<F: Files>(
+    alloc: Global,
+    files: &mut F,
+    found: &[NamedFile],
+    words: &CheckWords,
+) -> Result<Output, LayerFault>
+    ensures text { IfOk result (λ output. IfSome (F.shelf files.old).files (λ known. output.text.items ≡ found_text words.now known found.now)) }
+    ensures status { IfOk result (λ output. output.status ≡ check_status words.now.strict (load_of found.now)) }
+    ensures outside { IfErr result IsOutside }
+    ensures searches { Searches (by_layer result) (F.shelf files.old) (F.shelf files.new) }
+{
+    let mut output = check_text(alloc, load_found(alloc, found)?, words.strict)?;
+    if words.skipped {
+        let names = skipped(alloc, files, found)?;
+        append_skipped(&mut output.text, names.as_slice())?;
+    }
+    Ok(output)
+}
+
+/// Appends a line for each of the names, which are those of files that are not read.
+fn append_skipped(out: &mut Vec<u8>, names: &[Items<u8>]) -> Result<(), AllocError>
+    ensures { OnOk result (out.new.items ≡ out.old.items ++ skipped_text names.now) }
+{
+    for name in names {
+        append_skipped_line(out, name.as_slice())?;
+    }
+    Ok(())
+}
+
+/// Appends the line on the file `name`, which is not read.
+fn append_skipped_line(out: &mut Vec<u8>, name: &[u8]) -> Result<(), AllocError>
+    ensures { OnOk result (out.new.items ≡ out.old.items ++ skipped_line name.now) }
+{
+    out.extend_from_slice(name)?;
+    out.extend_from_slice(b": not read: its name ")?;
+    out.extend_from_slice(skip_reason(name))?;
+    out.extend_from_slice(b"\n")
+}
+
+/// Returns why the file `name` is not read, which lies in an included folder.
+fn skip_reason(name: &[u8]) -> &'static [u8]
+    ensures { result.now ≡ skip_reason name.now }
+{
+    if base_of(name).contains(&b'.') {
+        b"contains '.'"
+    } else {
+        b"ends in '~'"
+    }
 }
 
 /// Returns the report on `policy`, or its error, and the exit status.

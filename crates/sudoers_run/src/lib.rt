@@ -24,4 +24,4 @@ pub use form::Form;
 pub use list::run_list;
 pub use program::run_edit;
 pub use show::run_show;
-pub use words::{ConvertWords, ListWords};
+pub use words::{CheckWords, ConvertWords, ListWords};

@@ -1,14 +1,16 @@
 //! The policy of a command: files, from a root on.
 
-ghost use Rattle.std.specs.Prelude.{◌≡◌, false, IfErr, IfOk, IfSome, MatchResult};
+ghost use Rattle.std.specs.Prelude.{◌≡◌, false, Ok, IfErr, IfOk, IfSome, MatchResult};
+ghost use Rattle.sudoers_files.specs.Gather.{gathered};
+ghost use Rattle.sudoers_tree.specs.Load.{load_of};
 ghost use Rattle.sudoers_run.specs.Policy.{IsOfFiles, IsPolicyOf, IsUnloaded, Searches, TellsGather};
 ghost use Rattle.sudoers_run.specs.internal.LayerOf.{by_layer};
 
 use crate::fault::LayerFault;
-use std::alloc::Global;
+use std::alloc::{AllocError, Global};
 use sudoers_files::{Files, gather};
 use sudoers_text::TextFault;
-use sudoers_tree::{LoadFault, Policy, ReadFault};
+use sudoers_tree::{LoadFault, NamedFile, Policy, ReadFault};
 
 /// Gathers the files of a policy from `root` on, and returns the policy or its error.
 ///
@@ -25,10 +27,43 @@ pub fn load_policy<F: Files>(
     ensures named { MatchResult result (λ policy. IfErr policy IsOfFiles) IsUnloaded }
     ensures searches { Searches (by_layer result) (F.shelf files.old) (F.shelf files.new) }
 {
-    let found = gather(alloc, root, files)?;
-    match Policy::load(alloc, found.as_slice()) {
+    let found = find_files(alloc, files, root)?;
+    Ok(load_found(alloc, found.as_slice())?)
+}
+
+/// Gathers the files of a policy from `root` on.
+///
+/// # Errors
+///
+/// `Gather`: the files cannot be gathered. `NoMemory`: memory ran out.
+pub fn find_files<F: Files>(
+    alloc: Global,
+    files: &mut F,
+    root: &[u8],
+) -> Result<Vec<NamedFile>, LayerFault>
+    ensures found { IfOk result (λ found. IfSome (F.shelf files.old).files (λ known. gathered known root.now ≡ Ok found.items)) }
+    ensures fault { IfErr result (λ fault. IfSome (F.shelf files.old).files (TellsGather root.now fault)) }
+    ensures named { IfErr result IsUnloaded }
+    ensures searches { Searches (by_layer result) (F.shelf files.old) (F.shelf files.new) }
+{
+    Ok(gather(alloc, root, files)?)
+}
+
+/// Returns the policy of the files `found`, or its error.
+///
+/// # Errors
+///
+/// Memory ran out.
+pub fn load_found(
+    alloc: Global,
+    found: &[NamedFile],
+) -> Result<Result<Policy, LoadFault>, AllocError>
+    ensures policy { IfOk result (λ policy. load_of found.now ≡ policy) }
+    ensures named { IfOk result (λ policy. IfErr policy IsOfFiles) }
+{
+    match Policy::load(alloc, found) {
         Ok(policy) => Ok(Ok(policy)),
-        Err(fault) if is_of_memory(&fault) => Err(LayerFault::NoMemory),
+        Err(fault) if is_of_memory(&fault) => Err(AllocError),
         Err(fault) => Ok(Err(fault)),
     }
 }

@@ -3,6 +3,17 @@
 use crate::form::Form;
 use sudoers_line::Items;
 
+/// What `check` is to do (visudo(8)).
+#[derive(Clone, Copy)]
+pub struct CheckWords {
+    /// Nothing is written.
+    pub quiet: bool,
+    /// Undefined names and cyclic aliases are errors.
+    pub strict: bool,
+    /// After the report the files are named that lie in included folders and are not read.
+    pub skipped: bool,
+}
+
 /// What `convert` is to do (cvtsudoers(1)).
 #[derive(Clone, Copy)]
 pub struct ConvertWords<'a> {

@@ -14,7 +14,7 @@ use std::io::Write;
 use std::process::ExitCode;
 use sudoers_files::FileOfStream;
 use sudoers_run::{
-    ConvertWords, Counted, Form, ToolFault, fault_text, run_check, run_convert, run_edit, run_show,
+    CheckWords, ConvertWords, Counted, Form, ToolFault, fault_text, run_check, run_convert, run_edit, run_show,
 };
 
 /// The policy's name in the texts of the faults of `edit`.
@@ -118,12 +118,17 @@ fn check_words<'a>(alloc: Global) -> Result<Command<'a>, AllocError> {
         .short('s')
         .action(ArgAction::SetTrue)
         .help("Treat undefined and cyclic aliases as errors");
+    let skipped = Arg::new(alloc, "skipped")
+        .long("skipped")
+        .action(ArgAction::SetTrue)
+        .help("After the report, list the files in included folders that are not read");
     Command::new(alloc, "check")
         .about(
             "Check the syntax of a policy with the files that it includes, and report undefined, cyclic and unused aliases; names of Defaults are not checked",
         )
         .arg(quiet)?
         .arg(strict)?
+        .arg(skipped)?
         .arg(top_word(alloc))?
         .arg(file_word(alloc))
 }
@@ -260,19 +265,16 @@ fn convert_file(rt: &HostRuntime, file: &str, words: &ArgMatches<'_>) -> Result<
 fn check_file(rt: &HostRuntime, file: &str, words: &ArgMatches<'_>) -> Result<u8, ToolFault> {
     let mut writer = Counted::new(rt.stdout());
     let root = file.as_bytes();
-    let (quiet, strict) = (words.get_flag("quiet"), words.get_flag("strict"));
+    let asked = CheckWords {
+        quiet: words.get_flag("quiet"),
+        strict: words.get_flag("strict"),
+        skipped: words.get_flag("skipped"),
+    };
     if file == STDIN {
         let mut files = FileOfStream::new(rt.stdin());
-        return run_check(rt.alloc(), &mut files, root, quiet, strict, &mut writer);
+        return run_check(rt.alloc(), &mut files, root, &asked, &mut writer);
     }
-    run_check(
-        rt.alloc(),
-        &mut disk(rt, words)?,
-        root,
-        quiet,
-        strict,
-        &mut writer,
-    )
+    run_check(rt.alloc(), &mut disk(rt, words)?, root, &asked, &mut writer)
 }
 
 /// Prints an error, and returns exit status 1.

@@ -5,7 +5,7 @@ ghost use Rattle.sudoers_run.specs.Device.{Writes};
 use std::alloc::Global;
 use sudoers_files::Files;
 use sudoers_run::{
-    ConvertWords, ListWords, Sink, Source, ToolFault, run_check, run_convert, run_edit, run_list,
+    CheckWords, ConvertWords, ListWords, Sink, Source, ToolFault, run_check, run_convert, run_edit, run_list,
 };
 
 /// Reads a script and a policy, and writes the edited policy. Before an error it writes nothing.
@@ -33,14 +33,13 @@ pub fn check_before_errors<F: Files, W: Sink>(
     alloc: Global,
     files: &mut F,
     root: &[u8],
-    quiet: bool,
-    strict: bool,
+    words: &CheckWords,
     writer: &mut W,
 ) -> Result<u8, ToolFault>
     ensures writes { Writes result (W.Sink.failures writer.old) (W.Sink.failures writer.new)
         (W.contents writer.old) (W.contents writer.new) }
 {
-    run_check(alloc, files, root, quiet, strict, writer)
+    run_check(alloc, files, root, words, writer)
 }
 
 /// Reads a policy file, and writes its rules in another form. Before an error it writes nothing.

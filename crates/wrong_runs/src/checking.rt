@@ -5,7 +5,7 @@ ghost use Rattle.sudoers_run.specs.Check.{status_of};
 
 use std::alloc::Global;
 use sudoers_files::Files;
-use sudoers_run::{Sink, ToolFault, run_check};
+use sudoers_run::{CheckWords, Sink, ToolFault, run_check};
 
 /// Reads a policy file, and returns whether it passes.
 ///
@@ -16,11 +16,10 @@ pub fn check_policy<F: Files, W: Sink>(
     alloc: Global,
     files: &mut F,
     root: &[u8],
-    quiet: bool,
-    strict: bool,
+    words: &CheckWords,
     writer: &mut W,
 ) -> Result<u8, ToolFault>
-    ensures status { IfOk result (λ status. IfSome (F.shelf files.old).files (λ known. status_of strict root.now known ≡ Ok status)) }
+    ensures status { IfOk result (λ status. IfSome (F.shelf files.old).files (λ known. status_of words.now.strict root.now known ≡ Ok status)) }
 {
-    run_check(alloc, files, root, quiet, strict, writer)
+    run_check(alloc, files, root, words, writer)
 }

@@ -7,9 +7,9 @@ ghost use Rattle.sudoers_run.specs.declared.fault.ToolFault.TheVariants as ToolF
 
 use std::alloc::Global;
 use sudoers_files::Files;
-use sudoers_run::{Sink, ToolFault, run_check};
+use sudoers_run::{CheckWords, Sink, ToolFault, run_check};
 
-/// Reads a policy file, and writes what is noted of it, or nothing if `quiet`.
+/// Reads a policy file, and writes what is noted of it, or nothing if `words` say so.
 ///
 /// # Errors
 ///
@@ -18,13 +18,12 @@ pub fn check_quietly<F: Files, W: Sink>(
     alloc: Global,
     files: &mut F,
     root: &[u8],
-    quiet: bool,
-    strict: bool,
+    words: &CheckWords,
     writer: &mut W,
 ) -> Result<u8, ToolFault>
     ensures ok { IfOk result (λ status. IfSome (F.shelf files.old).files (λ known.
-        IsOkAnd (check_output quiet strict root.now known) (Appends (W.contents writer.old) (W.contents writer.new)))) }
-    ensures silent { quiet ≡ true → (result ≢ Err ToolFault.Write) × Keeps (W.contents writer.old) (W.contents writer.new) }
+        IsOkAnd (check_output words.now root.now known) (Appends (W.contents writer.old) (W.contents writer.new)))) }
+    ensures silent { words.now.quiet ≡ true → (result ≢ Err ToolFault.Write) × Keeps (W.contents writer.old) (W.contents writer.new) }
 {
-    run_check(alloc, files, root, quiet, strict, writer)
+    run_check(alloc, files, root, words, writer)
 }

@@ -12,7 +12,7 @@ ghost use Rattle.sudoers_run.specs.declared.fault.ToolFault.TheVariants as ToolF
 use std::alloc::Global;
 use sudoers_files::Files;
 use sudoers_run::{
-    ConvertWords, ListWords, Sink, Source, ToolFault, run_check, run_convert, run_edit, run_list,
+    CheckWords, ConvertWords, ListWords, Sink, Source, ToolFault, run_check, run_convert, run_edit, run_list,
     run_show,
 };
 
@@ -60,15 +60,14 @@ pub fn check_told_errors<F: Files, W: Sink>(
     alloc: Global,
     files: &mut F,
     root: &[u8],
-    quiet: bool,
-    strict: bool,
+    words: &CheckWords,
     writer: &mut W,
 ) -> Result<u8, ToolFault>
     ensures named { IfErr result IsCheckFault }
     ensures front { result ≡ Err ToolFault.Write → IfSome (F.shelf files.old).files (λ known.
-        IsOkAnd (check_output quiet strict root.now known) (AppendsFront (W.contents writer.old) (W.contents writer.new))) }
+        IsOkAnd (check_output words.now root.now known) (AppendsFront (W.contents writer.old) (W.contents writer.new))) }
 {
-    run_check(alloc, files, root, quiet, strict, writer)
+    run_check(alloc, files, root, words, writer)
 }
 
 /// Reads a policy file, and writes its rules in another form.

@@ -5,4 +5,4 @@ use Rattle.sudoers_files.proofs.folder.in_order.Given as goal
 
 -- Those of the names behind them are still to be put in order.
 abbrev pub invariant-loop-base : goal.invariant-loop-base
-invariant-loop-base l = in_order (map bytes l.order.keys) (drop l.base-index l.bases) ≡ in_order [] l.bases
+invariant-loop-base l = in_order l.led (map bytes l.order.keys) (drop l.base-index l.bases) ≡ in_order l.led [] l.bases

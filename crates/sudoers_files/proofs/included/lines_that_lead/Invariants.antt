@@ -1,9 +1,9 @@
-use Rattle.std.proofs.Common.{◌≡◌, ◌++◌, List, drop}
-use Rattle.sudoers_tree.specs.declared.load.NamedFile.{NamedFile}
-use Rattle.sudoers_files.specs.Included.{included_by}
+use Rattle.std.proofs.Common.{◌≡◌, ◌++◌, ℕ, [], List, Option, None, drop}
+use Rattle.sudoers_tree.specs.declared.lead.Lead.{Lead}
+use Rattle.sudoers_files.specs.Included.{by_lines}
 use Rattle.sudoers_files.proofs.included.lines_that_lead.Given as goal
 
--- The lines that are kept and those behind them lead where all do.
+-- The lines that are kept and those behind them lead where all do, whatever is named for that.
 abbrev pub invariant-loop-number : goal.invariant-loop-number
 invariant-loop-number l =
-    (files : List NamedFile) → included_by files l.name l.kept.items ++ included_by files l.name (drop l.number l.lines) ≡ included_by files l.name l.lines
+    (of : Option Lead → List (List ℕ)) → of None ≡ [] → by_lines of l.name l.kept.items ++ by_lines of l.name (drop l.number l.lines) ≡ by_lines of l.name l.lines
