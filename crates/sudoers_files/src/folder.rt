@@ -26,11 +26,7 @@ fn is_wanted(base: &[u8], led: bool) -> bool
 }
 
 /// Returns those of the names `bases` that are wanted, in the order of their bytes.
-fn in_order(
-    alloc: Global,
-    bases: &[Items<u8>],
-    led: bool,
-) -> Result<BTreeSet<Vec<u8>>, AllocError>
+fn in_order(alloc: Global, bases: &[Items<u8>], led: bool) -> Result<BTreeSet<Vec<u8>>, AllocError>
     ensures { IfOk result (λ order. map (λ (base : Vec ℕ GlobalOf). base.items) order.keys ≡ in_order led [] bases.now) }
 {
     let mut order = BTreeSet::new(alloc);
@@ -57,21 +53,21 @@ fn put(
     Ok(())
 }
 
-/// Returns the names of the files in the folder `dir` whose names there are among `bases` and wanted, in the order of their bytes.
-fn names_in_order(
+/// Appends to `names` those of the files in the folder `dir` whose names there are among `bases` and wanted, in the order of their bytes.
+fn append_in_order(
     alloc: Global,
     dir: &[u8],
     bases: &[Items<u8>],
     led: bool,
-) -> Result<Vec<Items<u8>>, AllocError>
-    ensures { IfOk result (λ names. names.items ≡ map (name_in dir.now) (in_order led [] bases.now)) }
+    names: &mut Vec<Items<u8>>,
+) -> Result<(), AllocError>
+    ensures { OnOk result (names.new.items ≡ names.old.items ++ map (name_in dir.now) (in_order led [] bases.now)) }
 {
     let mut order = in_order(alloc, bases, led)?;
-    let mut names = Vec::with_capacity(alloc, order.len())?;
     while let Some(base) = order.pop_first() {
         names.push(name_in(alloc, dir, base.as_slice())?)?;
     }
-    Ok(names)
+    Ok(())
 }
 
 /// Returns the names of the files in the folder `dir` to which an include of it leads, in the order of their bytes. In the folder the
@@ -83,21 +79,24 @@ fn names_in_order(
 pub fn led_in(alloc: Global, dir: &[u8], bases: &[Items<u8>]) -> Result<Vec<Items<u8>>, AllocError>
     ensures { IfOk result (λ names. names.items ≡ led_in dir.now bases.now) }
 {
-    names_in_order(alloc, dir, bases, true)
+    let mut names = Vec::new(alloc);
+    append_in_order(alloc, dir, bases, true, &mut names)?;
+    Ok(names)
 }
 
-/// Returns the names of the files in the folder `dir` that an include of it skips, in the order of their bytes. In the folder the files
-/// have the names `bases`.
+/// Appends to `names` those of the files in the folder `dir` that an include of it skips, in the order of their bytes. In the folder the
+/// files have the names `bases`.
 ///
 /// # Errors
 ///
 /// Memory ran out.
-pub fn skipped_in(
+pub fn append_skipped(
     alloc: Global,
     dir: &[u8],
     bases: &[Items<u8>],
-) -> Result<Vec<Items<u8>>, AllocError>
-    ensures { IfOk result (λ names. names.items ≡ skipped_in dir.now bases.now) }
+    names: &mut Vec<Items<u8>>,
+) -> Result<(), AllocError>
+    ensures { OnOk result (names.new.items ≡ names.old.items ++ skipped_in dir.now bases.now) }
 {
-    names_in_order(alloc, dir, bases, false)
+    append_in_order(alloc, dir, bases, false, names)
 }

@@ -10,7 +10,7 @@ mod gathering;
 mod included;
 pub mod laws;
 mod memory;
-mod skipped;
+mod skipping;
 mod stream;
 
 pub use disk::FilesOnDisk;
@@ -18,5 +18,5 @@ pub use fault::{FileFault, GatherFault};
 pub use files::Files;
 pub use gathering::gather;
 pub use memory::FilesInMemory;
-pub use skipped::skipped;
+pub use skipping::skipped;
 pub use stream::{FileOfStream, STREAM_NAME};

@@ -1,7 +1,7 @@
 use Rattle.std.proofs.Common.{◌≡◌, ◌++◌, List, drop, Some}
 use Rattle.sudoers_tree.specs.declared.load.NamedFile.{NamedFile}
 use Rattle.sudoers_files.specs.Skipped.{skipped}
-use Rattle.sudoers_files.proofs.skipped.skipped.Given as goal
+use Rattle.sudoers_files.proofs.skipping.skipped.Given as goal
 
 -- The names so far, and those that the files behind them skip.
 abbrev pub invariant-loop-file : goal.invariant-loop-file

@@ -9,7 +9,7 @@ ghost use Rattle.sudoers_files.specs.Skipped.{skipped, skipped_by};
 
 use crate::fault::GatherFault;
 use crate::files::Files;
-use crate::folder::skipped_in;
+use crate::folder::append_skipped;
 use crate::included::{include_lines, names_in};
 use std::alloc::Global;
 use sudoers_tree::{Items, Lead, NamedFile, leads};
@@ -76,6 +76,6 @@ fn append_of_line<F: Files>(
         return Ok(());
     };
     let bases = names_in(alloc, files, dir.as_slice())?;
-    names.extend(skipped_in(alloc, dir.as_slice(), bases.as_slice())?)?;
+    append_skipped(alloc, dir.as_slice(), bases.as_slice(), names)?;
     Ok(())
 }

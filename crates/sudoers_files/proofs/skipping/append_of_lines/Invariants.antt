@@ -2,7 +2,7 @@ use Rattle.std.proofs.Common.{◌≡◌, ◌++◌, List, drop, Some}
 use Rattle.sudoers_tree.specs.declared.load.NamedFile.{NamedFile}
 use Rattle.sudoers_files.specs.Included.{by_lines}
 use Rattle.sudoers_files.specs.Skipped.{skipped_by}
-use Rattle.sudoers_files.proofs.skipped.append_of_lines.Given as goal
+use Rattle.sudoers_files.proofs.skipping.append_of_lines.Given as goal
 
 -- The names so far, and those that the lines behind them skip.
 abbrev pub invariant-loop-line : goal.invariant-loop-line
