@@ -330,12 +330,13 @@ def many_people_case():
 
 
 def many_files_case(*words):
-    """`check` or `show` of a policy of 21 files, ten of a folder and ten in each other, so that every list grows often."""
+    """`check` or `show` of 21 files, ten of a folder and ten in each other, with ten that are skipped, so that every list grows often."""
     numbers = range(10, 20)
     files = [("main", b"@includedir d\n@include a10\n")]
     files += [(f"d/{n}", b"User_Alias D%d = x\n" % n) for n in numbers]
     files += [(f"a{n}", b"@include a%d\nUser_Alias A%d = B%d\n" % (n + 1, n, n)) for n in numbers[:-1]]
     files += [("a19", b"User_Alias A19 = B19\n")]
+    files += [(f"d/{n}.x", b"no policy\n") for n in numbers]
     rows = [(n, 1 if n == 19 else 2) for n in reversed(numbers)]
     notes = [b"a%d:%d:18: undefined User_Alias B%d\n" % (n, row, n) for n, row in rows]
     notes += [b"d/%d:1:12: unused User_Alias D%d\n" % (n, n) for n in numbers]
@@ -344,8 +345,15 @@ def many_files_case(*words):
     shown += [b"file %d d/%d\n1 alias 1\n1.1 User_Alias D%d 1\n" % (n - 8, n, n) for n in numbers]
     shown += [b"file %d a%d\n1 include 1\n2 alias 2\n2.1 User_Alias A%d 1\n" % (n + 2, n, n) for n in numbers[:-1]]
     shown += [b"file 21 a19\n1 alias 1\n1.1 User_Alias A19 1\n"]
-    wanted = {"check": b"".join(notes) + b"main: parsed OK\n", "show": b"".join(shown)}
-    return cases.Case(f"{words[0]}_of_21_files", words, b"", Wanted(wanted[words[0]]), files=tuple(files), device=POLICY_FILE)
+    skipped = [b"d/%d.x: not read: its name contains '.'\n" % n for n in numbers] if "--skipped" in words else []
+    wanted = {"check": b"".join((*notes, b"main: parsed OK\n", *skipped)), "show": b"".join(shown)}
+    name = "_".join((*(word.strip("-") for word in words[:-1]), "of_21_files"))
+    return cases.Case(name, words, b"", Wanted(wanted[words[0]]), files=tuple(files), device=POLICY_FILE)
+
+
+def many_files_cases():
+    """All commands on these files that ask for each list of them."""
+    return tuple(many_files_case(*words, "main") for words in (("check",), ("check", "--skipped"), ("show",)))
 
 
 def people_at_the_limit(name, device):

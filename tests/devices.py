@@ -17,7 +17,7 @@ from chosen import (
     command_of,
     inputs_at_the_limit,
     many_definitions_case,
-    many_files_case,
+    many_files_cases,
     many_lines_case,
     many_listed_lines_case,
     many_moves_case,
@@ -212,7 +212,7 @@ def check_reads(stand, read, some, given):
         endless_input(stand, input_given)
     for case in inputs_at_the_limit():
         read_byte_by_byte(stand, case)
-    for case in (many_files_case("check", "main"), many_files_case("show", "main")):
+    for case in many_files_cases():
         for piece in (0, 7):
             fail_reads(stand, case, piece)
 
@@ -348,7 +348,7 @@ def run_memory_of_many(program, tally):
     """Runs the program on many lines, definitions, notes and files with growths of memory refused."""
     many = (many_lines_case(), many_moves_case(), many_definitions_case(), many_notes_case(), many_printed_lines_case())
     many += (many_rewritten_lines_case(), many_listed_lines_case(), many_people_case())
-    many += (many_files_case("check", "main"), many_files_case("show", "main"))
+    many += many_files_cases()
     run_under_library(program, tally, lambda stand, _: check_memory(stand, many))
 
 

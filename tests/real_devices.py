@@ -3,7 +3,7 @@
 import os
 import threading
 
-from chosen import command_of, read_fault
+from chosen import read_fault
 from program import Wanted, fault, run
 
 CLOSED = 'exec "$@" <&-'
@@ -24,8 +24,7 @@ def run_reads(program, tally, case, too_large):
 def run_closed(program, tally, case):
     """A closed standard input, which is no file that the words name. `list` sees it when it opens passwd."""
     words = ("-c", CLOSED, "sh", program, *case.words)
-    wanted = fault("Read") if command_of(case) == "list" else read_fault(case)
-    problems = wanted.problems(run("/bin/sh", words, folder=case.folder, files=case.files))
+    problems = read_fault(case).problems(run("/bin/sh", words, folder=case.folder, files=case.files))
     tally.note(f"{case.name}, a closed standard input", problems)
 
 

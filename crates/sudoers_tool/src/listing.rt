@@ -5,9 +5,9 @@ use clap::{Arg, ArgAction, ArgMatches, Command};
 use std::alloc::{AllocError, Global};
 use std::fs;
 use std::os::fd::AsRawFd;
-use sudoers_files::{FileOfStream, Files};
+use sudoers_files::{FileFault, FileOfStream, Files, GatherFault};
 use sudoers_line::Items;
-use sudoers_run::{Counted, ListWords, ToolFault, run_list};
+use sudoers_run::{Counted, LayerFault, ListWords, ToolFault, run_list};
 
 /// Returns the command line of `list`.
 pub fn list_words<'a>(
@@ -199,7 +199,8 @@ pub fn list_file(rt: &HostRuntime, file: &str, words: &ArgMatches<'_>) -> Result
     if file == STDIN {
         // Had the standard input been closed, the first file that was opened would be it.
         if passwd.as_raw_fd() == STDIN_NUMBER {
-            return Err(ToolFault::Read);
+            let closed = GatherFault::Device(FileFault::Failed);
+            return Err(ToolFault::Layer(LayerFault::Gather(closed)));
         }
         let mut files = FileOfStream::new(rt.stdin());
         return list_policy(rt, &mut files, passwd, group, &asked);
