@@ -20,6 +20,9 @@ use sudoers_run::{
 /// The policy's name in the texts of the faults of `edit`.
 const POLICY: &str = "policy";
 
+/// The command that reads no policy file.
+const EDIT: &str = "edit";
+
 /// The forms in which `convert` prints.
 static FORMS: [&str; 2] = ["sudoers", "json"];
 
@@ -61,40 +64,55 @@ fn run(rt: &HostRuntime) -> Result<ExitCode, ToolFault> {
 
 /// Runs the command of a command line that was understood, and prints its error.
 fn obey(rt: &HostRuntime, matches: &ArgMatches<'_>) -> ExitCode {
-    let (file, outcome) = match matches.subcommand() {
-        Some(("check", words)) => {
+    match matches.subcommand() {
+        Some((name, words)) if name != EDIT => {
             let file = words.get_str("FILE").unwrap_or(STDIN);
-            (file, check_file(rt, file, words))
+            ended(rt, file, run_on_file(rt, name, file, words))
         }
-        Some(("show", words)) => {
-            let file = words.get_str("FILE").unwrap_or(STDIN);
-            (file, show_file(rt, file, words))
-        }
-        Some(("convert", words)) => {
-            let file = words.get_str("FILE").unwrap_or(STDIN);
-            (file, convert_file(rt, file, words))
-        }
-        Some(("list", words)) => {
-            let file = words.get_str("FILE").unwrap_or(STDIN);
-            (file, list_file(rt, file, words))
-        }
-        _ => (POLICY, edit_streams(rt)),
-    };
+        _ => ended(rt, POLICY, edit_streams(rt)),
+    }
+}
+
+/// Runs the command `name`, which reads a policy file.
+fn run_on_file(
+    rt: &HostRuntime,
+    name: &str,
+    file: &str,
+    words: &ArgMatches<'_>,
+) -> Result<u8, ToolFault> {
+    match name {
+        "check" => check_file(rt, file, words),
+        "convert" => convert_file(rt, file, words),
+        "list" => list_file(rt, file, words),
+        _ => show_file(rt, file, words),
+    }
+}
+
+/// Returns the exit status of a command that ended so, and prints its error.
+fn ended(rt: &HostRuntime, file: &str, outcome: Result<u8, ToolFault>) -> ExitCode {
     match outcome {
         Ok(status) => ExitCode::from(status),
         Err(fault) => told(rt, &fault, file),
     }
 }
 
-/// Returns the command line that is understood.
-fn command_words<'a>(alloc: Global) -> Result<Command<'a>, AllocError> {
-    let edit = Command::new(alloc, "edit").about(
+/// Returns the command line of `edit`.
+fn edit_words<'a>(alloc: Global) -> Command<'a> {
+    Command::new(alloc, EDIT).about(
         "Apply an edit script to a policy. Read SCRIPT, `%%`, POLICY on standard input; write UNDO, `%%`, POLICY. UNDO fits that POLICY only. EDIT SCRIPTS of sudoers_tool(8) has the commands",
-    );
-    let show = Command::new(alloc, "show")
+    )
+}
+
+/// Returns the command line of `show`.
+fn show_words<'a>(alloc: Global) -> Result<Command<'a>, AllocError> {
+    Command::new(alloc, "show")
         .about("Print the logical lines of a policy and its alias definitions, with their numbers")
         .arg(top_word(alloc))?
-        .arg(file_word(alloc))?;
+        .arg(file_word(alloc))
+}
+
+/// Returns the command line that is understood.
+fn command_words<'a>(alloc: Global) -> Result<Command<'a>, AllocError> {
     Command::new(alloc, "sudoers_tool")
         .version(VERSION)
         .about(
@@ -103,9 +121,9 @@ fn command_words<'a>(alloc: Global) -> Result<Command<'a>, AllocError> {
         .after_help(EXIT_STATUS)
         .subcommand(check_words(alloc)?)?
         .subcommand(convert_words(alloc)?)?
-        .subcommand(edit)?
+        .subcommand(edit_words(alloc))?
         .subcommand(list_words(alloc, top_word(alloc), file_word(alloc))?)?
-        .subcommand(show)
+        .subcommand(show_words(alloc)?)
 }
 
 /// Returns the command line of `check`.
