@@ -55,7 +55,9 @@ gathered files root = from_root files root (front_of root files)
 
 -- ---- what a gathering does to its files
 
+-- how the counts differ after a fault; want of memory is never a fault of the device
 abbrev pub FailedBefore : GatherFault → Shelf → Shelf → Type 0
+FailedBefore (Device file_fault.NoMemory) old new = ⊥
 FailedBefore (Device fault) old new = FailedBy fault old.failures new.failures × EndlessBy fault old.endless new.endless
 FailedBefore NoRoot old new = (new.failures ≡ old.failures) × (new.endless ≡ old.endless)
 FailedBefore TooManyFiles old new = (new.failures ≡ old.failures) × (new.endless ≡ old.endless)

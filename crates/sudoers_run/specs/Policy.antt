@@ -6,6 +6,7 @@ use Rattle.sudoers_tree.specs.declared.load_fault.LoadFault.{LoadFault}
 use Rattle.sudoers_tree.specs.declared.load_fault.LoadFault.TheVariants as load
 use Rattle.sudoers_tree.specs.Load.{Loaded, load_of}
 use Rattle.sudoers_edit.specs.Memory.{IsOfText}
+use Rattle.sudoers_files.specs.declared.fault.FileFault.TheVariants as device
 use Rattle.sudoers_files.specs.declared.fault.GatherFault.{GatherFault}
 use Rattle.sudoers_files.specs.declared.fault.GatherFault.TheVariants as gather
 use Rattle.sudoers_files.specs.Gather.{FailedBefore, gathered}
@@ -53,6 +54,7 @@ IsOfFiles fault = Unit {0}
 -- an error that gathering has
 abbrev pub IsOfGathering : GatherFault → Type 0
 IsOfGathering gather.NoMemory = ⊥
+IsOfGathering (gather.Device device.NoMemory) = ⊥
 IsOfGathering fault = Unit {0}
 
 -- an error with which no policy is loaded: of gathering, or want of memory
