@@ -1,5 +1,5 @@
 -- What is shown of the files of a policy.
-use Rattle.std.proofs.Common.{◌≡◌, ◌<◌, ◌≤◌, ◌+◌, ℕ, List, [], ◌∷◌, ◌++◌, length, drop, slice_get, Some, refl, sym, ap, ◌∙◌, append_assoc, arith}
+use Rattle.std.proofs.Common.{◌≡◌, ◌<◌, ◌≤◌, ◌+◌, ℕ, List, [], ◌∷◌, ◌++◌, length, drop, slice_get, Some, refl, ap, ◌∙◌, arith}
 use Rattle.sudoers_tree.specs.Files.{FileReading, lines_in, lines_of, name_in, name_of}
 use Rattle.sudoers_tree.proofs.Numbered.{drop_at, item_at}
 use Rattle.sudoers_run.specs.Shown.{file_head, shown, shown_file, shown_files, shown_lines}

@@ -1,5 +1,5 @@
 -- What `check` writes for a policy.
-use Rattle.std.specs.Prelude.{◌≡◌, ℕ, Bool, if◌then◌else◌, List, [], ◌∷◌, ◌++◌, codes, Result, Ok, Err}
+use Rattle.std.specs.Prelude.{ℕ, Bool, if◌then◌else◌, List, [], ◌∷◌, ◌++◌, codes, Result, Ok, Err}
 use Rattle.sudoers_line.specs.Piece.{has_byte}
 use Rattle.sudoers_tree.specs.declared.load.NamedFile.{NamedFile}
 use Rattle.sudoers_tree.specs.declared.load_fault.LoadFault.{LoadFault}

@@ -14,7 +14,8 @@ use std::io::Write;
 use std::process::ExitCode;
 use sudoers_files::FileOfStream;
 use sudoers_run::{
-    CheckWords, ConvertWords, Counted, Form, ToolFault, fault_text, run_check, run_convert, run_edit, run_show,
+    CheckWords, ConvertWords, Counted, Form, ToolFault, fault_text, run_check, run_convert,
+    run_edit, run_show,
 };
 
 /// The policy's name in the texts of the faults of `edit`.

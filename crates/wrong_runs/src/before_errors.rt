@@ -5,7 +5,8 @@ ghost use Rattle.sudoers_run.specs.Device.{Writes};
 use std::alloc::Global;
 use sudoers_files::Files;
 use sudoers_run::{
-    CheckWords, ConvertWords, ListWords, Sink, Source, ToolFault, run_check, run_convert, run_edit, run_list,
+    CheckWords, ConvertWords, ListWords, Sink, Source, ToolFault, run_check, run_convert, run_edit,
+    run_list,
 };
 
 /// Reads a script and a policy, and writes the edited policy. Before an error it writes nothing.

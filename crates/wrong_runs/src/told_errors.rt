@@ -12,8 +12,8 @@ ghost use Rattle.sudoers_run.specs.declared.fault.ToolFault.TheVariants as ToolF
 use std::alloc::Global;
 use sudoers_files::Files;
 use sudoers_run::{
-    CheckWords, ConvertWords, ListWords, Sink, Source, ToolFault, run_check, run_convert, run_edit, run_list,
-    run_show,
+    CheckWords, ConvertWords, ListWords, Sink, Source, ToolFault, run_check, run_convert, run_edit,
+    run_list, run_show,
 };
 
 /// Reads a policy file, and writes its lines.
