@@ -54,8 +54,7 @@ visit_grows files (suc left) before now name is =
 
 -- ---- `Gathers` admits what is computed
 
--- The levels that are left and the files that are found are together as many as the limit. So a level is left for each file that the limit
--- allows.
+-- The levels that are left and the files that are found together reach the limit. So a level is left for each file that the limit allows.
 abbrev Reaches : ℕ → List NamedFile → Type 0
 Reaches left before = file_limit ≤ left + length before
 
