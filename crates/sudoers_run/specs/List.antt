@@ -188,8 +188,8 @@ EndedWith how passwd group = (passwd ≡ how) ⊎ (group ≡ how)
 abbrev pub AreUnread : ReadingEnd → ReadingEnd → Type 0
 AreUnread passwd group = (passwd ≡ Unread) × (group ≡ Unread)
 
--- How passwd and group were read, by their error. One of them is too large; or a row of passwd is bad, and group was read to its end or past
--- the limit; or both were read to their ends.
+-- How passwd and group were read, by their error. One is too large; or a row of passwd is bad, and group was read to its end or past the
+-- limit; or both were read to their ends.
 abbrev pub ArePeopleEnds : PeopleFault → ReadingEnd → ReadingEnd → Type 0
 ArePeopleEnds people.TooLarge passwd group = ((passwd ≡ TooLarge) × WasRead group) ⊎ (WasRead passwd × (group ≡ TooLarge))
 ArePeopleEnds (people.BadRow Passwd line) passwd group = (passwd ≡ Whole) × WasRead group
