@@ -7,7 +7,7 @@ use Rattle.sudoers_text.specs.Fault.{text_limit}
 use Rattle.sudoers_tree.specs.declared.load.NamedFile.{NamedFile}
 use Rattle.sudoers_files.specs.Shelf.{front_of}
 
--- a front of bytes, as long as it can be
+-- the first n bytes, or all of them if they are fewer
 pub front_min : (bytes : List ℕ) (n : ℕ) → take (min (length bytes) n) bytes ≡ take n bytes
 front_min bytes n = elim (cases_lt n (length bytes)) [
   | inl less ↦ ap (λ k. take k bytes) (let same : min (length bytes) n ≡ n = omega (arith, less) in same)
@@ -25,12 +25,12 @@ front_fits name (file ∷ files) bytes is = by (bytes_eq name file.name) is (fro
     by true e later = let same : take (text_limit + 1) file.bytes ≡ bytes = cc in omega (arith, ap length same, length-take (text_limit + 1) file.bytes)
     by false e later = later e
 
--- the first of files, if it has the name
+-- the first file, if it has the name
 pub front_here : (name : List ℕ) (file : NamedFile) (files : List NamedFile) → bytes_eq name file.name ≡ true
     → front_of name (file ∷ files) ≡ Some (take (text_limit + 1) file.bytes)
 front_here name file files is = ap (λ t. if t then Some (take (text_limit + 1) file.bytes) else front_of name files) is
 
--- ---- bytes with one more behind them
+-- ---- bytes followed by one more
 
 pub and_true : (t : Bool) → (t && true) ≡ t
 and_true true = refl

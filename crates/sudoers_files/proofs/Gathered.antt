@@ -1,4 +1,4 @@
--- What is gathered is what is computed.
+-- The function `gathered` computes what `Gathers` defines.
 use Rattle.std.proofs.Common.{◌≡◌, ℕ, zero, suc, ◌+◌, ◌≤◌, ◌<◌, nat_le, Bool, true, false, if◌then◌else◌, List, [], ◌∷◌, ◌++◌, length, Option, Some, None, Ok, Err, ◌⊎◌, inl, inr, refl, sym, ap, ap₂, subst, ◌∙◌, arith}
 use Rattle.std.proofs.lemmas.Bool.{leb-true, leb-false}
 use Rattle.std.proofs.lemmas.List.{length_push}
@@ -13,7 +13,7 @@ use Rattle.sudoers_files.specs.Gather.{IsOutside, Visit, and_then, from_root, ga
 use Rattle.sudoers_files.proofs.Visited.{Next, Outcome, is_absent, is_again, is_full, not_full}
 use Rattle.sudoers_files.specs.Gathers.{Visits, Follows, Gathers, again, absent, full, new, end, stops, onward, no_root, found}
 
--- ---- files that are found stay
+-- ---- a visit removes no file that is found
 
 abbrev Grows : Visit → Type 0
 Grows visit = (before now : List NamedFile) (name : List ℕ) → visit before name ≡ Ok now → length before ≤ length now
@@ -52,9 +52,9 @@ visit_grows files (suc left) before now name is =
     found_grows (take_file (visit left files) files before) files before now name
     (λ file e. omega (arith, length_push before file, each_grows (visit left files) (visit_grows files left) (before ++ file ∷ []) now (included files file) e)) is
 
--- ---- what is computed is gathered
+-- ---- `Gathers` admits what is computed
 
--- The files that may still come and those that are found reach the limit. So no level is too deep for a file that may come.
+-- The levels that are left and the files that are found together reach the limit. So a level is left for each file that the limit allows.
 abbrev Reaches : ℕ → List NamedFile → Type 0
 Reaches left before = file_limit ≤ left + length before
 
@@ -101,7 +101,7 @@ visit_is files (suc left) before name reaches =
     new before name bytes (visit_each (visit left files) (before ++ file ∷ []) (included files file)) other there few
     (each_is files left (visit_is files left) (before ++ file ∷ []) (included files file) (omega (arith, reaches, length_push before file))))
 
--- ---- what is gathered is computed
+-- ---- `Gathers` admits nothing else
 
 mutual
   one_visit : (files : List NamedFile) (left : ℕ) (before : List NamedFile) (name : List ℕ) (o : Outcome) → Reaches left before → Visits files before name o → visit left files before name ≡ o
@@ -149,7 +149,7 @@ one_gathering files root o (no_root gone) = ap (from_root files root) gone
 one_gathering files root o (found bytes outcome there visits) =
     ap (from_root files root) there ∙ sym (root_visit files root bytes there) ∙ one_visit files (suc file_limit) [] root o (omega arith) visits
 
--- what is gathered, by the root
+-- the gathering without the root
 pub rootless : (files : List NamedFile) (root : List ℕ) → front_of root files ≡ None → gathered files root ≡ Err NoRoot
 unfolding gathered
 rootless files root gone = ap (from_root files root) gone
@@ -159,7 +159,7 @@ from_root_on : (files : List NamedFile) (root bytes : List ℕ) → front_of roo
 unfolding gathered
 from_root_on files root bytes there = ap (from_root files root) there
 
--- The same, where `left` more files may come, behind these files.
+-- The same, with `left` levels and the files `before` as variables.
 begun : (files before : List NamedFile) (root bytes : List ℕ) (left : ℕ) → left ≡ file_limit → before ≡ [] → front_of root files ≡ Some bytes
     → gathered files root ≡ take_file (visit left files) files before (record { name = root; bytes = bytes })
 begun files before root bytes left all none there =

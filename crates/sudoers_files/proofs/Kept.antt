@@ -7,7 +7,7 @@ use Rattle.sudoers_tree.specs.declared.lead.Lead.{Lead}
 use Rattle.sudoers_tree.specs.Lead.{leads}
 use Rattle.sudoers_files.specs.Included.{by_lines, lines_of}
 
--- the names for lines, and for lines behind them
+-- the names for lines followed by other lines
 pub included_more : (of : Option Lead → List (List ℕ)) (name : List ℕ) (lines more : List (List ℕ))
     → by_lines of name (lines ++ more) ≡ by_lines of name lines ++ by_lines of name more
 included_more of name [] more = refl
@@ -15,13 +15,13 @@ included_more of name (line ∷ lines) more =
     ap (λ names. of (leads name line) ++ names) (included_more of name lines more)
     ∙ sym (append_assoc (of (leads name line)) (by_lines of name lines) (by_lines of name more))
 
--- one line more that leads somewhere
+-- the names for lines and one more that leads somewhere
 pub kept_more : (of : Option Lead → List (List ℕ)) (name line : List ℕ) (kept : List (List ℕ))
     → by_lines of name (kept ++ line ∷ []) ≡ by_lines of name kept ++ of (leads name line)
 kept_more of name line kept =
     included_more of name kept (line ∷ []) ∙ ap (λ names. by_lines of name kept ++ names) (append-nil (of (leads name line)))
 
--- one that leads nowhere
+-- the names for lines and one more that leads nowhere
 pub none_more : (of : Option Lead → List (List ℕ)) (name line : List ℕ) (kept : List (List ℕ)) → of None ≡ [] → leads name line ≡ None
     → by_lines of name kept ≡ by_lines of name kept ++ of (leads name line)
 none_more of name line kept nothing none =
@@ -39,7 +39,7 @@ lines_lead_nowhere of name text front (line ∷ lines) nothing none is =
     lines_lead_nowhere of name text (front ++ line) lines nothing none (is ∙ sym (append_assoc front line (join lines)))
     ∙ sym (ap (λ names. names ++ by_lines of name lines) (ap of (none front line (join lines) is) ∙ nothing))
 
--- Its lines, if it can be cut, lead to no file.
+-- If the text can be cut, its lines lead to no file.
 pub text_leads_nowhere : (of : Option Lead → List (List ℕ)) (name text : List ℕ) (outcome : Result (List (List ℕ)) TextFault) → of None ≡ [] → LeadsNowhere name text
     → IsOutcome text outcome → [] ≡ by_lines of name (lines_of outcome)
 text_leads_nowhere of name text (Ok lines) nothing none is = lines_lead_nowhere of name text [] lines nothing none (sym is.cuts.joined)

@@ -11,11 +11,11 @@ use Rattle.std.specs.BTreeSet.{insert_key}
 abbrev pub bytes : Vec ℕ Global → List ℕ
 bytes name = name.items
 
--- names are compared by their bytes
+-- the order of names is that of their bytes
 abbrev pub by_bytes : Vec ℕ Global → Vec ℕ Global → Ordering
 by_bytes name other = slice_cmp nat_cmp (bytes name) (bytes other)
 
--- A name comes to stand among others as its bytes do.
+-- A name is inserted where its bytes are inserted.
 pub inserted : (order : List (Vec ℕ Global)) (name : Vec ℕ Global) → map bytes (insert_key by_bytes order name) ≡ insert_key (slice_cmp nat_cmp) (map bytes order) (bytes name)
 inserted [] name = refl
 inserted (other ∷ order) name = by (by_bytes name other) (inserted order name)

@@ -15,7 +15,7 @@ use Rattle.sudoers_tree.specs.Load.{file_limit, has_name}
 abbrev pub Outcome : Type 0
 Outcome = Result (List NamedFile) GatherFault
 
--- how the gathering goes on with a file that is there and is not found yet
+-- the outcome for a file that is there and not found yet
 abbrev pub Next : Type 0
 Next = NamedFile → Outcome
 
@@ -43,7 +43,7 @@ is_absent next files before name other gone =
 pub is_again : (next : Next) (files before : List NamedFile) (name : List ℕ) → has_name name before ≡ true → unless_found next files before name ≡ Ok before
 is_again next files before name has = ap (λ t. if t then Ok before else unless_full next before name (front_of name files)) has
 
--- a name that is found, or is not there
+-- a name that is found already, or is missing
 pub stays_found : (files before : List NamedFile) (left : ℕ) (name : List ℕ) → has_name name before ≡ true → visit left files before name ≡ Ok before
 stays_found files before zero name has = is_again (λ file. Err TooManyFiles) files before name has
 stays_found files before (suc left) name has = is_again (take_file (visit left files) files before) files before name has
@@ -53,7 +53,7 @@ pub stays_absent : (files before : List NamedFile) (left : ℕ) (name : List ℕ
 stays_absent files before zero name other gone = is_absent (λ file. Err TooManyFiles) files before name other gone
 stays_absent files before (suc left) name other gone = is_absent (take_file (visit left files) files before) files before name other gone
 
--- a file that is there and not found yet, for which there is no room
+-- a file that is there and not found yet, if as many files are found as there may be
 full_here : (files before : List NamedFile) (name bytes : List ℕ) (t : Bool) → has_name name before ≡ false → front_of name files ≡ Some bytes
     → nat_le file_limit (length before) ≡ t → unless_found (λ file. Err TooManyFiles) files before name ≡ Err TooManyFiles
 full_here files before name bytes true other there many = is_full (λ file. Err TooManyFiles) files before name bytes other there (leb-true file_limit (length before) many)
@@ -69,7 +69,7 @@ pub no_room : (files before : List NamedFile) (left : ℕ) (name bytes : List �
 no_room files before zero name bytes many other there = is_full (λ file. Err TooManyFiles) files before name bytes other there many
 no_room files before (suc left) name bytes many other there = is_full (take_file (visit left files) files before) files before name bytes other there many
 
--- a file that is there and not found yet, for which there is room
+-- a file that is there and not found yet, if fewer files are found than there may be
 pub goes_in : (files before : List NamedFile) (left : ℕ) (name bytes : List ℕ) → (left ≡ 0 → ⊥) → length before < file_limit → has_name name before ≡ false
     → front_of name files ≡ Some bytes → visit left files before name ≡ take_file (visit (left - 1) files) files before (record { name = name; bytes = bytes })
 goes_in files before zero name bytes some few other there = absurd (some refl)
@@ -80,7 +80,7 @@ goes_in files before (suc left) name bytes some few other there =
 
 -- ---- names one after another
 
--- some names, and then others
+-- visits of some names, and then of others
 pub each_more : (visit : Visit) (found : List NamedFile) (names more : List (List ℕ))
     → visit_each visit found (names ++ more) ≡ and_then (visit_each visit found names) (λ now. visit_each visit now more)
 each_more visit found [] more = refl
@@ -92,7 +92,7 @@ each_more visit found (name ∷ names) more = by (visit found name) (λ now. eac
     by (Ok now) later = later now
     by (Err fault) later = refl
 
--- what a line leads to that is met, and what the lines behind it lead to
+-- visits of the names to which a line leads, and then of those to which the lines after it lead
 pub line_visited : (visit : Visit) (files found now : List NamedFile) (name line : List ℕ) (more : List (List ℕ))
     → visit_each visit found (led_by files (leads name line)) ≡ Ok now
     → visit_each visit found (included_by files name (line ∷ more)) ≡ visit_each visit now (included_by files name more)
@@ -107,7 +107,7 @@ line_stops visit files found fault name line more is =
     each_more visit found (led_by files (leads name line)) (included_by files name more)
     ∙ ap (λ r. and_then r (λ files-now. visit_each visit files-now (included_by files name more))) is
 
--- a name that is met, and those behind it
+-- a visit of a name, and then of the names after it
 pub name_visited : (visit : Visit) (found now : List NamedFile) (name : List ℕ) (more : List (List ℕ)) → visit found name ≡ Ok now
     → visit_each visit found (name ∷ more) ≡ visit_each visit now more
 name_visited visit found now name more is = ap (λ r. and_then r (λ files-now. visit_each visit files-now more)) is
@@ -121,7 +121,7 @@ name_stops visit found fault name more is = ap (λ r. and_then r (λ files-now. 
 pub drop_item : {A : Type 0} (xs : List A) (i : ℕ) (x : A) → i < length xs → x ≡ get_or xs i x → drop i xs ≡ x ∷ drop (i + 1) xs
 drop_item xs i x less is = at_drop_more (λ ys. ys) xs i x less ∙ ap (λ y. y ∷ drop (i + 1) xs) (sym is)
 
--- The lines from the one with this number on lead where this line and those behind it lead.
+-- The lines from the one with this number on are that line and those after it.
 line_here : (visit : Visit) (files found : List NamedFile) (name line item : List ℕ) (lines : List (List ℕ)) (i : ℕ) → i < length lines → item ≡ get_or lines i item → line ≡ item
     → visit_each visit found (included_by files name (line ∷ drop (i + 1) lines)) ≡ visit_each visit found (included_by files name (drop i lines))
 line_here visit files found name line item lines i less is same =

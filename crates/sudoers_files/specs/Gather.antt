@@ -1,4 +1,4 @@
--- What is gathered, as a function that computes.
+-- The gathering of files as a function that computes. By the law `gather_is` it is the gathering that `Gathers.antt` defines.
 use Rattle.std.specs.Prelude.{◌≡◌, ℕ, zero, suc, nat_le, List, [], ◌∷◌, ◌++◌, length, Option, Some, None, Result, Ok, Err, if◌then◌else◌}
 use Rattle.sudoers_tree.specs.declared.load.NamedFile.{NamedFile}
 use Rattle.sudoers_tree.specs.Load.{file_limit, has_name}
@@ -19,20 +19,20 @@ abbrev pub and_then : Result (List NamedFile) GatherFault → (List NamedFile �
 and_then (Ok found) next = next found
 and_then (Err fault) next = Err fault
 
--- how the gathering goes on with a name, behind the files that are found
+-- the outcome of a visit of a name after these files are found: the files that are found then, or a fault
 abbrev pub Visit : Type 0
 Visit = List NamedFile → List ℕ → Result (List NamedFile) GatherFault
 
--- the gathering goes on with these names, one after another
+-- the outcome of visits of these names, one after another
 abbrev pub visit_each : Visit → List NamedFile → List (List ℕ) → Result (List NamedFile) GatherFault
 visit_each visit found [] = Ok found
 visit_each visit found (name ∷ names) = and_then (visit found name) (λ now. visit_each visit now names)
 
--- the file comes behind those that are found, and then the files to which it leads
+-- the files that are found, then the file, then the files to which it leads
 abbrev pub take_file : Visit → List NamedFile → List NamedFile → NamedFile → Result (List NamedFile) GatherFault
 take_file visit files found file = visit_each visit (found ++ file ∷ []) (included files file)
 
--- the gathering goes on so with a file, if it is there, unless there are as many as there may be
+-- the outcome `next` of the file, if it is there. If as many files are found as there may be, it is a fault. A missing file adds nothing.
 abbrev pub unless_full : (NamedFile → Result (List NamedFile) GatherFault) → List NamedFile → List ℕ → Option (List ℕ) → Result (List NamedFile) GatherFault
 unless_full next found name None = Ok found
 unless_full next found name (Some bytes) = if nat_le file_limit (length found) then Err TooManyFiles else next (record { name = name; bytes = bytes })
@@ -40,7 +40,7 @@ unless_full next found name (Some bytes) = if nat_le file_limit (length found) t
 abbrev pub unless_found : (NamedFile → Result (List NamedFile) GatherFault) → List NamedFile → List NamedFile → List ℕ → Result (List NamedFile) GatherFault
 unless_found next files found name = if has_name name found then Ok found else unless_full next found name (front_of name files)
 
--- the gathering goes on with a name, where `left` more files may come
+-- the outcome of a visit of a name, where files may be nested `left` levels deeper
 abbrev pub visit : ℕ → List NamedFile → Visit
 visit zero files found name = unless_found (λ file. Err TooManyFiles) files found name
 visit (suc left) files found name = unless_found (take_file (visit left files) files found) files found name
@@ -49,7 +49,7 @@ abbrev pub from_root : List NamedFile → List ℕ → Option (List ℕ) → Res
 from_root files root None = Err NoRoot
 from_root files root (Some bytes) = take_file (visit file_limit files) files [] (record { name = root; bytes = bytes })
 
--- the files that the root leads to, or their fault
+-- the root and the files to which it leads, or the fault of gathering them
 unfoldable pub gathered : List NamedFile → List ℕ → Result (List NamedFile) GatherFault
 gathered files root = from_root files root (front_of root files)
 
@@ -63,12 +63,12 @@ FailedBefore NoRoot old new = (new.failures ≡ old.failures) × (new.endless �
 FailedBefore TooManyFiles old new = (new.failures ≡ old.failures) × (new.endless ≡ old.endless)
 FailedBefore NoMemory old new = (new.failures ≡ old.failures) × (new.endless ≡ old.endless)
 
--- The files stay. `Device` stands for a call that failed, or reported no end; without it none did.
+-- The files do not change. With `Device` a call has failed, or has reported no end. With any other result no call has.
 abbrev pub Asks : {A : Type 0} → Result A GatherFault → Shelf → Shelf → Type 0
 Asks (Ok x) old new = new ≡ old
 Asks (Err fault) old new = (new.files ≡ old.files) × FailedBefore fault old new
 
--- a fault that says nothing of the files: of the device, or of memory
+-- a fault of the device or of memory, which may come whatever the files are
 abbrev pub IsOutside : GatherFault → Type 0
 IsOutside (Device fault) = Unit {0}
 IsOutside NoMemory = Unit {0}

@@ -1,5 +1,6 @@
--- The files of a policy (sudoers(5), Including other files from within sudoers): the root, and behind it, where each line leads, the
--- files that are there, each once. What is gathered is this, and nothing else, by the laws `gather_is`.
+-- The files of a policy (sudoers(5), Including other files from within sudoers): the root, and after it the files to which its lines lead.
+-- Each file that is there comes once, and is followed by those to which its own lines lead. By the law `gather_is` the function `gathered`
+-- computes exactly this.
 use Rattle.std.specs.Prelude.{◌≡◌, ℕ, ◌≤◌, ◌<◌, true, false, List, [], ◌∷◌, ◌++◌, length, Some, None, Result, Ok, Err}
 use Rattle.sudoers_tree.specs.declared.load.NamedFile.{NamedFile}
 use Rattle.sudoers_tree.specs.Load.{file_limit, has_name}
@@ -9,7 +10,7 @@ use Rattle.sudoers_files.specs.Shelf.{front_of}
 use Rattle.sudoers_files.specs.Included.{included}
 
 mutual
-  -- what comes of the file of this name, behind the files that are found
+  -- the outcome of a visit of this name after these files are found
   pub data Visits (files : List NamedFile) : List NamedFile → List ℕ → Result (List NamedFile) GatherFault → Type 0 where
     again : (found : List NamedFile) (name : List ℕ) → has_name name found ≡ true → Visits files found name (Ok found)
     absent : (found : List NamedFile) (name : List ℕ) → has_name name found ≡ false → front_of name files ≡ None → Visits files found name (Ok found)
@@ -20,7 +21,7 @@ mutual
         → Follows files (found ++ record { name = name; bytes = bytes } ∷ []) (included files (record { name = name; bytes = bytes })) outcome
         → Visits files found name outcome
 
-  -- what comes of the files of these names, one after another
+  -- the outcome of visits of these names, one after another
   pub data Follows (files : List NamedFile) : List NamedFile → List (List ℕ) → Result (List NamedFile) GatherFault → Type 0 where
     end : (found : List NamedFile) → Follows files found [] (Ok found)
     stops : (found : List NamedFile) (name : List ℕ) (names : List (List ℕ)) (fault : GatherFault)
@@ -28,7 +29,7 @@ mutual
     onward : (found now : List NamedFile) (name : List ℕ) (names : List (List ℕ)) (outcome : Result (List NamedFile) GatherFault)
         → Visits files found name (Ok now) → Follows files now names outcome → Follows files found (name ∷ names) outcome
 
--- What comes of these files from the root on.
+-- The outcome of gathering from the root on.
 pub data Gathers (files : List NamedFile) (root : List ℕ) : Result (List NamedFile) GatherFault → Type 0 where
   no_root : front_of root files ≡ None → Gathers files root (Err NoRoot)
   found : (bytes : List ℕ) (outcome : Result (List NamedFile) GatherFault) → front_of root files ≡ Some bytes

@@ -9,22 +9,22 @@ use Rattle.sudoers_tree.specs.Lead.{leads}
 use Rattle.sudoers_files.specs.Shelf.{names_in}
 use Rattle.sudoers_files.specs.Folder.{led_in}
 
--- where a line leads, among these files: to a named file, which may not be there; to those files of a folder that are there
+-- the names of the files to which a line leads: the named file, also if it is missing; or the files of a folder that are not skipped
 abbrev pub led_by : List NamedFile → Option Lead → List (List ℕ)
 led_by files None = []
 led_by files (Some (File name)) = name ∷ []
 led_by files (Some (Dir dir)) = led_in dir (names_in dir files)
 
--- the names that `names_of` gives for where these lines of the file `name` lead, one after another
+-- the names that `names_of` gives for each of these lines of the file `name`, in the order of the lines
 abbrev pub by_lines : (Option Lead → List (List ℕ)) → List ℕ → List (List ℕ) → List (List ℕ)
 by_lines names_of name [] = []
 by_lines names_of name (line ∷ lines) = names_of (leads name line) ++ by_lines names_of name lines
 
--- where these lines of the file `name` lead, one after another
+-- the names of the files to which these lines of the file `name` lead, in the order of the lines
 abbrev pub included_by : List NamedFile → List ℕ → List (List ℕ) → List (List ℕ)
 included_by files = by_lines (led_by files)
 
--- the lines of a text; none, if it cannot be cut
+-- the lines of a text; none if the text cannot be cut
 abbrev pub lines_of : Result (List (List ℕ)) TextFault → List (List ℕ)
 lines_of (Ok lines) = lines
 lines_of (Err fault) = []

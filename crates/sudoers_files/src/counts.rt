@@ -1,4 +1,4 @@
-//! What is counted of a device.
+//! Counts of a device.
 
 ghost use Rattle.std.specs.Prelude.{◌≡◌, ◌+◌, ◌≤◌, length, IfOk};
 ghost use Rattle.sudoers_text.specs.Fault.{text_limit};
@@ -10,10 +10,10 @@ use std::io::{ErrorKind, Read};
 use sudoers_text::TEXT_LIMIT;
 use sudoers_tree::Items;
 
-/// How often one file is read at most.
+/// How many reads one file gets at most.
 const READ_LIMIT: usize = 4_194_304;
 
-/// How often a device failed, and how often it reported no end, each up to the greatest number.
+/// How often a device failed, and how often a file of it had no end. Each count stops at the greatest number.
 #[derive(Clone, Copy)]
 pub struct Counts {
     pub failures: u64,
@@ -21,7 +21,7 @@ pub struct Counts {
 }
 
 impl Counts {
-    /// Returns the counts of a device that was not asked yet.
+    /// Returns the counts of a device that was not used yet.
     pub fn new() -> Counts
         ensures { result ≡ record { failures = 0; endless = 0 } }
     {
@@ -46,14 +46,14 @@ impl Counts {
     }
 }
 
-/// Returns the bytes of `file` up to the first past the limit of a text.
+/// Reads `file` to its end, or to the first byte past the limit of a text, and returns these bytes.
 pub fn read_front<F: Read>(alloc: Global, file: &mut F) -> Result<Items<u8>, FileFault>
     ensures { IfOk result (λ bytes. length bytes ≤ text_limit + 1) }
 {
     let mut bytes = Vec::new(alloc);
     let mut buffer = [0u8; 16_384];
     for turn in 0..READ_LIMIT {
-        // Only the proof looks at this count.
+        // Only the proof uses this number.
         let _ = turn;
         let room = buffer.len().min(TEXT_LIMIT + 1 - bytes.len());
         let n = match file.read(&mut buffer[..room]) {

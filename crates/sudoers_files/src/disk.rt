@@ -12,8 +12,8 @@ use std::io::ErrorKind;
 use std::rt::Files as FileSystem;
 use sudoers_tree::Items;
 
-/// The files of a disk. A file whose name is no UTF-8 is not there. A name that begins with `/` is one below the folder `top`; an empty
-/// `top` is the whole disk.
+/// The files of a disk. A file whose name is not UTF-8 is missing. A name that begins with `/` is read below the folder `top`. With an
+/// empty `top` it is read as it is.
 #[derive(Drop)]
 pub struct FilesOnDisk<R> {
     system: R,
@@ -22,7 +22,7 @@ pub struct FilesOnDisk<R> {
 }
 
 impl<R: FileSystem + AllocGlobal + Clone + Drop> FilesOnDisk<R> {
-    /// Returns the files of `system` below `top`, none of which was read yet.
+    /// Returns the files of `system`. Names that begin with `/` are read below `top`. No file was read yet.
     pub fn new(system: R, top: String) -> FilesOnDisk<R>
         ensures { result ≡ record { system = system; top = top; counts = record { failures = 0; endless = 0 } } }
     {
@@ -33,7 +33,7 @@ impl<R: FileSystem + AllocGlobal + Clone + Drop> FilesOnDisk<R> {
         }
     }
 
-    /// Returns the path of the file or the folder `name`.
+    /// Returns the path on the disk of the file or the folder `name`.
     fn path(&self, alloc: Global, name: &str) -> Result<String, AllocError> {
         let mut path = String::new(alloc);
         if name.starts_with('/') {
@@ -43,7 +43,7 @@ impl<R: FileSystem + AllocGlobal + Clone + Drop> FilesOnDisk<R> {
         Ok(path)
     }
 
-    /// Returns the bytes of the file `name` up to the first past the limit of a text, or nothing if it is not there.
+    /// Returns the bytes of the file `name`, up to the first past the limit of a text. Returns nothing if the file is missing.
     fn read_file(&self, alloc: Global, name: &[u8]) -> Result<Option<Items<u8>>, FileFault>
         ensures { IfOk result (λ bytes. IfSome bytes (λ bytes. length bytes ≤ text_limit + 1)) }
     {
@@ -60,7 +60,7 @@ impl<R: FileSystem + AllocGlobal + Clone + Drop> FilesOnDisk<R> {
         }
     }
 
-    /// Returns the names that the regular files of the folder `dir` have in it. A link to a regular file is one.
+    /// Returns the names, without their folder, of the regular files in the folder `dir`. A link to a regular file counts as one.
     fn read_folder(&self, alloc: Global, dir: &[u8]) -> Result<Vec<Items<u8>>, FileFault> {
         let mut names = Vec::new(alloc);
         let Ok(dir) = str::from_utf8(dir) else {
@@ -113,7 +113,7 @@ impl<R: FileSystem + AllocGlobal + Clone + Drop> Files for FilesOnDisk<R> {
     }
 }
 
-/// Returns nothing if an error of this kind says that there is no file of a name, else the fault that it is.
+/// Returns `Ok` if an error of the kind `kind` means that a file or a folder is missing, and else the fault of that kind.
 fn none_there(kind: ErrorKind) -> Result<(), FileFault> {
     match kind {
         ErrorKind::NotFound
@@ -125,7 +125,7 @@ fn none_there(kind: ErrorKind) -> Result<(), FileFault> {
     }
 }
 
-/// Returns whether the path leads to a regular file.
+/// Returns whether the path `path` leads to a regular file.
 fn is_regular<R: FileSystem>(system: &R, path: &str) -> Result<bool, FileFault> {
     match fs::metadata(system, path) {
         Ok(metadata) => Ok(metadata.is_file()),

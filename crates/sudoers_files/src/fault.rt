@@ -14,7 +14,7 @@ pub enum FileFault {
     /// The device failed.
     #[error("a device failed")]
     Failed,
-    /// The device was asked as often as it may be, and reported no end.
+    /// A file did not end within the reads that are allowed.
     #[error("a file has no end")]
     NoEnd,
     /// A growth of memory was refused.
@@ -41,7 +41,7 @@ impl<T: Drop> From<AllocFailed<T>> for FileFault {
 /// Why the files of a policy cannot be gathered.
 #[derive(Clone, Copy, Debug, PartialEq, Eq, Error)]
 pub enum GatherFault {
-    /// The root is not there.
+    /// The root is missing.
     #[error("the policy file is not there")]
     NoRoot,
     /// A file or a folder cannot be read. Want of memory is [`GatherFault::NoMemory`].

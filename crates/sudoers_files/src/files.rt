@@ -9,11 +9,10 @@ use sudoers_tree::Items;
 
 /// Files by their names, and the folders in which they are.
 pub trait Files {
-    /// What is known of the files, and what is counted of their device.
+    /// The files, if they are known, and the counts of their device.
     ghost shelf: { Self → Shelf };
 
-    /// Returns the bytes of the file `name`, or nothing if it is not there. Of a file that is larger than a policy file may be it
-    /// returns the bytes up to the first past that limit.
+    /// Returns the bytes of the file `name`, up to the first past the limit of a text. Returns nothing if the file is missing.
     ///
     /// # Errors
     ///
@@ -21,8 +20,8 @@ pub trait Files {
     fn read(&mut self, alloc: Global, name: &[u8]) -> Result<Option<Items<u8>>, FileFault>
         ensures { Reads result name.now (shelf self.old) (shelf self.new) };
 
-    /// Returns the names that the regular files of the folder `dir` have in it; none if the folder is not there. The name `dir` does not
-    /// end in `/`.
+    /// Returns the names, without their folder, of the regular files in the folder `dir`. Returns no name if the folder is missing. The
+    /// name `dir` does not end in `/`.
     ///
     /// # Errors
     ///
@@ -30,7 +29,7 @@ pub trait Files {
     fn names(&mut self, alloc: Global, dir: &[u8]) -> Result<Vec<Items<u8>>, FileFault>
         ensures { Lists result dir.now (shelf self.old) (shelf self.new) };
 
-    /// Returns how often a call failed, up to the greatest number.
+    /// Returns how often the device failed. The count stops at the greatest number.
     fn failures(&self) -> u64
         ensures { result ≡ (shelf self.now).failures };
 }

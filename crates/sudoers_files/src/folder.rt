@@ -1,4 +1,4 @@
-//! The files of a folder that is included.
+//! The files of an included folder.
 
 ghost use Rattle.std.specs.Prelude.{◌≡◌, ◌++◌, ◌∷◌, [], ℕ, true, false, Vec, map, IfOk, OnOk};
 ghost use Rattle.std.specs.declared.alloc.Global.{Global as GlobalOf};
@@ -8,7 +8,7 @@ use std::alloc::{AllocError, Global};
 use std::collections::BTreeSet;
 use sudoers_tree::{Items, is_base};
 
-/// Returns the name of the file of the name `base` in the folder `dir`.
+/// Returns the whole name of the file `base` in the folder `dir`.
 fn name_in(alloc: Global, dir: &[u8], base: &[u8]) -> Result<Items<u8>, AllocError>
     ensures { IfOk result (λ name. name ≡ name_in dir.now base.now) }
 {
@@ -18,14 +18,14 @@ fn name_in(alloc: Global, dir: &[u8], base: &[u8]) -> Result<Items<u8>, AllocErr
     Ok(Items::from_vec(name))
 }
 
-/// Returns whether the name `base` is among those to which an include of its folder leads, if `led`, and else among the others.
+/// If `led`, returns whether an include of a folder leads to the file `base` in it. Otherwise returns whether it skips that file.
 fn is_wanted(base: &[u8], led: bool) -> bool
     ensures { result ≡ is_wanted led base.now }
 {
     if led { is_base(base) } else { !is_base(base) }
 }
 
-/// Returns those of the names `bases` that are wanted, in the order of their bytes.
+/// Returns those of the names `bases` that are wanted by `led`, in the order of their bytes.
 fn in_order(alloc: Global, bases: &[Items<u8>], led: bool) -> Result<BTreeSet<Vec<u8>>, AllocError>
     ensures { IfOk result (λ order. map (λ (base : Vec ℕ GlobalOf). base.items) order.keys ≡ in_order led [] bases.now) }
 {
@@ -36,7 +36,7 @@ fn in_order(alloc: Global, bases: &[Items<u8>], led: bool) -> Result<BTreeSet<Ve
     Ok(order)
 }
 
-/// Inserts the name `base` into names in the order of their bytes, if it is wanted.
+/// Inserts the name `base` into `order`, if it is wanted by `led`. The names of `order` are in the order of their bytes.
 fn put(
     alloc: Global,
     base: &[u8],
@@ -53,7 +53,7 @@ fn put(
     Ok(())
 }
 
-/// Appends to `names` those of the files in the folder `dir` whose names there are among `bases` and wanted, in the order of their bytes.
+/// Appends to `names` the whole names of those files `bases` of the folder `dir` that are wanted by `led`, in the order of their bytes.
 fn append_in_order(
     alloc: Global,
     dir: &[u8],
@@ -70,8 +70,7 @@ fn append_in_order(
     Ok(())
 }
 
-/// Returns the names of the files in the folder `dir` to which an include of it leads, in the order of their bytes. In the folder the
-/// files have the names `bases`.
+/// Returns the whole names of those files `bases` of the folder `dir` to which an include of it leads, in the order of their bytes.
 ///
 /// # Errors
 ///
@@ -84,8 +83,8 @@ pub fn led_in(alloc: Global, dir: &[u8], bases: &[Items<u8>]) -> Result<Vec<Item
     Ok(names)
 }
 
-/// Appends to `names` those of the files in the folder `dir` that an include of it skips, in the order of their bytes. In the folder the
-/// files have the names `bases`.
+/// Appends to `names` the whole names of those files `bases` of the folder `dir` that an include of it skips, in the order of their
+/// bytes.
 ///
 /// # Errors
 ///

@@ -1,4 +1,4 @@
-//! The files of a policy, from its root on.
+//! Gathering the files of a policy, from its root on.
 
 ghost use Rattle.std.specs.Prelude.{◌≡◌, ◌⊎◌, ◌++◌, ◌∷◌, [], List, Some, Ok, Err, IfErr, IfOk, MatchResult};
 ghost use Rattle.sudoers_tree.specs.declared.load.NamedFile.{NamedFile as NamedFileOf};
@@ -14,23 +14,23 @@ use crate::included::{include_lines, led_by};
 use std::alloc::Global;
 use sudoers_tree::{FILE_LIMIT, Items, NamedFile, has_name};
 
-/// Returns the policy file `root` and the files that it includes and that are there (sudoers(5), Including other files from within
-/// sudoers): each once, in the order in which the lines of the policy lead to them. A file that cannot be cut into lines leads
-/// nowhere.
+/// Returns the policy file `root` and the files to which it leads, by itself or through others (sudoers(5), Including other files from
+/// within sudoers). Each comes once, in the order of the include lines. Missing files are left out. A file that cannot be cut into
+/// lines leads nowhere.
 ///
 /// # Errors
 ///
-/// `NoRoot`: the root is not there. `Device`: a file or a folder cannot be read. `TooManyFiles`: there are more than 256 files.
+/// `NoRoot`: the root is missing. `Device`: a file or a folder cannot be read. `TooManyFiles`: there are more than 256 files.
 /// `NoMemory`: memory ran out.
 pub fn gather<F: Files>(
     alloc: Global,
     root: &[u8],
     files: &mut F,
 ) -> Result<Vec<NamedFile>, GatherFault>
-    // If the files are known, what is returned is what they are gathered to.
+    // If the files are known, the result is what `gathered` computes of them, or a fault of the device or of memory.
     ensures gathers { (known : List NamedFileOf) → (F.shelf files.old).files ≡ Some known
         → MatchResult result (λ found. gathered known root.now ≡ Ok found.items) (λ fault. IsOutside fault ⊎ (gathered known root.now ≡ Err fault)) }
-    // The files stay. `Device` is returned only if a call of them failed, or reported no end.
+    // The files do not change. `Device` is returned only if a call of them failed, or reported no end.
     ensures asks { Asks result (F.shelf files.old) (F.shelf files.new) }
 {
     let Some(bytes) = read(alloc, files, root)? else {
@@ -56,8 +56,8 @@ fn read<F: Files>(
 }
 
 #[cycle(gather)]
-/// Appends the file `name`, which has these bytes, to those that are found, and then the files to which it leads. `left` is how many
-/// more files may come.
+/// Appends the file `name` with the bytes `bytes` to the files `found`, and then the files to which it leads. Below it files may be
+/// nested `left` levels deep.
 fn take_file<F: Files>(
     alloc: Global,
     left: usize,
@@ -82,7 +82,8 @@ fn take_file<F: Files>(
 }
 
 #[cycle(gather)]
-/// Appends the files to which the line `line` of the file `name` leads.
+/// Appends to `found` the files to which the line `line` of the file `name` leads, by itself or through others. Below the file `name`
+/// files may be nested `left` levels deep.
 fn follow<F: Files>(
     alloc: Global,
     left: usize,
@@ -103,7 +104,8 @@ fn follow<F: Files>(
 }
 
 #[cycle(gather)]
-/// Appends the file `name` with all to which it leads, if it is there and not found yet.
+/// Appends to `found` the file `name` and the files to which it leads, where files may be nested `left` levels deeper. Appends nothing
+/// if the file is missing, or found already.
 fn visit<F: Files>(
     alloc: Global,
     left: usize,

@@ -17,7 +17,7 @@ use sudoers_text::laws::cut_is;
 use sudoers_text::{Lines, TextFault, cut};
 use sudoers_tree::{Items, Lead, leads, may_lead};
 
-/// Returns those lines of a file that lead somewhere. The file has the name `name` and these bytes.
+/// Returns those lines of the file `name` with the bytes `bytes` that lead somewhere. If the bytes cannot be cut into lines, returns none.
 ///
 /// # Errors
 ///
@@ -37,7 +37,7 @@ pub fn include_lines(alloc: Global, name: &[u8], bytes: &[u8]) -> Result<Vec<Ite
     }
 }
 
-/// Returns those of these lines of the file `name` that lead somewhere.
+/// Returns those of the lines `lines` of the file `name` that lead somewhere.
 fn lines_that_lead(
     alloc: Global,
     name: &[u8],
@@ -56,7 +56,7 @@ fn lines_that_lead(
     Ok(kept)
 }
 
-/// Appends the line `line` of the file `name` to the lines `kept`, if it leads somewhere.
+/// Appends the line `line` of the file `name` to `kept`, if it leads somewhere.
 fn keep(
     alloc: Global,
     name: &[u8],
@@ -91,7 +91,7 @@ pub fn names_in<F: Files>(
 ///
 /// # Errors
 ///
-/// `Device`, if a folder cannot be read; memory ran out.
+/// `Device`: a folder cannot be read. `NoMemory`: memory ran out.
 pub fn led_by<F: Files>(
     alloc: Global,
     files: &mut F,

@@ -6,7 +6,7 @@ ghost use Rattle.sudoers_files.specs.declared.fault.GatherFault.{GatherFault as 
 ghost use Rattle.sudoers_files.specs.Gather.{gathered};
 ghost use Rattle.sudoers_files.specs.Gathers.{Gathers};
 
-/// What is computed of files is what is gathered of them, and nothing else is.
+/// A law: `gathered` computes the outcome that `Gathers` defines, and `Gathers` defines no other.
 #[tactic(auto, using(crate::proofs::Gathered::computed_is, crate::proofs::Gathered::one_gathering))]
 pub fn gather_is()
     ensures is { (files : List NamedFileOf) (root : List ℕ) → Gathers files root (gathered files root) }

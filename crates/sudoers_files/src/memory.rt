@@ -10,14 +10,14 @@ use std::alloc::{AllocError, Global};
 use sudoers_text::TEXT_LIMIT;
 use sudoers_tree::{Items, NamedFile, base_of, folder_of};
 
-/// Files in memory. Their folders are those that their names have. Of two files of one name, the first counts.
+/// Files in memory. The name of a file gives its folder. Of two files with one name, the first counts.
 #[derive(Drop)]
 pub struct FilesInMemory {
     files: Vec<NamedFile>,
 }
 
 impl FilesInMemory {
-    /// Returns these files.
+    /// Returns the files `files`.
     pub fn new(files: Vec<NamedFile>) -> FilesInMemory
         ensures { result.files ≡ files }
     {
@@ -44,7 +44,7 @@ impl Files for FilesInMemory {
     }
 }
 
-/// Returns the bytes of the file `name`, up to the first past the limit of a text.
+/// Returns the bytes of the file `name`, up to the first past the limit of a text. Returns nothing if the file is missing.
 fn front_of<'a>(files: &'a [NamedFile], name: &[u8]) -> Option<&'a [u8]>
     ensures { MatchOption result (front_of name.now files.now ≡ None) (λ front. front_of name.now files.now ≡ Some front.now) }
 {
@@ -57,7 +57,7 @@ fn front_of<'a>(files: &'a [NamedFile], name: &[u8]) -> Option<&'a [u8]>
     None
 }
 
-/// Returns whether `folder` is `dir` with `/` behind it.
+/// Returns whether `folder` is `dir` followed by `/`.
 fn is_folder(folder: &[u8], dir: &[u8]) -> bool
     ensures { result ≡ bytes_eq folder.now (dir.now ++ 47 ∷ []) }
 {
@@ -67,7 +67,7 @@ fn is_folder(folder: &[u8], dir: &[u8]) -> bool
     }
 }
 
-/// Returns the names that the files of the folder `dir` have in it.
+/// Returns the names, without their folder, of those files `files` that are in the folder `dir`.
 fn names_in(alloc: Global, files: &[NamedFile], dir: &[u8]) -> Result<Vec<Items<u8>>, AllocError>
     ensures { IfOk result (λ names. names.items ≡ names_in dir.now files.now) }
 {

@@ -1,4 +1,4 @@
-//! The files that includes of a folder skip.
+//! The files that includes of folders skip.
 
 ghost use Rattle.std.specs.Prelude.{◌≡◌, ◌++◌, List, Some, IfErr, IfOk, OnOk};
 ghost use Rattle.sudoers_tree.specs.declared.load.NamedFile.{NamedFile as NamedFileOf};
@@ -14,8 +14,8 @@ use crate::included::{include_lines, names_in};
 use std::alloc::Global;
 use sudoers_tree::{Items, Lead, NamedFile, leads};
 
-/// Returns the names of the files that the policy files `found` skip: those in folders that they include whose names there contain `.`
-/// or end in `~` (sudoers(5), Including other files from within sudoers).
+/// Returns the names of the files that the include lines of the policy files `found` skip (sudoers(5), Including other files from within
+/// sudoers). A file in an included folder is skipped if its name there contains `.` or ends in `~`.
 ///
 /// # Errors
 ///
@@ -25,9 +25,9 @@ pub fn skipped<F: Files>(
     files: &mut F,
     found: &[NamedFile],
 ) -> Result<Vec<Items<u8>>, GatherFault>
-    // If the files are known, what is returned is what they skip.
+    // If the files are known, the result is what the definition `skipped` computes of them.
     ensures skips { (known : List NamedFileOf) → (F.shelf files.old).files ≡ Some known → IfOk result (λ names. names.items ≡ skipped known found.now) }
-    // The files stay. `Device` is returned only if a call of them failed, or reported no end.
+    // The files do not change. `Device` is returned only if a call of them failed, or reported no end.
     ensures asks { Asks result (F.shelf files.old) (F.shelf files.new) }
     ensures named { IfErr result IsOutside }
 {
@@ -40,7 +40,7 @@ pub fn skipped<F: Files>(
     Ok(names)
 }
 
-/// Appends the names of the files that these lines of the file `name` skip.
+/// Appends to `names` the names of the files that the lines `lines` of the file `name` skip.
 fn append_of_lines<F: Files>(
     alloc: Global,
     files: &mut F,
@@ -59,7 +59,7 @@ fn append_of_lines<F: Files>(
     Ok(())
 }
 
-/// Appends the names of the files that the line `line` of the file `name` skips.
+/// Appends to `names` the names of the files that the line `line` of the file `name` skips.
 fn append_of_line<F: Files>(
     alloc: Global,
     files: &mut F,

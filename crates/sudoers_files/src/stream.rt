@@ -12,7 +12,7 @@ use sudoers_tree::Items;
 /// The name of a stream as a file.
 pub const STREAM_NAME: &[u8] = b"-";
 
-/// One file, `-`, whose bytes a reader gives. No other file is there.
+/// One file, `-`, whose bytes a reader gives. Every other file is missing, and no folder holds a file.
 #[derive(Drop)]
 pub struct FileOfStream<R> {
     reader: R,
@@ -20,7 +20,7 @@ pub struct FileOfStream<R> {
 }
 
 impl<R: Read + Drop> FileOfStream<R> {
-    /// Returns the file of `reader`, which was not read yet.
+    /// Returns the file of `reader`. It was not read yet.
     pub fn new(reader: R) -> FileOfStream<R> {
         FileOfStream {
             reader,

@@ -1,4 +1,4 @@
--- What `list` writes for a policy, the people of a machine, and what is asked of them (sudo(8), the option `-l`).
+-- What `list` writes for a policy, the people of a machine, and a question about them (sudo(8), the option `-l`).
 use Rattle.std.specs.Prelude.{◌≡◌, ◌⊎◌, ◌<◌, ◌≤◌, ℕ, List, [], ◌∷◌, ◌++◌, codes, length, Option, Some, None, Result, Ok, Err, MatchBool, if◌then◌else◌}
 use Rattle.std.specs.Borrow.{Bor}
 use Rattle.std.specs.Option.{option_map}
@@ -42,19 +42,19 @@ text_shown text = option_map (λ (t : Bor (List ℕ)). t.now) text
 
 -- ---- a listing
 
--- It is what this user may run on this host; a reachable alias must not be cyclic.
+-- The text is what this user may run on this host. If a reachable alias is cyclic, the outcome is `Cycle`.
 abbrev pub IsListed : Loaded → Who → Outcome → Type 0
 IsListed policy who (Ok told) = (HasReachableCycle policy.walk.lines → ⊥) × IsListing policy.walk.lines who told.0 × (told.1 ≡ 0)
 IsListed policy who (Err fault) = (fault ≡ layer.Ask Cycle) × HasReachableCycle policy.walk.lines
 
 -- ---- a question
 
--- 0 if it is allowed
+-- 0 if the command is allowed, else 1
 abbrev pub allowed_status : Option Answer → ℕ
 allowed_status None = 1
 allowed_status (Some a) = if a.allow then 0 else 1
 
--- the command with its arguments, if it is allowed
+-- the command with its arguments if it is allowed, else nothing
 abbrev pub allowed_text : List (List ℕ) → Option Answer → List ℕ
 allowed_text words None = []
 allowed_text words (Some a) = if a.allow then joined words ++ codes "\n" else []
@@ -63,7 +63,7 @@ allowed_text words (Some a) = if a.allow then joined words ++ codes "\n" else []
 abbrev pub IsAnswerText : ListWords → Loaded → Request → Option Answer → List ℕ → Type 0
 IsAnswerText w policy r answer text = MatchBool w.why (IsReason policy r answer text) (text ≡ allowed_text w.words.now answer)
 
--- The last row that fits gives what is written and the status. A reachable alias must not be cyclic, nor the arguments too long.
+-- The last row that fits decides what is written and the status. No reachable alias is cyclic, and the arguments are not too long.
 pub record IsAnswerTold (w : ListWords) (policy : Loaded) (r : Request) (told : List ℕ × ℕ) : Type 0 where
   pub straight : HasReachableCycle policy.walk.lines → ⊥
   pub short : length (joined r.args) ≤ argument_limit
@@ -82,29 +82,30 @@ abbrev pub OfRequest : ListWords → Loaded → Result Request WhoFault → Outc
 OfRequest w policy (Ok r) outcome = IsAnswered w policy r outcome
 OfRequest w policy (Err fault) outcome = outcome ≡ Err (layer.Who fault)
 
--- the fault that words have
+-- the fault is the one of the words
 abbrev pub TellsWho : {X : Type 0} → Result X WhoFault → LayerFault → Type 0
 TellsWho (Ok x) fault = ⊥
 TellsWho (Err said) fault = fault ≡ layer.Who said
 
--- The command is to run as the user with this name.
+-- the outcome for a command that is to run as the user with this name
 abbrev pub AsUser : ListWords → Loaded → People → Who → List ℕ → Outcome → Type 0
 AsUser w policy people who user outcome =
     OfRequest w policy (request_told people who user (text_shown w.group) w.words.now w.moment.now) outcome
 
--- The command is to run as runas_default.
+-- The command is to run as the user whom `runas_default` names. No reachable alias is cyclic.
 pub record IsAskedAsDefault (w : ListWords) (policy : Loaded) (people : People) (who : Who) (outcome : Outcome) : Type 0 where
   pub straight : HasReachableCycle policy.walk.lines → ⊥
   pub user : List ℕ
   pub is_default : IsRunasDefault policy.walk.lines who user
   pub asked : AsUser w policy people who user outcome
 
--- It is, if no reachable alias is cyclic.
+-- The outcome is `Cycle` if a reachable alias is cyclic, and else that for the user whom `runas_default` names.
 abbrev pub AsDefault : ListWords → Loaded → People → Who → Outcome → Type 0
 AsDefault w policy people who outcome =
     (HasReachableCycle policy.walk.lines × (outcome ≡ Err (layer.Ask Cycle))) ⊎ IsAskedAsDefault w policy people who outcome
 
--- Without `-u` and `-g` it is to run as runas_default. The faults that the request has for the invoking user come first.
+-- Without `-u` and `-g` the command is to run as the user whom `runas_default` names. Faults of the request for the invoking user come
+-- first.
 abbrev pub OfFirst : ListWords → Loaded → People → Result Request WhoFault → Outcome → Type 0
 OfFirst w policy people (Ok r) outcome = AsDefault w policy people r.who outcome
 OfFirst w policy people (Err fault) outcome = outcome ≡ Err (layer.Who fault)
@@ -117,7 +118,7 @@ IsAsked w policy people who None None outcome =
 
 -- ---- all of it
 
--- Without words all that the user may run is listed.
+-- Without the words of a command, the outcome is a listing of all that the user may run.
 abbrev pub OfWords : ListWords → Loaded → People → Who → List (List ℕ) → Outcome → Type 0
 OfWords w policy people who [] outcome = IsListed policy who outcome
 OfWords w policy people who (word ∷ words) outcome = IsAsked w policy people who (text_shown w.target) (text_shown w.group) outcome
@@ -134,19 +135,19 @@ abbrev pub OfPolicy : ListWords → Result People PeopleFault → Result Loaded 
 OfPolicy w people (Ok policy) outcome = OfPeople w policy people outcome
 OfPolicy w people (Err fault) outcome = outcome ≡ Err (layer.Load fault)
 
--- What comes of files that are gathered, of passwd and of group. The faults of the files come before those of people, and these before
+-- The outcome for files that are gathered, for passwd and for group. The faults of the files come before those of people, and these before
 -- those of the words.
 abbrev pub OfGathered : ListWords → Result People PeopleFault → Result (List NamedFile) GatherFault → Outcome → Type 0
 OfGathered w people (Ok files) outcome = OfPolicy w people (load_of files) outcome
 OfGathered w people (Err fault) outcome = outcome ≡ Err (layer.Gather fault)
 
--- What comes of the policy that these files are from `root` on, of passwd and of group.
+-- The outcome for the policy that these files are from `root` on, for passwd and for group.
 abbrev pub IsListOutcome : ListWords → List ℕ → List NamedFile → List ℕ → List ℕ → Outcome → Type 0
 IsListOutcome w root known passwd group outcome = OfGathered w (people_told passwd group) (gathered known root) outcome
 
 -- ---- faults
 
--- Something holds of passwd and of group, which are the texts of two readers.
+-- `P` holds of the texts of passwd and of group, which two readers give.
 pub record OfTexts (passwd group : Meter) (P : List ℕ → List ℕ → Type 0) : Type 0 where
   pub passwd_text : List ℕ
   pub group_text : List ℕ
@@ -154,7 +155,7 @@ pub record OfTexts (passwd group : Meter) (P : List ℕ → List ℕ → Type 0)
   pub is_group : IsTextOf group group_text
   pub holds : P passwd_text group_text
 
--- a fault that the files or the words have; those of the devices and of memory say nothing of them
+-- The fault is the one that the files or the words have. Faults of devices and of memory may come whatever these are.
 abbrev pub TellsList : ListWords → List ℕ → List NamedFile → ToolFault → List ℕ → List ℕ → Type 0
 TellsList w root known fault passwd group =
     DeviceOr (λ (said : LayerFault). IsOutside said ⊎ IsListOutcome w root known passwd group (Err said)) fault
@@ -183,18 +184,19 @@ IsListFault fault = DeviceOr (λ (said : LayerFault). IsUnloaded said ⊎ IsAskF
 abbrev pub EndedWith : ReadingEnd → ReadingEnd → ReadingEnd → Type 0
 EndedWith how passwd group = (passwd ≡ how) ⊎ (group ≡ how)
 
--- Neither passwd nor group was looked at.
+-- Neither passwd nor group was read.
 abbrev pub AreUnread : ReadingEnd → ReadingEnd → Type 0
 AreUnread passwd group = (passwd ≡ Unread) × (group ≡ Unread)
 
--- How passwd and group were read, by their error: one of them is too large; or a row of passwd is bad, and group was not looked at yet.
+-- How passwd and group were read, by their error. One is too large; or a row of passwd is bad, and group was read to its end or past the
+-- limit; or both were read to their ends.
 abbrev pub ArePeopleEnds : PeopleFault → ReadingEnd → ReadingEnd → Type 0
 ArePeopleEnds people.TooLarge passwd group = ((passwd ≡ TooLarge) × WasRead group) ⊎ (WasRead passwd × (group ≡ TooLarge))
 ArePeopleEnds (people.BadRow Passwd line) passwd group = (passwd ≡ Whole) × WasRead group
 ArePeopleEnds fault passwd group = (passwd ≡ Whole) × (group ≡ Whole)
 
--- How passwd and group were read, by what comes of a run. They are read if the files of the policy are gathered. An error of these comes
--- before passwd and group are looked at.
+-- How passwd and group were read, by the result of a run. They are read after the files of the policy are gathered. So an error of
+-- gathering comes before they are read.
 abbrev pub AreEnds : Result ℕ ToolFault → ReadingEnd → ReadingEnd → Type 0
 AreEnds (Err tool.Read) passwd group = EndedWith Failed passwd group
 AreEnds (Err tool.NoEnd) passwd group = EndedWith GivenUp passwd group
@@ -205,7 +207,7 @@ AreEnds (Err (tool.Layer (layer.Load fault))) passwd group = WasRead passwd × W
 AreEnds (Err (tool.Layer (layer.People fault))) passwd group = ArePeopleEnds fault passwd group
 AreEnds result passwd group = (passwd ≡ Whole) × (group ≡ Whole)
 
--- What reading passwd and then group does to their readers.
+-- What reading passwd and then group does to their readers, by the result of a run.
 pub record ReadsFiles (result : Result ℕ ToolFault) (passwd passwd-new group group-new : Meter) : Type 0 where
   pub passwd_how : ReadingEnd
   pub group_how : ReadingEnd

@@ -1,4 +1,4 @@
--- The policy of the commands that follow include lines: of files, from a root on.
+-- The policy of the commands that follow include lines: that of files, from a root on.
 use Rattle.std.specs.Prelude.{◌≡◌, ◌⊎◌, ℕ, List, Result, Ok, Err}
 use Rattle.sudoers_tree.specs.declared.load.NamedFile.{NamedFile}
 use Rattle.sudoers_tree.specs.declared.load_fault.LoadFault.{LoadFault}
@@ -15,42 +15,42 @@ use Rattle.sudoers_run.specs.declared.fault.LayerFault.TheVariants as layer
 use Rattle.sudoers_run.specs.declared.fault.ToolFault.{ToolFault}
 use Rattle.sudoers_run.specs.declared.fault.ToolFault.TheVariants as tool
 
--- what comes of files that are gathered, or why they cannot be gathered
+-- the outcome `next` of files that are gathered, or why they cannot be gathered
 abbrev pub of_found : {A : Type 0} → (List NamedFile → Result A LayerFault) → Result (List NamedFile) GatherFault → Result A LayerFault
 of_found next (Ok found) = next found
 of_found next (Err fault) = Err (layer.Gather fault)
 
--- what comes of the policy of files that are gathered, or why they cannot be gathered
+-- the outcome `next` of loading files that are gathered, or why they cannot be gathered
 abbrev pub of_gathered : {A : Type 0} → (Result Loaded LoadFault → Result A LayerFault) → Result (List NamedFile) GatherFault → Result A LayerFault
 of_gathered next = of_found (λ found. next (load_of found))
 
--- what comes of the policy that these files are from `root` on
+-- the outcome `next` of the policy that these files are from `root` on, or why they cannot be gathered
 abbrev pub of_files : {A : Type 0} → (Result Loaded LoadFault → Result A LayerFault) → List ℕ → List NamedFile → Result A LayerFault
 of_files next root known = of_gathered next (gathered known root)
 
--- The files are gathered from `root` on, and this comes of loading them.
+-- The files are gathered from `root` on, and this is the outcome of loading them.
 pub record IsPolicyOf (root : List ℕ) (policy : Result Loaded LoadFault) (known : List NamedFile) : Type 0 where
   pub files : List NamedFile
   pub gathers : gathered known root ≡ Ok files
   pub loads : load_of files ≡ policy
 
--- an error that says nothing of the files and the words: of a device, or of memory
+-- an error of a device or of memory, which may come whatever the files and the words are
 abbrev pub IsOutside : LayerFault → Type 0
 IsOutside layer.NoMemory = Unit {0}
 IsOutside (layer.Gather (gather.Device fault)) = Unit {0}
 IsOutside fault = ⊥
 
--- the stated error, or one that says nothing of the files and the words
+-- the stated error, or one of a device or of memory
 abbrev pub TellsFiles : {A : Type 0} → LayerFault → Result A LayerFault → Type 0
 TellsFiles fault wanted = IsOutside fault ⊎ (wanted ≡ Err fault)
 
--- An error that loading has. Want of memory is none, and stands in none.
+-- An error of loading that is not want of memory, and does not hold it.
 abbrev pub IsOfFiles : LoadFault → Type 0
 IsOfFiles load.NoMemory = ⊥
 IsOfFiles (load.InFile file fault) = IsOfText fault
 IsOfFiles fault = Unit {0}
 
--- an error that gathering has
+-- an error of gathering other than want of memory
 abbrev pub IsOfGathering : GatherFault → Type 0
 IsOfGathering gather.NoMemory = ⊥
 IsOfGathering (gather.Device device.NoMemory) = ⊥
@@ -62,11 +62,12 @@ IsUnloaded layer.NoMemory = Unit {0}
 IsUnloaded (layer.Gather fault) = IsOfGathering fault
 IsUnloaded fault = ⊥
 
--- the stated error of gathering, or one that says nothing of the files
+-- the stated error of gathering, or one of a device or of memory
 abbrev pub TellsGather : List ℕ → LayerFault → List NamedFile → Type 0
 TellsGather root fault known = IsOutside fault ⊎ ((why : GatherFault) × (fault ≡ layer.Gather why) × (gathered known root ≡ Err why))
 
--- What a command does to its files. They stay. Its error is `Device` only if a call of them failed or reported no end; without it none did.
+-- A command does not change its files. Its error is `Device` only if a call of them has failed or reported no end. With any other result no
+-- call has.
 abbrev pub Searches : {A : Type 0} → Result A ToolFault → Shelf → Shelf → Type 0
 Searches (Err (tool.Layer (layer.Gather fault))) old new = (new.files ≡ old.files) × FailedBefore fault old new
 Searches result old new = (new.files ≡ old.files) × (new.failures ≡ old.failures) × (new.endless ≡ old.endless)

@@ -10,7 +10,7 @@ use Rattle.sudoers_run.specs.Policy.{IsOfFiles, IsUnloaded, TellsFiles, of_files
 use Rattle.sudoers_run.specs.Faults.{WriteOr}
 use Rattle.sudoers_run.specs.Shown.{shown}
 
--- what is shown of a policy, or the fault of files that are none
+-- what is shown of a policy, or the fault of files that are no policy
 abbrev pub show_read : Result Loaded LoadFault → Result (List ℕ) LayerFault
 show_read (Ok policy) = Ok (shown policy.files)
 show_read (Err fault) = Err (layer.Load fault)
@@ -19,11 +19,11 @@ show_read (Err fault) = Err (layer.Load fault)
 abbrev pub show_output : List ℕ → List NamedFile → Result (List ℕ) LayerFault
 show_output root known = of_files show_read root known
 
--- a fault that the files have; those of the devices and of memory say nothing of them
+-- The fault is the one that the files have. Faults of devices and of memory may come whatever the files are.
 abbrev pub TellsShow : List ℕ → ToolFault → List NamedFile → Type 0
 TellsShow root fault known = WriteOr (λ (said : LayerFault). TellsFiles said (show_output root known)) fault
 
--- the faults of files that are gathered
+-- the faults of loading files that are gathered
 abbrev pub IsFileFault : LayerFault → Type 0
 IsFileFault (layer.Load fault) = IsOfFiles fault
 IsFileFault layer.NoMemory = Unit {0}

@@ -1,4 +1,4 @@
-//! The check of a policy.
+//! Checking a policy.
 ghost use Rattle.std.specs.Prelude.{◌≡◌, ◌≢◌, ◌+◌, ◌<◌, ◌≤◌, ◌++◌, true, codes, length, List, Ok, Err, Some, IfOk, IfErr, IfSome, IsOkAnd, OnOk, min, ◌-◌, ◌^◌};
 ghost use Rattle.std.specs.Io.KnownBytes.{Keeps, Appends};
 ghost use Rattle.sudoers_run.specs.Device.{Writes, AppendsFront};
@@ -20,13 +20,13 @@ use sudoers_check::{check, report_text};
 use sudoers_files::{Files, skipped};
 use sudoers_tree::{Items, LoadFault, NamedFile, Policy, base_of};
 
-/// Reads the policy `root` with the files that it includes, and writes what is to be noted of its aliases, or, if it is no policy, its
-/// fault. The status is 0 if the policy is fine, and else 1 (visudo(8)). What else is written, `words` say.
+/// Reads the policy `root` with the files that it includes, and writes the notes on its aliases. If the files are no policy, writes the
+/// first fault instead. Returns status 0 if the policy passes, and else 1 (visudo(8)). `words` has the options.
 ///
 /// # Errors
 ///
-/// [`ToolFault`]: of gathering the files, then of memory, then of a folder whose skipped files are asked for, then of writing. Nothing is
-/// written before a fault other than `Write`.
+/// [`ToolFault`]: of gathering the files, then of memory, then of reading an included folder for its skipped files, then of writing.
+/// Nothing is written before a fault other than `Write`.
 pub fn run_check<F: Files, W: Sink>(
     alloc: Global,
     files: &mut F,
@@ -50,7 +50,7 @@ pub fn run_check<F: Files, W: Sink>(
     ensures writes { Writes result (W.Sink.failures writer.old) (W.Sink.failures writer.new)
         (W.contents writer.old) (W.contents writer.new) }
     ensures statuses { IfOk result (λ status. status ≤ 1) }
-    // With `quiet`, nothing is written, whatever is read.
+    // With `quiet`, nothing is written.
     ensures silent { words.now.quiet ≡ true → (result ≢ Err ToolFault.Write) × Keeps (W.contents writer.old) (W.contents writer.new) }
 {
     let found = find_files(alloc, files, root)?;
@@ -61,7 +61,7 @@ pub fn run_check<F: Files, W: Sink>(
     Ok(output.status)
 }
 
-/// Returns what is written of the files `found`, and the exit status.
+/// Returns the text that is written for the files `found`, and the exit status.
 fn check_found<F: Files>(
     alloc: Global,
     files: &mut F,
@@ -81,7 +81,7 @@ fn check_found<F: Files>(
     Ok(output)
 }
 
-/// Appends a line for each of the names, which are those of files that are not read.
+/// Appends to `out` a line for each of the skipped files `names`.
 fn append_skipped(out: &mut Vec<u8>, names: &[Items<u8>]) -> Result<(), AllocError>
     ensures { OnOk result (out.new.items ≡ out.old.items ++ skipped_text names.now) }
 {
@@ -91,7 +91,7 @@ fn append_skipped(out: &mut Vec<u8>, names: &[Items<u8>]) -> Result<(), AllocErr
     Ok(())
 }
 
-/// Appends the line on the file `name`, which is not read.
+/// Appends to `out` the line for the skipped file `name`.
 fn append_skipped_line(out: &mut Vec<u8>, name: &[u8]) -> Result<(), AllocError>
     ensures { OnOk result (out.new.items ≡ out.old.items ++ skipped_line name.now) }
 {
@@ -101,7 +101,7 @@ fn append_skipped_line(out: &mut Vec<u8>, name: &[u8]) -> Result<(), AllocError>
     out.extend_from_slice(b"\n")
 }
 
-/// Returns why the file `name` is not read, which lies in an included folder.
+/// Returns why an include of its folder skips the file `name`.
 fn skip_reason(name: &[u8]) -> &'static [u8]
     ensures { result.now ≡ skip_reason name.now }
 {
@@ -112,7 +112,7 @@ fn skip_reason(name: &[u8]) -> &'static [u8]
     }
 }
 
-/// Returns the report on `policy`, or its error, and the exit status.
+/// Returns the report on `policy`, or the text of its error, and the exit status.
 fn check_text(
     alloc: Global,
     policy: Result<Policy, LoadFault>,

@@ -1,4 +1,4 @@
-//! The rules of a policy, in another form.
+//! Printing the rules of a policy in another form.
 ghost use Rattle.std.specs.Prelude.{ℕ, List, ◌≡◌, ◌≢◌, ◌⊎◌, ◌+◌, ◌<◌, ◌≤◌, length, Ok, Err, IfOk, IfErr, IfSome, IsOkAnd, MatchResult, min, ◌-◌, ◌^◌};
 ghost use Rattle.std.specs.Io.KnownBytes.{Keeps, Appends};
 ghost use Rattle.sudoers_run.specs.Device.{Writes, AppendsFront};
@@ -22,14 +22,14 @@ use sudoers_cvt_rewrite::{Changes, Filter, read_filter, rewrite};
 use sudoers_files::Files;
 use sudoers_tree::{LoadFault, Policy};
 
-/// Reads the policy `root` with the files that it includes, and writes its rules as `words` ask for: as the text of a policy, all
-/// Defaults lines, then all definitions of aliases, then all user specifications; or as JSON. A filter leaves out what does not match it, and then aliases may be replaced by
-/// their members (cvtsudoers(1)).
+/// Reads the policy `root` with the files that it includes, and writes its rules as `words` ask for (cvtsudoers(1)). As the text of a
+/// policy they are all Defaults lines, then all definitions of aliases, then all user specifications. The other form is JSON. A filter
+/// leaves out what does not match it. After that, aliases may be replaced by their members.
 ///
 /// # Errors
 ///
-/// [`ToolFault`]: of gathering the files, then of the policy, then of the filter, then of a cyclic alias and of too many members, then of the limits of
-/// a policy or of bytes that are no UTF-8, then of writing. Nothing is written before a fault other than `Write`.
+/// [`ToolFault`]: of gathering the files, then of the policy, then of the filter, then of a cyclic alias and of too many members, then of
+/// the limits of a policy or of bytes that are not UTF-8, then of writing. Nothing is written before a fault other than `Write`.
 pub fn run_convert<F: Files, W: Sink>(
     alloc: Global,
     files: &mut F,
@@ -72,7 +72,7 @@ fn convert_text(
     convert_policy(alloc, &policy, words)
 }
 
-/// Returns the filter whose text is given, if one is.
+/// Returns the filter with the text `text`, if there is a text.
 fn read_words(alloc: Global, text: Option<&[u8]>) -> Result<Option<Filter>, LayerFault>
     ensures { MatchResult result (λ filter. filter_in (option_map (λ (text : Bor (List ℕ)). text.now) text.entry) ≡ Ok filter)
         (λ fault. (fault ≡ LayerFault.NoMemory) ⊎ ((filter_in (option_map (λ (text : Bor (List ℕ)). text.now) text.entry) ≡ Err fault) × IsFilterFault fault)) }
@@ -83,7 +83,7 @@ fn read_words(alloc: Global, text: Option<&[u8]>) -> Result<Option<Filter>, Laye
     }
 }
 
-/// Returns the rules of a policy, as the words ask for.
+/// Returns the rules of `policy` as `words` ask for.
 fn convert_policy(
     alloc: Global,
     policy: &Policy,
@@ -105,7 +105,7 @@ fn convert_policy(
     rewrite_rules(alloc, policy, words.form, &changes)
 }
 
-/// Returns the rules of a policy that is filtered or expanded, in this form.
+/// Returns the rules of `policy`, filtered or expanded by `changes`, in the form `form`.
 fn rewrite_rules(
     alloc: Global,
     policy: &Policy,
@@ -121,7 +121,7 @@ fn rewrite_rules(
     print_rules(alloc, form, &rules)
 }
 
-/// Returns rules in this form.
+/// Returns `rules` in the form `form`.
 fn print_rules(alloc: Global, form: Form, rules: &Rules<'_>) -> Result<Vec<u8>, LayerFault>
     ensures { MatchResult result (λ out. converted form rules.now ≡ Ok out.items)
         (λ fault. (fault ≡ LayerFault.NoMemory) ⊎ ((converted form rules.now ≡ Err fault) × (fault ≡ LayerFault.Convert (form_fault form)))) }

@@ -7,7 +7,7 @@ ghost use Rattle.sudoers_run.specs.Device.{CountsFailures, Meter, Pulls};
 use std::io;
 use std::io::{ErrorKind, Read, Write};
 
-/// What one read gave: how many bytes, or an interruption.
+/// The result of one read: how many bytes it gave, or an interruption.
 #[derive(Clone, Copy, Debug, PartialEq, Eq)]
 pub enum Pulled {
     Bytes(usize),
@@ -18,21 +18,21 @@ pub enum Pulled {
 #[derive(Clone, Copy, Debug, PartialEq, Eq)]
 pub struct DeviceFailed;
 
-/// A reader that counts how often it was asked, how often with room, how many bytes it gave, how often it failed and how often it
-/// reported its end.
+/// A reader that counts its calls, its calls with room for a byte, the bytes that it gave, its failures, and how often it reported its
+/// end.
 pub trait Source: Read {
-    /// What is counted of it, and what it has left to give.
+    /// Its counts, and what it has left to give.
     ghost meter: { Self → Meter };
 
-    /// One read. No bytes, where the buffer has room, tell the end of the input.
+    /// Reads once into `buf`. If `buf` has room, a read of no byte means the end of the input.
     ///
     /// # Errors
     ///
-    /// The device failed; what it has left to give is as before.
+    /// The device failed. What it has left to give is as before.
     fn pull(&mut self, buf: &mut [u8]) -> Result<Pulled, DeviceFailed>
         ensures { Pulls result buf.new (meter self.old) (meter self.new) };
 
-    /// How often it has failed, up to the greatest number.
+    /// Returns how often it has failed. The count stops at the greatest number.
     fn failures(&self) -> u64
         ensures { result ≡ (meter self.now).failures };
 
@@ -45,18 +45,19 @@ pub trait Sink: Write {
     /// How often it has failed, up to the greatest number.
     ghost failures: { Self → ℕ };
 
-    /// One write: how many bytes it took. An interrupted one has failed, and so has one that takes no byte of a piece.
+    /// Writes a beginning of `piece` once, and returns how many bytes it took. A write that is interrupted, or that takes no byte of a
+    /// piece, has failed.
     ///
     /// # Errors
     ///
-    /// The device failed; what it holds is as before.
+    /// The device failed. What it holds is as before.
     fn push(&mut self, piece: &[u8]) -> Result<usize, DeviceFailed>
         ensures within { IfOk result (λ n. n ≤ length piece.now) }
         ensures some { 0 < length piece.now → IfOk result (λ n. 0 < n) }
         ensures bytes { WriteAppends (Self.contents self.old) (Self.contents self.new) result piece.now }
         ensures failed { CountsFailures (failures self.old) (failures self.new) result };
 
-    /// How often it has failed, up to the greatest number.
+    /// Returns how often it has failed. The count stops at the greatest number.
     fn failures(&self) -> u64
         ensures { result ≡ failures self.now };
 }
@@ -73,7 +74,7 @@ pub struct Counted<T> {
 }
 
 impl<T> Counted<T> {
-    /// The device, which has done nothing yet.
+    /// Returns the device `device` with all counts at 0.
     pub fn new(device: T) -> Counted<T>
         ensures { result ≡ record { device = device; failures = 0; pulls = 0; offers = 0; given = 0; ends = 0 } }
     {

@@ -1,4 +1,4 @@
-//! Why the program gives up.
+//! The faults of the program.
 
 use std::alloc::AllocError;
 use sudoers_cvt::CvtFault;
@@ -10,7 +10,7 @@ use sudoers_match_list::AskFault;
 use sudoers_tree::{LoadFault, ReadFault};
 use thiserror::Error;
 
-/// A fault of a layer below. Want of memory is `NoMemory` here, wherever it was met.
+/// A fault of a library. Want of memory is `NoMemory`, whichever library met it.
 #[derive(Debug, Drop, Error)]
 pub enum LayerFault {
     /// The text is no policy.
@@ -22,7 +22,7 @@ pub enum LayerFault {
     /// The files are no policy.
     #[error("{0}")]
     Load(LoadFault),
-    /// The script is none, or the inverse list is too long.
+    /// The text of the script is no script, or the inverse list is too long.
     #[error("{0}")]
     Script(ScriptFault),
     /// The edit at this place, from 0, is refused.
@@ -31,13 +31,13 @@ pub enum LayerFault {
     /// The rules cannot be converted.
     #[error("{0}")]
     Convert(CvtFault),
-    /// The text of a filter is none.
+    /// The text of a filter is no filter.
     #[error("{0}")]
     Filter(FilterFault),
-    /// A row of passwd or of group is in no form of its file, or a file is too large.
+    /// A row of passwd or of group does not have the form of its file, or one of these files is too large.
     #[error("{0}")]
     People(PeopleFault),
-    /// The words name nobody, or say no address or moment.
+    /// The words name no user or group of these files, or are no addresses or no moment.
     #[error("{0}")]
     Who(WhoFault),
     /// The policy gives no answer.
@@ -48,13 +48,13 @@ pub enum LayerFault {
     NoMemory,
 }
 
-/// Why the program gives up.
+/// A fault of the program.
 #[derive(Debug, Drop, Error)]
 pub enum ToolFault {
     /// The reader failed.
     #[error("Read")]
     Read,
-    /// The writer failed; a front of the output has been written.
+    /// The writer failed. A beginning of the output has been written.
     #[error("Write")]
     Write,
     /// The input has no end within the reads that are allowed.

@@ -15,7 +15,7 @@ use sudoers_match_list::AskFault;
 use sudoers_text::{TextFault, append_number};
 use sudoers_tree::{LoadFault, ReadFault};
 
-/// The text that is shown for a fault, without LF. `file` is the policy's name in it.
+/// Returns the text of the fault `fault`, without LF. `file` is the name of the policy in it.
 ///
 /// # Errors
 ///
@@ -124,7 +124,7 @@ fn filter_word(fault: FilterFault) -> &'static [u8]
     }
 }
 
-/// The text of a fault of a policy file.
+/// Returns the text of a fault of the policy file `file`.
 fn read_fault_text(alloc: Global, fault: &ReadFault, file: &[u8]) -> Result<Vec<u8>, AllocError>
     ensures { IfOk result (λ text. text.items ≡ text_of_read fault.now file.now) }
 {
@@ -201,7 +201,7 @@ fn syntax_text(
     Ok(text)
 }
 
-/// Returns a line of the file that includes `name`, and what is wrong with it.
+/// Returns the place of the line with the number `line` of the file `file`, which includes `name`, and what is wrong with it.
 fn include_text(
     alloc: Global,
     line: usize,
@@ -219,7 +219,7 @@ fn include_text(
     Ok(text)
 }
 
-/// A kind's name in the file, and what is wrong with it.
+/// Returns the file `file`, the kind `kind`, the name `name`, and what is wrong with it.
 fn at_name(
     alloc: Global,
     kind: Kind,

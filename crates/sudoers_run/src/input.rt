@@ -1,4 +1,4 @@
-//! How a command reads an input whole.
+//! Reading an input whole.
 ghost use Rattle.std.specs.Prelude.{◌≡◌, ◌+◌, ◌<◌, ◌≤◌, length, IfOk, IfErr, MatchResult, min, ◌-◌, ◌^◌};
 ghost use Rattle.sudoers_run.specs.Program.{input_limit};
 ghost use Rattle.sudoers_run.specs.Reading.{IsFront, IsFrontFault, IsReadFault, IsTextOf, ReadsFile, front_end, reading_end};
@@ -7,10 +7,10 @@ use crate::device::{DeviceFailed, Pulled, Source};
 use crate::fault::ToolFault;
 use std::alloc::Global;
 
-/// How often one reader is asked at most.
+/// How many reads one reader gets at most.
 pub const PULL_LIMIT: usize = 4_194_304;
 
-/// Reads all that `reader` gives, up to `limit` bytes. With the first byte past it the input is too large.
+/// Reads all that `reader` gives, and returns it. With the first byte past `limit` bytes the input is too large.
 ///
 /// # Errors
 ///
@@ -32,7 +32,7 @@ pub fn read_all<R: Source>(
     Ok(input)
 }
 
-/// Reads all that `reader` gives, but no more than one byte past `limit` bytes.
+/// Reads all that `reader` gives, but at most one byte past `limit` bytes, and returns it.
 ///
 /// # Errors
 ///
@@ -50,7 +50,7 @@ pub fn read_front<R: Source>(
     let mut input = Vec::new(alloc);
     let mut buffer = [0u8; 65_536];
     for pull in 0..PULL_LIMIT {
-        // Only the proof looks at this count.
+        // Only the proof uses this number.
         let _ = pull;
         let room = buffer.len().min(limit + 1 - input.len());
         let n = match reader.pull(&mut buffer[..room]) {

@@ -1,4 +1,4 @@
-//! What a user may run on a host, or whether he may run a command there.
+//! Listing what a user may run on a host, or answering whether he may run a command there.
 ghost use Rattle.std.specs.Prelude.{◌≡◌, ◌≢◌, ◌⊎◌, ◌+◌, ◌<◌, ◌≤◌, ℕ, List, length, true, Ok, Err, IfOk, IfErr, IfSome, OnOk, MatchResult, if◌then◌else◌, min, ◌-◌, ◌^◌};
 ghost use Rattle.std.specs.Io.KnownBytes.{Keeps, Appends};
 ghost use Rattle.std.specs.Option.{option_map, is_some};
@@ -31,8 +31,8 @@ use sudoers_text::TEXT_LIMIT;
 use sudoers_tree::{LoadFault, Policy};
 
 /// Reads the policy `root` with the files that it includes, passwd and group, and writes what the user of `words` may run on his host
-/// (sudo(8), the option `-l`). If `words` hold a command, it writes the command if he may run it, or the rule that decides with the
-/// name of its file. The status is 0 for a listing and for a command that is allowed, and else 1.
+/// (sudo(8), the option `-l`). If `words` hold a command, writes it if he may run it. With `why`, writes instead the rule that decides,
+/// with the name of its file. Returns status 0 for a listing and for a command that is allowed, and else 1.
 ///
 /// # Errors
 ///
@@ -73,7 +73,7 @@ pub fn run_list<F: Files, U: Source, G: Source, W: Sink>(
     Ok(output.status)
 }
 
-/// Returns what is written for a policy or its error, and for the texts of passwd and of group.
+/// Returns what is written for a policy and the texts of passwd and of group, and the exit status; or the first error of these.
 fn list_files(
     alloc: Global,
     policy: Result<Policy, LoadFault>,
@@ -144,8 +144,8 @@ fn request_as(
     )?)
 }
 
-/// Returns what is written for a request, and the exit status. `acyclic` is the walk of `policy`. `default` is the user as whom a command
-/// runs where nothing else is said.
+/// Returns what is written for `request`, and the exit status. `acyclic` is the walk of `policy`. `default` is the user as whom a command
+/// runs without a Runas_Spec.
 fn answer_text(
     alloc: Global,
     policy: &Policy,
@@ -172,7 +172,7 @@ fn answer_text(
     Ok(Output { text, status })
 }
 
-/// Returns the exit status of an answer.
+/// Returns the exit status of the answer `found`.
 fn allowed_status(found: Option<Found<'_>>) -> u8
     ensures { result ≡ allowed_status (option_map found_answer found.entry) }
 {
@@ -182,7 +182,7 @@ fn allowed_status(found: Option<Found<'_>>) -> u8
     }
 }
 
-/// Returns the command, if it is allowed.
+/// Returns the command `words` with an LF if it is allowed, and else no bytes.
 fn allowed_text(
     alloc: Global,
     words: &[Items<u8>],

@@ -1,4 +1,4 @@
-//! The policy of a command: files, from a root on.
+//! Loading the policy of a command: its files, from a root on.
 
 ghost use Rattle.std.specs.Prelude.{◌≡◌, false, Ok, IfErr, IfOk, IfSome, MatchResult};
 ghost use Rattle.sudoers_files.specs.Gather.{gathered};
@@ -12,7 +12,7 @@ use sudoers_files::{Files, gather};
 use sudoers_text::TextFault;
 use sudoers_tree::{LoadFault, NamedFile, Policy, ReadFault};
 
-/// Gathers the files of a policy from `root` on, and returns the policy or its error.
+/// Gathers the files of a policy from `root` on, loads them, and returns the policy or its error.
 ///
 /// # Errors
 ///
@@ -31,7 +31,7 @@ pub fn load_policy<F: Files>(
     Ok(load_found(alloc, found.as_slice())?)
 }
 
-/// Gathers the files of a policy from `root` on.
+/// Gathers the files of a policy from `root` on, and returns them.
 ///
 /// # Errors
 ///
@@ -68,7 +68,7 @@ pub fn load_found(
     }
 }
 
-/// Returns whether an error of files is want of memory, or holds it.
+/// Returns whether the error `fault` is want of memory, or holds it.
 fn is_of_memory(fault: &LoadFault) -> bool
     ensures { result ≡ false → IsOfFiles fault.now }
 {

@@ -1,4 +1,4 @@
-//! What a command writes, and how.
+//! Writing the output of a command.
 ghost use Rattle.std.specs.Prelude.{◌≡◌, ◌+◌, ◌<◌, ◌≤◌, length, IfErr, OnOk, OnErr, min, ◌-◌, ◌^◌};
 ghost use Rattle.std.specs.Io.KnownBytes.{Appends};
 ghost use Rattle.sudoers_run.specs.Device.{Rose, AppendsFront};
@@ -6,14 +6,14 @@ ghost use Rattle.sudoers_run.specs.Device.{Rose, AppendsFront};
 use crate::device::{DeviceFailed, Sink};
 use crate::fault::ToolFault;
 
-/// What is written, and the exit status.
+/// The output of a command, and its exit status.
 #[derive(Drop)]
 pub struct Output {
     pub text: Vec<u8>,
     pub status: u8,
 }
 
-/// Writes all of `bytes`.
+/// Writes all bytes `bytes`.
 ///
 /// # Errors
 ///

@@ -1,4 +1,4 @@
-//! `edit`: a script and a policy, and the policy that comes of them.
+//! `edit`: applying a script to a policy.
 ghost use Rattle.std.specs.Prelude.{◌≡◌, ◌≢◌, ◌+◌, ◌<◌, ◌≤◌, ◌++◌, length, Ok, Err, IfOk, IfErr, IfSome, IsOkAnd, MatchResult, min, ◌-◌, ◌^◌};
 ghost use Rattle.std.specs.Option.{option_map};
 ghost use Rattle.std.specs.Io.KnownBytes.{Keeps, Appends};
@@ -57,7 +57,7 @@ pub fn run_edit<R: Source, W: Sink>(
     Ok(0)
 }
 
-/// What is written for an input within the limit.
+/// Returns what is written for the input `input`, which is within the limit.
 fn answer(alloc: Global, input: &[u8]) -> Result<Vec<u8>, ToolFault>
     requires { length input.now ≤ input_limit }
     ensures ok { IfOk result (λ out. output_of input.now ≡ Ok out.items) }
@@ -70,7 +70,7 @@ fn answer(alloc: Global, input: &[u8]) -> Result<Vec<u8>, ToolFault>
     Ok(out)
 }
 
-/// The script before the first line that is the mark, and the policy behind it.
+/// Returns the script before the first line of `input` that is the mark, and the policy after it. Returns nothing if there is no mark.
 fn split_mark(input: &[u8]) -> Option<(&[u8], &[u8])>
     ensures { option_map (λ parts. (parts.0.now, parts.1.now)) result ≡ split_text input.now }
 {
@@ -87,6 +87,7 @@ fn split_mark(input: &[u8]) -> Option<(&[u8], &[u8])>
     None
 }
 
+/// Returns whether the line `line` is the mark.
 fn is_mark(line: &[u8]) -> bool
     ensures { result ≡ is_mark_text line.now }
 {
@@ -96,7 +97,7 @@ fn is_mark(line: &[u8]) -> bool
     }
 }
 
-/// The inverse script, the mark and the edited policy.
+/// Returns the inverse script, the mark and the edited policy, for the script `script` and the policy `policy`.
 fn edit_output(alloc: Global, script: &[u8], policy: &[u8]) -> Result<Vec<u8>, LayerFault>
     ensures output { MatchResult result (λ out. output_of_edit script.now policy.now ≡ Ok out.items)
         (λ fault. TellsLayer fault (output_of_edit script.now policy.now)) }
@@ -108,7 +109,7 @@ fn edit_output(alloc: Global, script: &[u8], policy: &[u8]) -> Result<Vec<u8>, L
     edited(alloc, edits.as_slice(), policy)
 }
 
-/// What comes of edits of a policy.
+/// Applies `edits` to `policy`, and returns the inverse script, the mark and the edited policy.
 fn edited(alloc: Global, edits: &[Edit], policy: OneFile) -> Result<Vec<u8>, LayerFault>
     requires { AreNamed edits.now }
     ensures output { MatchResult result (λ out. edited_output edits.now (texts policy) ≡ Ok out.items)
@@ -122,7 +123,7 @@ fn edited(alloc: Global, edits: &[Edit], policy: OneFile) -> Result<Vec<u8>, Lay
     output(alloc, &inverse, editor.policy())
 }
 
-/// A script, the mark and a policy.
+/// Returns the script of `inverse`, the mark and the text of `policy`.
 fn output(alloc: Global, inverse: &Edits, policy: &OneFile) -> Result<Vec<u8>, LayerFault>
     requires { AreNamed inverse.now }
     ensures output { MatchResult result (λ out. output_text inverse.now (texts policy.now) ≡ Ok out.items)

@@ -1,4 +1,4 @@
-//! The files of a policy, and their lines with numbers and kinds.
+//! Showing the files of a policy, and their lines with numbers and kinds.
 ghost use Rattle.std.specs.Prelude.{◌≡◌, ◌≢◌, ◌+◌, ◌<◌, ◌≤◌, ◌++◌, codes, length, Ok, Err, IfOk, IfErr, OnOk, IfSome, IsOkAnd, MatchResult, min, ◌-◌, ◌^◌};
 ghost use Rattle.std.specs.Io.KnownBytes.{Keeps, Appends};
 ghost use Rattle.sudoers_text.specs.Fault.{text_limit};
@@ -68,7 +68,7 @@ fn show_text(alloc: Global, policy: Result<Policy, LoadFault>) -> Result<Vec<u8>
     Ok(shown(alloc, &policy)?)
 }
 
-/// Returns what is shown of a policy.
+/// Returns what is shown of `policy`.
 fn shown(alloc: Global, policy: &Policy) -> Result<Vec<u8>, AllocError>
     ensures { IfOk result (λ out. out.items ≡ shown_policy policy.now.files) }
 {
@@ -85,7 +85,7 @@ fn shown(alloc: Global, policy: &Policy) -> Result<Vec<u8>, AllocError>
     Ok(out)
 }
 
-/// Appends the number and the name of a file.
+/// Appends to `out` the line with the number `number` and the name `name` of a file.
 fn append_head(
     alloc: Global,
     out: &mut Vec<u8>,
@@ -101,7 +101,7 @@ fn append_head(
     out.extend_from_slice(b"\n")
 }
 
-/// Appends the lines of a file.
+/// Appends to `out` what is shown of the lines `lines` of a file.
 fn append_lines(
     alloc: Global,
     out: &mut Vec<u8>,
@@ -119,7 +119,8 @@ fn append_lines(
     Ok(())
 }
 
-/// Appends a line with its number and that of its first physical line, and its definitions.
+/// Appends to `out` what is shown of a line that says `node`: its number, its kind, the number of its first physical line `row`, and its
+/// definitions.
 fn append_line(
     alloc: Global,
     out: &mut Vec<u8>,
@@ -139,6 +140,7 @@ fn append_line(
     }
 }
 
+/// Appends to `out` what is shown of the definitions `defs` of the line with the number `line`.
 fn append_defs(
     alloc: Global,
     out: &mut Vec<u8>,
@@ -155,7 +157,7 @@ fn append_defs(
     Ok(())
 }
 
-/// Appends a definition with the number of its line and its own.
+/// Appends to `out` what is shown of the definition `def`. `numbers` has the number of its line and its own.
 fn append_def(
     alloc: Global,
     out: &mut Vec<u8>,
@@ -175,6 +177,7 @@ fn append_def(
     out.extend_from_slice(b"\n")
 }
 
+/// Appends `word` to `out`, between two blanks.
 fn append_between_blanks(out: &mut Vec<u8>, word: &[u8]) -> Result<(), AllocError>
     ensures { OnOk result (out.new.items ≡ out.old.items ++ codes " " ++ word.now ++ codes " ") }
 {
@@ -183,7 +186,7 @@ fn append_between_blanks(out: &mut Vec<u8>, word: &[u8]) -> Result<(), AllocErro
     out.extend_from_slice(b" ")
 }
 
-/// The word for a kind of lines.
+/// Returns the word for the kind `kind` of a line.
 fn line_word(kind: LineKind) -> &'static [u8]
     ensures { result.now ≡ word_of_kind kind }
 {

@@ -1,4 +1,4 @@
-//! What the words of a command line ask for.
+//! The options and words of a command line.
 
 use crate::form::Form;
 use sudoers_line::Items;
@@ -10,7 +10,7 @@ pub struct CheckWords {
     pub quiet: bool,
     /// Undefined names and cyclic aliases are errors.
     pub strict: bool,
-    /// After the report the files are named that lie in included folders and are not read.
+    /// After the report, the skipped files of included folders are listed.
     pub skipped: bool,
 }
 
@@ -35,7 +35,7 @@ pub struct ListWords<'a> {
     pub host: &'a [u8],
     /// The moment as `yyyymmddHH[MM[SS]]Z`. A listing does not look at it.
     pub moment: &'a [u8],
-    /// The interfaces of the host as `ADDRESS/BITS`, joined by `,`; empty where there are none.
+    /// The interfaces of the host as `ADDRESS/BITS`, joined by `,`; empty if there are none.
     pub interfaces: &'a [u8],
     /// The user as whom the command is to run. A listing does not look at it.
     pub target: Option<&'a [u8]>,
@@ -43,6 +43,6 @@ pub struct ListWords<'a> {
     pub group: Option<&'a [u8]>,
     /// The command and its arguments. Without words all that the user may run is listed.
     pub words: &'a [Items<u8>],
-    /// The rule that decides is written in place of the command, with the name of its file.
+    /// The rule that decides is written instead of the command, with the name of its file.
     pub why: bool,
 }

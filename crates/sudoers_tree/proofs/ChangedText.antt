@@ -1,4 +1,4 @@
--- The text of lines of which one is changed, by its parts; and the lines of it.
+-- The text of lines of which one is changed: its parts, and its lines.
 use Rattle.std.proofs.Common.{◌≡◌, ℕ, zero, suc, ◌<◌, ◌≤◌, true, List, [], ◌∷◌, ◌++◌, length, take, drop, insert, remove, Ok, refl, ap, ◌∙◌, arith, append_assoc}
 use Rattle.std.proofs.Math.Seq.{take-length}
 use Rattle.std.proofs.lemmas.List.{length-append, take-append-le}
@@ -10,7 +10,7 @@ use Rattle.sudoers_tree.specs.Line.{Line}
 use Rattle.sudoers_tree.specs.Changed.{replaced}
 use Rattle.sudoers_tree.specs.Policy.{texts}
 
--- the text with a line more, by its parts
+-- the parts of the text with one more line
 pub join_insert : (lines : List Line) (at : ℕ) (t : List ℕ) → at ≤ length lines
     → join (texts (take at lines)) ++ (t ++ join (texts (drop at lines))) ≡ join (insert (texts lines) at t)
 join_insert lines zero t within = refl
@@ -19,7 +19,7 @@ join_insert (line ∷ lines) (suc n) t within =
     append_assoc line.text (join (texts (take n lines))) (t ++ join (texts (drop n lines)))
     ∙ ap (λ rest. line.text ++ rest) (join_insert lines n t (omega arith))
 
--- the text with a line less
+-- the parts of the text without a line
 pub join_remove : (lines : List Line) (at : ℕ) → at < length lines
     → join (texts (take at lines)) ++ join (texts (drop (suc at) lines)) ≡ join (remove (texts lines) at)
 join_remove [] at within = absurd (omega arith)
@@ -28,7 +28,7 @@ join_remove (line ∷ lines) (suc n) within =
     append_assoc line.text (join (texts (take n lines))) (join (texts (drop (suc n) lines)))
     ∙ ap (λ rest. line.text ++ rest) (join_remove lines n (omega arith))
 
--- the text with another line in the place of one
+-- the parts of the text with a line replaced
 pub join_replaced : (lines : List Line) (at : ℕ) (t : List ℕ) → at < length lines
     → (join (texts (take at lines)) ++ t) ++ join (texts (drop (suc at) lines)) ≡ join (replaced at t (texts lines))
 join_replaced [] at t within = absurd (omega (arith, within))

@@ -1,4 +1,4 @@
--- The column behind bytes, by their last LF.
+-- The column after bytes, by their last LF.
 use Rattle.std.proofs.Common.{◌≡◌, ℕ, zero, suc, ◌+◌, ◌-◌, Bool, true, false, ◌==◌, if◌then◌else◌, List, [], ◌∷◌, length, refl, sym, ap, ◌∙◌, arith}
 use Rattle.memchr.specs.Find.{Nowhere, NoneAfter, Passes, is_byte}
 use Rattle.sudoers_tree.specs.Physical.{behind_lf}

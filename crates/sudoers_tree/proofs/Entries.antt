@@ -112,7 +112,7 @@ same_fault k place def ds =
     else (if nat_le alias_limit n then Some (TooMany k) else None)))
     (count_entries k ds)
 
--- What entering names comes to: those of the definitions, or why the first that cannot stand cannot.
+-- The outcome of entering names: those of the definitions, or the fault of the first that cannot stand.
 abbrev outcome : Kind → ℕ → ℕ → List Definition → List Def → Option ReadFault → Result (List (List ℕ × Place)) ReadFault
 outcome k line n ds defs None = Ok (entries k (ds ++ definitions_from k line n defs))
 outcome k line n ds defs (Some fault) = Err fault
@@ -157,7 +157,7 @@ entered_is k line n ds (d ∷ defs) =
         ∙ moved k line n ds here d defs later refl
         ∙ sym (ap (λ o. outcome k line n ds (d ∷ defs) (or_later o later)) e)
 
--- ---- what entering tells
+-- ---- the fault of entering names
 
 abbrev fault_in : Result (List (List ℕ × Place)) ReadFault → Option ReadFault
 fault_in (Ok names) = None
@@ -171,7 +171,7 @@ tells : (k : Kind) (line : ℕ) (ds : List Definition) (defs : List Def) (o : Op
 tells k line ds defs None = refl
 tells k line ds defs (Some fault) = refl
 
--- Of a line's definitions of one kind: what entering their names comes to.
+-- The outcome of entering the names of a line's definitions of one kind.
 pub enters : (k : Kind) (line : ℕ) (before : List Definition) (defs : List Def) (r : Result (Unit {0}) ReadFault) (new : List (List ℕ × Place)) (index : Index)
     → Comes r new (entered k line 0 (entries k before) defs)
     → (new ≡ entries k (before ++ definitions_from k line 0 defs) → Indexes index (before ++ definitions_from k line 0 defs))

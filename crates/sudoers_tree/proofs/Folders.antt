@@ -1,4 +1,4 @@
--- Names of folders: the front of a name up to its last `/`, and names without the `/` at their end.
+-- Names of folders: a name up to and with its last `/`, and a name without the `/` at its end.
 use Rattle.std.proofs.Common.{◌≡◌, ℕ, zero, suc, ◌+◌, ◌<◌, Bool, true, false, ◌==◌, ◌&&◌, ◌||◌, if◌then◌else◌, List, [], ◌∷◌, ◌++◌, length, take, Option, Some, None, refl, sym, ap, ◌∙◌, arith}
 use Rattle.std.specs.List.{list_all}
 use Rattle.std.specs.Option.{is_some}
@@ -6,7 +6,7 @@ use Rattle.memchr.specs.Find.{IsFirstByte, Nowhere, NoneAfter, Passes, is_byte}
 use Rattle.sudoers_line.specs.Piece.{has_byte}
 use Rattle.sudoers_tree.specs.Lead.{folder_of, without_slashes}
 
--- ---- the front of a name up to its last `/`
+-- ---- a name up to and with its last `/`
 
 no_byte : (x : ℕ) (name : List ℕ) → Nowhere (Passes (is_byte x) name) 0 (length name) → has_byte x name ≡ false
 no_byte x [] none = refl

@@ -1,4 +1,4 @@
--- A text in which the bytes `include` do not stand has no part that leads anywhere.
+-- If a text does not hold the bytes `include`, no part of it leads anywhere.
 use Rattle.std.proofs.Common.{◌≡◌, ◌+◌, ◌<◌, ◌-◌, ℕ, Bool, true, false, if◌then◌else◌, List, [], ◌∷◌, ◌++◌, length, take, drop, codes, slice_index, slice_range, Option, Some, None, is_some, Result, Ok, Err, refl, sym, ap, subst, ◌∙◌, append_assoc, get_or-append-add, length-append, take-append-drop, arith}
 use Rattle.std.specs.Str.{bytes_eq}
 use Rattle.std.specs.Result.{result_ok}

@@ -1,4 +1,4 @@
--- Lines behind others: their text, their definitions, and the physical lines before them.
+-- Lines that follow others: their text, their definitions, and the physical lines before them.
 use Rattle.std.proofs.Common.{◌≡◌, ℕ, zero, suc, ◌+◌, ◌≤◌, ◌==◌, Bool, true, false, if◌then◌else◌, List, [], ◌∷◌, ◌++◌, length, take, drop, slice_get, Some, None, is_some, true≢false, refl, sym, ap, ◌∙◌, append-nil, arith}
 use Rattle.std.proofs.lemmas.List.{append_assoc, length-append, map-append, drop_more, take_more, take-append-drop, drop_all}
 use Rattle.std.proofs.lemmas.List.Recursion.{is_count_by}
@@ -60,7 +60,7 @@ not_within [] n none = omega arith
 not_within (x ∷ xs) zero none = absurd (true≢false (ap is_some none))
 not_within (x ∷ xs) (suc n) none = omega (arith, not_within xs n none)
 
--- nothing is left behind the last line
+-- no line follows the last one
 pub drop_none : (lines : List (List ℕ)) (n : ℕ) → slice_get lines n ≡ None → drop n lines ≡ []
 drop_none lines n none = drop_all n lines (not_within lines n none)
 

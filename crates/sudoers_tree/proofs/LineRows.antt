@@ -1,4 +1,4 @@
--- Physical lines of the lines of a file.
+-- The physical lines on which the lines of a file begin.
 use Rattle.std.proofs.Common.{◌≡◌, ℕ, zero, suc, ◌+◌, ◌≤◌, ◌*◌, List, [], ◌∷◌, ◌++◌, length, min, take, drop, slice_get, Some, sym, ap, ◌∙◌, arith}
 use Rattle.std.proofs.lemmas.List.{length-append, take-append-drop, take_all, take_more}
 use Rattle.std.proofs.lemmas.Option.{get_or_from_slice_get, slice_get_within}
@@ -34,7 +34,7 @@ row_within lines n row lfs line at is count fits =
     ∙ join_append (texts (take (n + 1) lines)) (texts (drop (n + 1) lines))) in
     omega (arith, next_row lines n row lfs line at is count, lf_short front, whole, length-append front behind, fits)
 
--- A line of a file, and the row on which it begins, are within the limits of two texts.
+-- The row on which a line begins and the length of its text together are at most twice the limit of a text, plus one.
 pub line_fits : (lines : List Line) (n : ℕ) (line : Line) → slice_get lines n ≡ Some line → length (join (texts lines)) ≤ text_limit
     → row_of lines n + length line.text ≤ 2 * text_limit + 1
 line_fits lines n line at fits =
@@ -47,7 +47,7 @@ line_fits lines n line at fits =
     ∙ join_append (texts (take n lines)) (texts (line ∷ drop (n + 1) lines))) in
     omega (arith, lf_short front, whole, length-append front (line.text ++ behind), length-append line.text behind, fits)
 
--- Past the last line it is the one behind all.
+-- For a number past the last line it is the physical line after all of them.
 pub row_past : (lines : List Line) (n k : ℕ) → k ≡ min n (length lines) → row_of lines k ≡ row_of lines n
 row_past lines n k is = ap (λ ls. row_behind (join (texts ls))) (taken lines n k is)
   where

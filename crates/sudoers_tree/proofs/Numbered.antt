@@ -15,7 +15,7 @@ drop_at (y ∷ xs) (suc n) x is =
     let count : suc (n + 1) ≡ suc n + 1 = omega arith in
     drop_at xs n x is ∙ ap (λ k. x ∷ drop k (y ∷ xs)) count
 
--- The rest of a list from a number on: its first item has that number, and the items behind it are the rest from the next one on.
+-- The rest of a list from a number on: its first item has that number, and the items after it are the rest from the next number on.
 pub first_at : {A : Type 0} (rest xs : List A) (n : ℕ) (x : A) → x ∷ rest ≡ drop n xs → slice_get xs n ≡ Some x
 first_at rest [] zero x is = absurd cc
 first_at rest [] (suc n) x is = absurd cc
@@ -55,7 +55,7 @@ base_whole name front = ap (λ ns. drop (length ns) name) (sym front)
 
 -- ---- files by their names
 
--- the file that is found, or the one behind it
+-- the file that is found, or the one after it
 pub number_here : (name : List ℕ) (files : List FileReading) (n : ℕ) → n < length files → bytes_eq name (name_of files n) ≡ true
     → number_of name n (drop n files) ≡ Some n
 number_here name files n less is =
@@ -72,7 +72,7 @@ number_later name files n less is =
 
 -- ---- files in order
 
--- the file stands behind one that it is not before
+-- the file stands after one that it is not before
 pub behind_one : (files : List FileReading) (f : ℕ) (order : List ℕ) (at g : ℕ) → slice_get order at ≡ Some g → is_before files f g ≡ false
     → take at order ++ put_in_order files f (drop at order) ≡ take (at + 1) order ++ put_in_order files f (drop (at + 1) order)
 behind_one files f [] at g is off = absurd cc

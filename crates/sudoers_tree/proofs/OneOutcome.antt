@@ -27,11 +27,11 @@ use Rattle.sudoers_tree.proofs.Outcomes.{CutsAre, LinesAre}
 abbrev pub OneCut : Type 0
 OneCut = (text : List ℕ) (outcome other : Result (List (List ℕ)) TextFault) → IsCutOutcome text outcome → IsCutOutcome text other → outcome ≡ other
 
--- a line says one thing at most
+-- a line has at most one reading
 abbrev pub OneReading : Type 0
 OneReading = (line : List ℕ) (node other : Node) → ReadsLine line node → ReadsLine line other → node ≡ other
 
--- a line that says something has no fault
+-- a line that parses has no fault
 abbrev pub NoFault : Type 0
 NoFault = (line : List ℕ) (node : Node) (at : ℕ) (why : Why) → ReadsLine line node → IsFault line at why → ⊥
 
@@ -56,9 +56,9 @@ one_line lines reading none fault line r is = by (outcome_of line) (lines line) 
     by (Err line_fault.NoMemory) x r y = absurd x
     by o x (Err line_fault.NoMemory) y = absurd y
 
--- ---- a line behind others
+-- ---- a line after others
 
--- a line that says something and whose definitions can stand
+-- a line that parses and whose definitions can stand
 taken : OneLine → (before : List Line) (line : Line) → SaysSo line → first_name_fault [] (definitions (before ++ line ∷ [])) ≡ None
     → line_behind before line.text ≡ Ok line
 unfolding line_behind
@@ -94,7 +94,7 @@ refused one before text NoMemory is = absurd is
 
 -- ---- the lines of a text
 
--- Lines that say something and whose definitions have no fault are read to themselves.
+-- Reading lines that parse and whose definitions have no fault returns these lines.
 read_past : OneLine → (before lines : List Line) (more : List (List ℕ)) → AllByRecursion SaysSo lines
     → first_name_fault [] (definitions (before ++ lines)) ≡ None → read_behind before (texts lines ++ more) ≡ read_behind (before ++ lines) more
 read_past one before [] more says none = ap (λ ls. read_behind ls more) (sym (append-nil before))
@@ -123,7 +123,7 @@ read_fault cuts one_cut one text fault is =
     ∙ read_past one [] is.before (is.line ∷ is.after) is.says (none_of_sound (definitions is.before) is.sound)
     ∙ ap (λ r. with_line r (λ l. read_behind (is.before ++ l ∷ []) is.after)) (refused one is.before is.line fault is.wrong)
 
--- An outcome is what is computed.
+-- Each outcome is the computed one.
 computed : CutsAre → OneCut → OneLine → (text : List ℕ) (outcome : Result (List Line) ReadFault) → IsOutcome text outcome → read_of text ≡ outcome
 computed cuts one_cut one text (Ok lines) is = ap read_of (sym is.1) ∙ read_policy cuts one_cut one lines is.0
 computed cuts one_cut one text (Err (Text fault)) is = cut_to cuts one_cut text (Err fault) is

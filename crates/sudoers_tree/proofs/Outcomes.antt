@@ -30,9 +30,9 @@ CutsAre = (text : List ℕ) → IsCutOutcome text (cut_of text)
 abbrev pub LinesAre : Type 0
 LinesAre = (line : List ℕ) → IsLineOutcome line (outcome_of line)
 
--- ---- a line behind others
+-- ---- a line after others
 
--- what came of a line behind these
+-- the outcome of a line after the lines `before`
 abbrev IsBehind : List Line → List ℕ → Result Line ReadFault → Type 0
 IsBehind before text (Ok line) = (line.text ≡ text) × SaysSo line × (first_name_fault [] (definitions (before ++ line ∷ [])) ≡ None)
 IsBehind before text (Err fault) = IsWrongBehind before text fault
@@ -89,7 +89,7 @@ pub all_more : (lines : List Line) (line : Line) → AllByRecursion SaysSo lines
 all_more [] line all one = (one, tt)
 all_more (first ∷ lines) line all one = (all.0, all_more lines line all.1 one)
 
--- texts that are moved to the lines before them
+-- the first text, moved to the lines before it
 pub texts_more : (before : List Line) (line : Line) (more : List (List ℕ)) → texts before ++ line.text ∷ more ≡ texts (before ++ line ∷ []) ++ more
 texts_more before line more =
     sym (ap (λ ts. ts ++ more) (map-append (λ (l : Line). l.text) before (line ∷ [])) ∙ append_assoc (texts before) (line.text ∷ []) more)
@@ -105,7 +105,7 @@ fault_of_line text (TooDeep row) is = absurd is.wrong
 fault_of_line text (Text fault) is = absurd is.wrong
 fault_of_line text NoMemory is = absurd is.wrong
 
--- Lines that are read are lines of the text, their definitions have no fault, and they are followed by these.
+-- The lines `before` are lines of the text, which parse and whose definitions have no fault. The texts `more` follow them.
 record AreRead (text : List ℕ) (before : List Line) (more : List (List ℕ)) : Type 0 where
   cut : IsCut text (texts before ++ more)
   says : AllByRecursion SaysSo before
@@ -159,7 +159,7 @@ cut_or_not : LinesAre → (text : List ℕ) (r : Result (List (List ℕ)) TextFa
 cut_or_not lines text (Ok ts) cut = read_from lines text [] ts (record { cut = cut; says = tt; none = refl })
 cut_or_not lines text (Err fault) is = is
 
--- What is computed is the text's outcome.
+-- The computed outcome is one of the text.
 pub read_is : CutsAre → LinesAre → (text : List ℕ) → IsOutcome text (read_of text)
 unfolding read_of
 read_is cuts lines text = cut_or_not lines text (cut_of text) (cuts text)

@@ -82,7 +82,7 @@ lines_at_file all part files f n at = ap (λ (o : Option FileReading). slice_get
 
 -- ---- one file more
 
--- A part stays as it is where lines are read behind all.
+-- A part does not change if more lines are read after all.
 part_stays : (all more : List Line) (part : Part) → IsPart all part → lines_at (all ++ more) part ≡ lines_at all part
 part_stays all more part is =
     ap (take (part.stop - part.start)) (drop-append-le part.start all more (omega (arith, is.starts, is.stops)))
@@ -124,7 +124,7 @@ read_fits before (text ∷ more) = by (outcome_of text) refl (λ line. read_fits
     by (Err (line_fault.Syntax at why)) is later = subst Fits (sym is) (omega arith)
     by (Err line_fault.NoMemory) is later = subst Fits (sym is) (omega arith)
 
--- the part of the lines behind all
+-- the part of the lines that are read after all
 pub new_lines : (all read : List Line) (part : Part) → part.start ≡ length all → part.stop ≡ length (all ++ read) → lines_at (all ++ read) part ≡ read
 new_lines all read part start stop =
     let count : part.stop - part.start ≡ length read = omega (arith, start, stop, length-append all read) in

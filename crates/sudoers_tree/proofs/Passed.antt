@@ -1,4 +1,4 @@
--- Lines that come onto the walk, one behind the other.
+-- Lines that are appended to the walk, one after another.
 use Rattle.std.proofs.Common.{◌≡◌, ℕ, ◌+◌, ◌⊎◌, inl, inr, List, [], ◌∷◌, ◌++◌, length, take, drop, slice_get, Some, None, sym, ap, ◌∙◌, arith}
 use Rattle.std.proofs.lemmas.List.{take-append-drop}
 use Rattle.std.proofs.lemmas.Option.{get_or_from_slice_get, slice_get_within}
@@ -12,7 +12,7 @@ use Rattle.sudoers_tree.proofs.Joined.{definitions_append, definitions_push}
 use Rattle.sudoers_tree.proofs.Numbered.{drop_at}
 use Rattle.sudoers_tree.proofs.Sound.{first_append, none_append}
 
--- one line more is taken
+-- the lines that are taken, and one more
 pub next_taken : (all walk : List Line) (n : ℕ) (line : Line) → slice_get all n ≡ Some line → walk ≡ take n all → walk ++ line ∷ [] ≡ take (n + 1) all
 next_taken all walk n line is front =
     ap (λ ls. ls ++ line ∷ []) front

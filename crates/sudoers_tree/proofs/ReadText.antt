@@ -1,4 +1,4 @@
--- What comes of a text.
+-- The outcome of a text.
 use Rattle.std.proofs.Common.{◌≡◌, ℕ, ◌⊎◌, inl, inr, List, [], Result, Ok, Err, refl, ap, subst, sym}
 use Rattle.sudoers_text.specs.declared.fault.TextFault.{TextFault}
 use Rattle.sudoers_text.specs.declared.fault.TextFault.TheVariants as text
@@ -10,7 +10,7 @@ use Rattle.sudoers_tree.specs.internal.Wrapped.{fault_of_text}
 use Rattle.sudoers_tree.specs.Fault.{IsFaultOf}
 use Rattle.sudoers_tree.specs.Reading.{read_behind, read_cut, read_of, IsOutcome, ReadGives}
 
--- a text that is not cut
+-- a text that cannot be cut
 pub not_cut : (bytes : List ℕ) (fault : TextFault) → CutGives (Err fault) (cut_of bytes) → ReadGives (Err (fault_of_text fault)) (read_of bytes)
 unfolding read_of
 not_cut bytes text.TooLarge is = ap read_cut is
@@ -42,7 +42,7 @@ pub faulty : (bytes : List ℕ) (lines : List (List ℕ)) (fault : ReadFault) �
     → (fault ≡ NoMemory) ⊎ (read_behind [] lines ≡ Err fault) → ReadGives (Err fault) (read_of bytes)
 faulty bytes lines fault cut is = subst (ReadGives (Err fault)) (sym (is_cut bytes lines cut)) (gives_fault fault (read_behind [] lines) is)
 
--- a fault that is given is the text's, or memory ran out
+-- a fault that is returned is the one of the text, or memory ran out
 pub fault_given : (bytes : List ℕ) (outcome : Result (List Line) ReadFault) (fault : ReadFault) → IsOutcome bytes outcome → ReadGives (Err fault) outcome
     → (fault ≡ NoMemory) ⊎ IsFaultOf bytes fault
 fault_given bytes outcome (Text fault) is gives = inr (subst (IsOutcome bytes) gives is)

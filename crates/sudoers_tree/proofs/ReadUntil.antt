@@ -1,4 +1,4 @@
--- Lines that are read up to the first that says nothing.
+-- Lines that are read up to the first that does not parse.
 use Rattle.std.proofs.Common.{◌≡◌, ℕ, ◌+◌, ◌≤◌, List, [], ◌∷◌, ◌++◌, length, take, drop, slice_get, Option, Some, None, Ok, Err, sym, ap, ◌∙◌, append_assoc, append-nil, arith}
 use Rattle.std.proofs.lemmas.List.{map-append}
 use Rattle.sudoers_text.specs.Line.{join}
@@ -17,8 +17,8 @@ use Rattle.sudoers_tree.proofs.Joined.{drop_line, fits_before, join_append, join
 use Rattle.sudoers_tree.proofs.LineEnds.{lf_short}
 use Rattle.sudoers_tree.proofs.TreeLines.{tree_of}
 
--- What is read of these lines after so many of them: the lines `read`, which the tree holds behind those that it held. What is left
--- leads on to what all lead to.
+-- After so many of these lines the tree holds the lines `read` after those that it held. Reading the rest then gives the outcome of all
+-- lines.
 abbrev pub IsReadTo : TreeLines → List (List ℕ) → TreeLines → ℕ → Type 0
 IsReadTo old lines tree number =
     (read : List Line)
@@ -30,7 +30,7 @@ IsReadTo old lines tree number =
 line_of : List ℕ → Node → Line
 line_of text says = record { text = text; node = says }
 
--- the physical line behind one line more
+-- the physical line after one more line
 pub row_more : (before : List Line) (line : Line) (row more : ℕ) → row ≡ row_behind (join (texts before)) → more ≡ lf_count line.text
     → row + more ≡ row_behind (join (texts (before ++ line ∷ [])))
 row_more before line row more is count =
@@ -43,7 +43,7 @@ pub row_fits : (lines : List (List ℕ)) (number row : ℕ) (text : List ℕ) �
     → length (join lines) ≤ text_limit → row + length text ≤ 1048577
 row_fits lines number row text is next fits = omega (arith, is, lf_short (join (take number lines)), fits_before lines number text next, fits)
 
--- the physical line behind one text more
+-- the physical line after one more text
 pub text_row : (lines : List (List ℕ)) (number row lfs : ℕ) (text : List ℕ) → slice_get lines number ≡ Some text → row ≡ row_behind (join (take number lines))
     → lfs ≡ lf_count text → row + lfs ≡ row_behind (join (take (number + 1) lines))
 text_row lines number row lfs text next is count =
@@ -53,7 +53,7 @@ text_row lines number row lfs text next is count =
     ∙ lf_append (join (take number lines)) text in
     omega (arith, is, count, behind)
 
--- one line more
+-- one more line is read
 pub one_read : (old tree new : TreeLines) (lines : List (List ℕ)) (number : ℕ) (text : List ℕ) (says : Node) → IsReadTo old lines tree number
     → slice_get lines number ≡ Some text → outcome_of text ≡ Ok says → new ≡ more_read (record { text = text; node = says }) tree
     → IsReadTo old lines new (number + 1)
@@ -75,7 +75,7 @@ one_read old tree new lines number text says state next is more =
       ap (λ r. r.1) (sym step) ∙ state.4,
     )
 
--- the first line that says nothing
+-- the first line that does not parse
 pub broken_read : (old tree : TreeLines) (lines : List (List ℕ)) (number row at : ℕ) (why : Why) (text : List ℕ) → IsReadTo old lines tree number
     → row ≡ row_behind (join (take number lines)) → slice_get lines number ≡ Some text → outcome_of text ≡ Err (line_fault.Syntax at why)
     → (tree ≡ tree_of (old.all ++ (read_until [] lines).0) old.walk) × (Some (fault_at row text at why) ≡ (read_until [] lines).1)

@@ -1,4 +1,4 @@
--- Lines of a text, up to the first that says nothing.
+-- Lines of a text, up to the first that does not parse.
 use Rattle.std.proofs.Common.{◌≡◌, ℕ, List, [], ◌∷◌, ◌++◌, Option, Some, None, Result, Ok, Err, refl, sym, ap, ap₂, subst, ◌∙◌, append_assoc, append-nil}
 use Rattle.std.specs.List.{AllByRecursion}
 use Rattle.sudoers_text.specs.Line.{join}
@@ -18,13 +18,13 @@ use Rattle.sudoers_tree.proofs.OneOutcome.{NoFault, OneFault, OneLine, OneReadin
 use Rattle.sudoers_tree.proofs.Outcomes.{LinesAre, all_more, texts_more}
 use Rattle.sudoers_tree.proofs.TwoPasses.{row_in}
 
--- lines, and the fault of the one behind them
+-- lines, and the fault of the one after them
 abbrev LinesRead : Type 0
 LinesRead = List Line × Option SyntaxFault
 
--- ---- what is computed is how they read
+-- ---- the computed outcome is the defined one
 
--- these texts read so, behind these lines
+-- this is the outcome of these texts after the lines `before`
 abbrev ReadsBehind : List Line → List (List ℕ) → LinesRead → Type 0
 ReadsBehind before more read = Reads (texts before ++ more) (before ++ read.0) read.1
 
@@ -62,7 +62,7 @@ reads_from are before (text ∷ more) says = by (outcome_of text) (are text) (λ
 pub reads_as : LinesAre → (lines : List (List ℕ)) → Reads lines (read_until [] lines).0 (read_until [] lines).1
 reads_as are lines = reads_from are [] lines tt
 
--- ---- and they read in no other way
+-- ---- there is no other outcome
 
 read_past : OneLine → (before lines : List Line) (more : List (List ℕ)) → AllByRecursion SaysSo lines
     → read_until before (texts lines ++ more) ≡ (lines ++ (read_until (before ++ lines) more).0, (read_until (before ++ lines) more).1)

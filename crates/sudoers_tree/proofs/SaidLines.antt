@@ -21,7 +21,7 @@ WholeLaw = (line : List ℕ) → cut_of line ≡ Ok (line ∷ []) → is_logical
 abbrev pub LinesLaw : Type 0
 LinesLaw = (line : List ℕ) → IsOutcome line (outcome_of line)
 
--- the outcome of a line that says something
+-- the outcome of a line that parses
 read_outcome : OneReading → NoFault → (line : List ℕ) (n : Node) (r : Result Node LineFault) → ReadsLine line n → IsOutcome line r → r ≡ Ok n
 read_outcome reading none line n (Ok m) reads is = ap (λ says. Ok says) (reading line m n is reads)
 read_outcome reading none line n (Err (Syntax at why)) reads is = absurd (none line n at why reads is)

@@ -1,4 +1,4 @@
--- Definitions that can stand, each behind those before it.
+-- Definitions that can stand, each after those before it.
 use Rattle.std.proofs.Common.{◌≡◌, ◌+◌, ◌<◌, ◌≤◌, Bool, true, false, if◌then◌else◌, nat_le, List, [], ◌∷◌, ◌++◌, length, Option, Some, None, IfSome, refl, sym, ap, subst, ◌∙◌, append_assoc, append-nil, arith}
 use Rattle.std.specs.List.{AllByRecursion}
 use Rattle.std.proofs.lemmas.Bool.Decides.{nat_tests}
@@ -27,7 +27,7 @@ none_both : (a b : Option ReadFault) → or_later a b ≡ None → (a ≡ None) 
 none_both None b e = (refl, e)
 none_both (Some fault) b e = absurd cc
 
--- that of definitions, or else that of those behind them
+-- that of definitions, or else that of those after them
 pub first_append : (before ds more : List Definition)
     → first_name_fault before (ds ++ more) ≡ or_later (first_name_fault before ds) (first_name_fault (before ++ ds) more)
 first_append before [] more = ap (λ ds. first_name_fault ds more) (sym (append-nil before))
@@ -37,7 +37,7 @@ first_append before (d ∷ ds) more =
     ∙ or_assoc (name_fault before d) (first_name_fault next ds) (first_name_fault (next ++ ds) more)
     ∙ ap (λ xs. or_later (or_later (name_fault before d) (first_name_fault next ds)) (first_name_fault xs more)) (append_assoc before (d ∷ []) ds)
 
--- Definitions have no fault if they have none, and those behind them have none there; and only then.
+-- Two lists of definitions have no fault together exactly if the first has none, and the second has none after it.
 pub none_append : (ds more : List Definition) → first_name_fault [] ds ≡ None → first_name_fault ds more ≡ None
     → first_name_fault [] (ds ++ more) ≡ None
 none_append ds more e f = first_append [] ds more ∙ ap (λ o. or_later o (first_name_fault ds more)) e ∙ f
@@ -52,7 +52,7 @@ none_before lines others e =
     (none_parts (definitions lines) (definitions_since (0 + length lines) others)
     (ap (first_name_fault []) (sym (definitions_append 0 lines others)) ∙ e)).0
 
--- Definitions are sound where none has a fault, and only there.
+-- Definitions are sound exactly if none has a fault.
 pub sound_of_none : (ds : List Definition) → first_name_fault [] ds ≡ None → AreSound ds
 sound_of_none ds e before after d is =
     (none_both (name_fault before d) (first_name_fault (before ++ d ∷ []) after)
@@ -67,7 +67,7 @@ none_behind before (d ∷ ds) sound =
 pub none_of_sound : (ds : List Definition) → AreSound ds → first_name_fault [] ds ≡ None
 none_of_sound ds sound = none_behind [] ds sound
 
--- the first of some definitions that cannot stand behind the others
+-- the first of some definitions that cannot stand after the others
 pub record IsFirst (before ds : List Definition) (fault : ReadFault) : Type 0 where
   pub good : List Definition
   pub bad : Definition
@@ -165,7 +165,7 @@ name_fault_of before d fault e =
     (of_name (is_reserved d.def.name) (is_taken before d) (is_full before d) (Reserved d.kind d.def.name) (Duplicate d.kind d.def.name)
     (TooMany d.kind) tt tt tt)
 
--- A definition can stand behind others if it is of no reserved word, its name is new, and it is not one too many; and only then.
+-- A definition can stand after others exactly if it defines no reserved word, its name is new, and it is not one too many.
 pub stands : (before : List Definition) (d : Definition) → name_fault before d ≡ None
     → IsFree d × (defined d.kind d.def.name before ≡ None) × (count_of d.kind before < alias_limit)
 unfolding name_fault
@@ -225,7 +225,7 @@ free_behind before (d ∷ ds) e =
     let both = none_both (name_fault before d) (first_name_fault (before ++ d ∷ []) ds) e in
     ((stands before d both.0).0, free_behind (before ++ d ∷ []) ds both.1)
 
--- Where none has a fault, no reserved word is defined, no name twice in a kind, and there are not too many of a kind.
+-- If no definition has a fault, none defines a reserved word, no name is defined twice in a kind, and there are not too many of a kind.
 pub free_of_none : (ds : List Definition) → first_name_fault [] ds ≡ None → AllByRecursion IsFree ds
 free_of_none ds e = free_behind [] ds e
 

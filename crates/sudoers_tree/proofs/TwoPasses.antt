@@ -1,4 +1,4 @@
--- Lines are read first, and then their names are entered: it comes to what reading line by line comes to.
+-- Lines are read first, and then their names are entered. The outcome is that of reading line by line.
 use Rattle.std.proofs.Common.{◌≡◌, ℕ, ◌+◌, ◌⊎◌, inl, inr, List, [], ◌∷◌, ◌++◌, length, take, Option, Some, None, option_map, Result, Ok, Err, refl, sym, ap, subst, ◌∙◌, append_assoc, append-nil, arith}
 use Rattle.std.proofs.lemmas.List.{length-append}
 use Rattle.sudoers_text.specs.Line.{join}
@@ -38,13 +38,13 @@ not_entered (Twice row name) index before ds is = inr is
 not_entered (TooDeep row) index before ds is = inr is
 not_entered NoMemory index before ds is = inl refl
 
--- lines behind others, with the fault of their names, or else that of the line behind them
+-- lines after others, with the fault of their names, or else that of the line after them
 abbrev pub by_passes : List Line → List Line × Option SyntaxFault → Result (List Line) ReadFault
 by_passes before read =
     unless_faulty (before ++ read.0)
     (or_later (first_name_fault (definitions before) (definitions_since (length before) read.0)) (option_map syntax_fault read.1))
 
--- the physical line of a byte of the line behind others
+-- the physical line of a byte of the line after others
 pub row_in : (before : List Line) (text : List ℕ) (at : ℕ)
     → row_behind (join (texts before) ++ take at text) ≡ row_behind (join (texts before)) + lf_count (take at text)
 row_in before text at = omega (arith, lf_append (join (texts before)) (take at text))
@@ -52,7 +52,7 @@ row_in before text at = omega (arith, lf_append (join (texts before)) (take at t
 end_is : (before : List Line) → read_behind before [] ≡ by_passes before (read_until before [])
 end_is before = ap (λ (ls : List Line). Ok ls) (sym (append-nil before))
 
--- a line that says nothing
+-- a line that does not parse
 broken : (before : List Line) (text : List ℕ) (more : List (List ℕ)) (at : ℕ) (why : Why) → outcome_of text ≡ Err (line_fault.Syntax at why)
     → read_behind before (text ∷ more) ≡ by_passes before (read_until before (text ∷ more))
 unfolding line_behind
@@ -61,7 +61,7 @@ broken before text more at why is =
     ∙ ap (λ row. Err (Syntax row (column_behind (take at text)) why)) (row_in before text at)
     ∙ sym (ap (λ o. by_passes before (going_on before text o (λ line. read_until (before ++ line ∷ []) more))) is)
 
--- a line that says something, by the fault of its names
+-- a line that parses, by the fault of its names
 by_names : (before : List Line) (line : Line) (more : List (List ℕ)) (read : List Line × Option SyntaxFault) (o : Option ReadFault)
     → first_name_fault (definitions before) (definitions_in (length before) line.node) ≡ o
     → read_behind (before ++ line ∷ []) more ≡ by_passes (before ++ line ∷ []) read
@@ -97,7 +97,7 @@ by_names before line more read o is next = by o is
         ∙ ap (λ ds. unless_faulty (before ++ line ∷ read.0) (or_later (first_name_fault ds behind) last)) (definitions_push before line)
         ∙ sym (parts None is)
 
--- a line that says something
+-- a line that parses
 said : (before : List Line) (text : List ℕ) (more : List (List ℕ)) (says : Node) → outcome_of text ≡ Ok says
     → ((line : Line) → read_behind (before ++ line ∷ []) more ≡ by_passes (before ++ line ∷ []) (read_until (before ++ line ∷ []) more))
     → read_behind before (text ∷ more) ≡ by_passes before (read_until before (text ∷ more))
@@ -123,7 +123,7 @@ two_passes are before (text ∷ more) = by (outcome_of text) refl (λ line. two_
     by (Err (line_fault.Syntax at why)) is later = broken before text more at why is
     by (Err line_fault.NoMemory) is later = absurd (no_memory text (are text) is)
 
--- ---- the lines of a text, all of which come onto the walk
+-- ---- the lines of a text, all of which are appended to the walk
 
 -- a name that cannot stand, or want of memory
 pub name_stops : LinesAre → (lines : List (List ℕ)) (fault : ReadFault)
@@ -133,7 +133,7 @@ name_stops are lines fault (inr is) =
     let read = read_until [] lines in
     inr (two_passes are [] lines ∙ ap (λ o. unless_faulty read.0 (or_later o (option_map syntax_fault read.1))) is)
 
--- the line behind those that are read, which says nothing, or nothing
+-- the line after those that are read, which does not parse, or none
 pub read_stops : LinesAre → (lines : List (List ℕ)) (o : Option SyntaxFault) → first_name_fault [] (definitions (read_until [] lines).0) ≡ None
     → (read_until [] lines).1 ≡ o → read_behind [] lines ≡ unless_faulty (read_until [] lines).0 (option_map syntax_fault o)
 read_stops are lines o none is =

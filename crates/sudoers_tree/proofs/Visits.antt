@@ -1,4 +1,4 @@
--- The walk, line by line, and a file below others on it.
+-- The walk, line by line, and visits of files.
 use Rattle.std.proofs.Common.{◌≡◌, ◌⊎◌, inl, inr, ◌+◌, ◌-◌, ℕ, zero, suc, List, drop, slice_get, Some, Result, Ok, Err, refl, sym, ap, subst, ◌∙◌, arith}
 use Rattle.sudoers_tree.specs.Line.{Line}
 use Rattle.sudoers_tree.specs.declared.load_fault.LoadFault.{LoadFault}
@@ -15,7 +15,7 @@ visit_below (suc left) files at f w some =
 
 -- ---- the walk, line by line
 
--- the files to which a line leads, behind what is on the walk
+-- the outcome of visits of the files to which a line leads
 abbrev pub followed : Visit → List FileReading → ℕ → ℕ → Line → Walked → Result Walked LoadFault
 followed visit files f n line now =
     and_then (opened files (site files f n) now (leads_to files f line)) (λ inner. visit_each visit files (site files f n) inner now)
@@ -25,7 +25,7 @@ and_then_again : {A : Type 0} (r : Result A LoadFault) (first : A → Result Wal
 and_then_again (Ok x) first next = refl
 and_then_again (Err fault) first next = refl
 
--- a line, the files to which it leads, and the lines behind it
+-- a line, the files to which it leads, and the lines after it
 pub line_by_line : (visit : Visit) (files : List FileReading) (f n : ℕ) (lines : List Line) (line : Line) (w : Walked) → slice_get lines n ≡ Some line
     → walk_lines visit files f n (drop n lines) w
     ≡ and_then (taken (name_of files f) (spot_of files f n) line w)

@@ -1,4 +1,4 @@
--- What comes of a walk.
+-- The outcome of a walk.
 use Rattle.std.proofs.Common.{◌≡◌, ℕ, zero, suc, ◌+◌, Bool, true, false, if◌then◌else◌, List, [], ◌∷◌, option_map, Option, Some, None, Result, Ok, Err, refl, sym, ap, subst}
 use Rattle.sudoers_tree.specs.Line.{Line}
 use Rattle.sudoers_tree.specs.declared.fault.SyntaxFault.{SyntaxFault}
@@ -10,9 +10,9 @@ use Rattle.sudoers_tree.specs.Files.{FileReading, fault_of, lines_of, name_of}
 use Rattle.sudoers_tree.specs.Walk.{Site, Walked, and_then, depth_limit, enter, is_on, leads_to, nothing, opened, site, spot_of, taken, twice, unless_in, visit, visit_each, walk_lines, walk_of}
 use Rattle.sudoers_tree.specs.Goes.{Goes, Enters, IsWalkOf, end, broken, wrong, shut, stops, onward, none, again, deep, inside, more}
 
--- ---- what is computed comes of it
+-- ---- the computed outcome is the defined one
 
--- what comes of one file
+-- the outcome of one file
 abbrev Visits : List FileReading → ℕ → Type 0
 Visits files left = (at : Site) (f : ℕ) (rest : List ℕ) (w : Walked) → is_on w f ≡ false
     → ((now : Walked) → visit left files at f w ≡ Ok now → (outcome : Result Walked LoadFault) → Enters files left at rest now outcome → Enters files left at (f ∷ rest) w outcome)
@@ -82,7 +82,7 @@ pub walk_goes : (files : List FileReading) → IsWalkOf files (walk_of files)
 unfolding walk_of
 walk_goes files = lines_are files depth_limit (visits_are files depth_limit) 0 0 (lines_of files 0) (enter 0 nothing)
 
--- ---- nothing else comes of it
+-- ---- there is no other outcome
 
 mutual
   goes_same : (files : List FileReading) {left f n : ℕ} {lines : List Line} {w : Walked} {outcome : Result Walked LoadFault}

@@ -91,12 +91,12 @@ opened_below files at w (Some lead) inner is = by_targets (targets files lead) r
 
 -- ---- what a walk adds
 
--- The files on the walk are some of these, each once.
+-- The files on the walk have numbers below `count`, and each is there once.
 record IsNumbered (count : ℕ) (w : Walked) : Type 0 where
   distinct : IsDistinct nat_eq w.on
   below : (q : ℕ) → list_any (nat_eq q) w.on ≡ true → q < count
 
--- The lines that come onto the walk are these, and lines of files that come onto it, each no longer than a text may be.
+-- The lines that are appended to the walk have at most `more` bytes, and for each file that is appended at most as many as a text may have.
 record Adds (count more : ℕ) (w now : Walked) : Type 0 where
   numbered : IsNumbered count now
   fits : length (join (texts now.lines)) + length w.on * text_limit ≤ length (join (texts w.lines)) + more + length now.on * text_limit
@@ -117,7 +117,7 @@ enter_numbered count f w less off is = record {
       (λ here. or_true (nat_eq q f) false (q < count) here (λ same. omega (arith, eqb-true q f same, less)) (λ none. absurd cc));
 }
 
--- how a walk goes on with a file
+-- a visit of a file appends at most the bytes of its files
 abbrev Enters : ℕ → Visit → Type 0
 Enters count visit = (at : Site) (f : ℕ) (w now : Walked) → f < count → is_on w f ≡ false → IsNumbered count w → visit at f w ≡ Ok now → Adds count 0 w now
 
@@ -218,7 +218,7 @@ none_distinct = tt
 start : (count : ℕ) → 0 < count → IsNumbered count (enter 0 nothing)
 start count some = enter_numbered count 0 nothing some refl (record { distinct = none_distinct; below = λ q on. absurd cc })
 
--- Each file is on the walk at most once, and all lines are within the limit of so many texts.
+-- Each file is at most once on the walk. Its lines have at most as many bytes as `count` texts may have.
 pub walk_adds : (files : List FileReading) (count : ℕ) → AllFit files → length files ≤ count → 0 < count → (w : Walked) → walk_of files ≡ Ok w
     → IsDistinct nat_eq w.on × (length (join (texts w.lines)) ≤ count * text_limit)
 unfolding walk_of
@@ -261,8 +261,8 @@ all_fit [] fit f = omega arith
 all_fit (file ∷ files) fit zero = fit.0
 all_fit (file ∷ files) fit (suc f) = all_fit files fit.1 f
 
--- Each file is on the walk over files that are loaded at most once. All its lines are within the limit of as many texts as there may be
--- files.
+-- Each file is at most once on the walk over loaded files. The lines of the walk together are at most as long as the limit of a text
+-- times the limit of files.
 pub loaded_within : CutsAre → (files : List NamedFile) (p : Loaded) → load_of files ≡ Ok p
     → IsDistinct nat_eq p.walk.on × (length (join (texts p.walk.lines)) ≤ file_limit * text_limit)
 loaded_within cuts files p is =

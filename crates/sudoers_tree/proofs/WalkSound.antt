@@ -1,4 +1,4 @@
--- The lines of the walk over files that are loaded.
+-- The lines of the walk over loaded files.
 use Rattle.std.proofs.Common.{◌≡◌, ℕ, zero, suc, ◌+◌, ◌≤◌, nat_lt, Bool, true, false, if◌then◌else◌, List, [], ◌∷◌, ◌++◌, length, drop, option_map, Option, Some, None, Result, Ok, Err, refl, sym, ap, subst, ◌∙◌}
 use Rattle.std.specs.List.{AllByRecursion}
 use Rattle.std.proofs.lemmas.Bool.{ltb-false}
@@ -184,7 +184,7 @@ off_same w now n (file ∷ files) is = by_test (is_on w n) is (off_same w now (n
     by_test true e later = later e
     by_test false e later = by_fault (fault_off file) e later
 
--- Files that are loaded are read, and this is the walk over them.
+-- Loaded files are read, and this is the walk over them.
 pub record IsLoad (files : List NamedFile) (now : Loaded) : Type 0 where
   pub few : length files ≤ file_limit
   pub reads : readings [] files ≡ Ok now.files
@@ -228,7 +228,7 @@ loaded_sound are files p is =
     let load = loaded_as files p is in
     walk_sound p.files (readings_said are [] p.files files tt load.reads) p.walk load.walks
 
--- The lines of the walk over files that are loaded are a walk.
+-- The lines of the walk over loaded files are a walk.
 pub loaded_is_walk : LinesAre → (files : List NamedFile) (p : Loaded) → load_of files ≡ Ok p → IsWalk p.walk.lines
 loaded_is_walk are files p is =
     let sound = loaded_sound are files p is in

@@ -1,4 +1,4 @@
--- Each line of the walk over files that are loaded is one logical line.
+-- Each line of the walk over loaded files is one logical line.
 use Rattle.std.proofs.Common.{◌≡◌, ℕ, zero, suc, List, [], ◌∷◌, ◌++◌, slice_get, Some, Result, Ok, Err, refl, subst}
 use Rattle.std.specs.List.{AllByRecursion}
 use Rattle.sudoers_text.specs.Cut.{cut_of}

@@ -42,7 +42,7 @@ abbrev pub definitions_since : ℕ → List Line → List Definition
 definitions_since n [] = []
 definitions_since n (line ∷ lines) = definitions_in n line.node ++ definitions_since (n + 1) lines
 
--- all definitions, in file order
+-- all definitions, in the order of the lines
 abbrev pub definitions : List Line → List Definition
 definitions lines = definitions_since 0 lines
 

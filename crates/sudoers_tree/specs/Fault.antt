@@ -20,18 +20,18 @@ abbrev pub is_some : {X : Type 0} → Option X → Bool
 is_some None = false
 is_some (Some x) = true
 
--- why a definition cannot stand behind these: the first that fits
+-- why a definition cannot stand after these: the first cause that fits
 unfoldable pub name_fault : List Definition → Definition → Option ReadFault
 name_fault before d =
     if is_reserved d.def.name then Some (Reserved d.kind d.def.name)
     else (if is_some (defined d.kind d.def.name before) then Some (Duplicate d.kind d.def.name)
     else (if nat_le alias_limit (count_of d.kind before) then Some (TooMany d.kind) else None))
 
--- Each can stand behind those before it.
+-- Each can stand after those before it.
 abbrev pub AreSound : List Definition → Type 0
 AreSound ds = (before after : List Definition) (d : Definition) → ds ≡ before ++ d ∷ after → name_fault before d ≡ None
 
--- The line says something, and this is why the first of its definitions that cannot stand there cannot.
+-- The line parses, and this is the fault of the first of its definitions that cannot stand there.
 pub record IsNameFault (before : List Line) (text : List ℕ) (fault : ReadFault) : Type 0 where
   pub says : Node
   pub reads : ReadsLine text says
@@ -42,18 +42,18 @@ pub record IsNameFault (before : List Line) (text : List ℕ) (fault : ReadFault
   pub sound : AreSound (definitions before ++ good)
   pub fault_is : name_fault (definitions before ++ good) bad ≡ Some fault
 
--- The line says nothing: the physical line and the column of its first fault, from 1, and its cause.
+-- The line does not parse: the physical line and the column of its first fault, from 1, and its cause.
 pub record IsSyntaxFault (before : List Line) (text : List ℕ) (row col : ℕ) (why : Why) : Type 0 where
   pub at : ℕ
   pub first : IsFault text at why
   pub row_is : row ≡ row_behind (join (texts before) ++ take at text)
   pub col_is : col ≡ column_behind (take at text)
 
--- where and why a line says nothing, as a fault of the policy
+-- where and why a line does not parse, as a fault of the policy
 abbrev pub syntax_fault : SyntaxFault → ReadFault
 syntax_fault fault = Syntax fault.line fault.col fault.why
 
--- what is wrong with a line behind these
+-- what is wrong with a line after these
 abbrev pub IsWrongBehind : List Line → List ℕ → ReadFault → Type 0
 IsWrongBehind before text (Syntax row col why) = IsSyntaxFault before text row col why
 IsWrongBehind before text (Reserved k name) = IsNameFault before text (Reserved k name)
@@ -65,7 +65,7 @@ IsWrongBehind before text (TooDeep row) = ⊥
 IsWrongBehind before text (Text fault) = ⊥
 IsWrongBehind before text NoMemory = ⊥
 
--- The first line with which something is wrong has this fault. Those before it say something, and their definitions can stand.
+-- The first line with a fault has this one. The lines before it parse, and their definitions can stand.
 pub record IsLineFault (text : List ℕ) (fault : ReadFault) : Type 0 where
   pub before : List Line
   pub line : List ℕ

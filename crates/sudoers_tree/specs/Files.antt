@@ -1,4 +1,4 @@
--- Named files, as they are read.
+-- Files with names, as they are read.
 use Rattle.std.specs.Prelude.{ℕ, ◌+◌, List, [], ◌∷◌, ◌++◌, take, slice_get, Option, Some, None, Result, Ok, Err}
 use Rattle.std.specs.List.{AllByRecursion}
 use Rattle.sudoers_text.specs.Line.{join}
@@ -14,13 +14,13 @@ use Rattle.sudoers_tree.specs.Physical.{row_behind, column_behind}
 use Rattle.sudoers_tree.specs.Policy.{texts, SaysSo}
 use Rattle.sudoers_tree.specs.Fault.{IsSyntaxFault}
 
--- a file as it is read: its lines up to the first that says nothing, with what they say, and the fault of that one
+-- a file as it is read: its lines up to the first that does not parse, with what they say, and the fault of that line
 pub record FileReading : Type 0 where
   pub name : List ℕ
   pub lines : List Line
   pub fault : Option SyntaxFault
 
--- These lines say something. They are all lines of these texts, or those before the first that says nothing, which has this fault.
+-- Each of the lines parses. They are all lines of these texts; or those before the first that does not parse, and this is its fault.
 pub data Reads : List (List ℕ) → List Line → Option SyntaxFault → Type 0 where
   whole : (lines : List Line) → AllByRecursion SaysSo lines → Reads (texts lines) lines None
   broken : (lines : List Line) (text : List ℕ) (more : List (List ℕ)) (fault : SyntaxFault) → AllByRecursion SaysSo lines
@@ -40,7 +40,7 @@ going_on before text (Ok says) next = with_first (record { text = text; node = s
 going_on before text (Err (line_fault.Syntax at why)) next = ([], Some (fault_at (row_behind (join (texts before))) text at why))
 going_on before text (Err line_fault.NoMemory) next = ([], None)
 
--- the lines of these texts, which stand behind these lines, up to the first that says nothing, and the fault of that one
+-- the lines of these texts, which come after the lines `before`, up to the first that does not parse, and the fault of that line
 abbrev pub read_until : List Line → List (List ℕ) → List Line × Option SyntaxFault
 read_until before [] = ([], None)
 read_until before (text ∷ more) = going_on before text (outcome_of text) (λ line. read_until (before ++ line ∷ []) more)

@@ -36,7 +36,7 @@ names_of Cmnd index = index.cmnd
 abbrev pub Indexes : Index → List Definition → Type 0
 Indexes index ds = (k : Kind) → names_of k index ≡ entries k ds
 
--- why a name cannot be entered behind these
+-- why a name cannot be entered after these
 abbrev pub entry_fault : Kind → List (List ℕ × Place) → List ℕ → Option ReadFault
 entry_fault k es name =
     if is_reserved name then Some (Reserved k name)
@@ -47,14 +47,14 @@ abbrev pub unless : Option ReadFault → Result (List (List ℕ × Place)) ReadF
 unless None next = next
 unless (Some fault) next = Err fault
 
--- the names with those of a line's definitions from this one on, or why the first that cannot be entered cannot
+-- the names with those of a line's definitions from this one on, or the fault of the first that cannot be entered
 abbrev pub entered : Kind → ℕ → ℕ → List (List ℕ × Place) → List Def → Result (List (List ℕ × Place)) ReadFault
 entered k line n es [] = Ok es
 entered k line n es (d ∷ ds) =
     unless (entry_fault k es d.name)
     (entered k line (n + 1) (es ++ (d.name, record { line = line; def = n }) ∷ []) ds)
 
--- what a change told, and what it came to
+-- A change has the outcome that is wanted. `NoMemory` may come instead.
 abbrev pub Comes : {X : Type 0} → Result (Unit {0}) ReadFault → X → Result X ReadFault → Type 0
 Comes (Ok u) new wanted = wanted ≡ Ok new
 Comes (Err (Text fault)) new wanted = wanted ≡ Err (Text fault)
@@ -67,7 +67,7 @@ Comes (Err (Twice row name)) new wanted = wanted ≡ Err (Twice row name)
 Comes (Err (TooDeep row)) new wanted = wanted ≡ Err (TooDeep row)
 Comes (Err NoMemory) new wanted = Unit {0}
 
--- what came of entering these definitions behind the others
+-- the outcome of entering these definitions after the others
 abbrev pub Enters : Result (Unit {0}) ReadFault → Index → List Definition → List Definition → Type 0
 Enters (Ok u) index before ds = Indexes index (before ++ ds) × (first_name_fault before ds ≡ None)
 Enters (Err (Text fault)) index before ds = first_name_fault before ds ≡ Some (Text fault)

@@ -1,4 +1,4 @@
--- What comes of files that are loaded: a policy of several files, or their first fault.
+-- The outcome of loading files: a policy of several files, or their first fault.
 use Rattle.std.specs.Prelude.{◌≡◌, ◌≤◌, ◌*◌, ℕ, ◌+◌, Bool, List, [], ◌∷◌, ◌++◌, codes, length, map, nat_lt, slice_get, Option, Some, None, Result, Ok, Err, if◌then◌else◌}
 use Rattle.std.specs.List.{list_any}
 use Rattle.std.specs.Option.{option_map}
@@ -32,7 +32,7 @@ is_among name names = list_any (bytes_eq name) names
 abbrev pub has_name : List ℕ → List NamedFile → Bool
 has_name name files = is_among name (map (λ (file : NamedFile). file.name) files)
 
--- the first name of these files that an earlier one has too, where these names stand before them
+-- the first name of these files that is the name of an earlier one, or among the names `before`
 abbrev pub first_repeated : List (List ℕ) → List NamedFile → Option (List ℕ)
 first_repeated before [] = None
 first_repeated before (file ∷ files) = if is_among file.name before then Some file.name else first_repeated (before ++ file.name ∷ []) files
@@ -41,19 +41,19 @@ abbrev pub unless_same : {A : Type 0} → Option (List ℕ) → Result A LoadFau
 unless_same None next = next
 unless_same (Some name) next = Err (SameName name)
 
--- a file whose text is cut so, as it is read
+-- a file with this cut of its text, as it is read, or the fault of the cut
 abbrev pub cut_file : List ℕ → Result (List (List ℕ)) TextFault → Result FileReading LoadFault
 cut_file name (Ok lines) = Ok (reading_of name lines)
 cut_file name (Err fault) = Err (InFile name (Text fault))
 
--- the files behind these, as they are read, or the first fault of a text
+-- the files `before`, and then these files as they are read, or the fault of the first text that cannot be cut
 abbrev pub readings : List FileReading → List NamedFile → Result (List FileReading) LoadFault
 readings before [] = Ok before
 readings before (file ∷ files) = and_then (cut_file file.name (cut_of file.bytes)) (λ reading. readings (before ++ reading ∷ []) files)
 
 -- ---- files that are not on the walk
 
--- the first of these definitions that is one of a reserved word
+-- the fault of the first of these definitions that defines a reserved word
 abbrev pub first_reserved : List Definition → Option ReadFault
 first_reserved [] = None
 first_reserved (d ∷ ds) = if is_reserved d.def.name then Some (Reserved d.kind d.def.name) else first_reserved ds
@@ -62,11 +62,11 @@ abbrev pub reserved_in : List Line → Option ReadFault
 reserved_in [] = None
 reserved_in (line ∷ lines) = or_later (first_reserved (definitions_in 0 line.node)) (reserved_in lines)
 
--- the first fault of a file that is not on the walk: a reserved word that is defined, or a line that says nothing
+-- the first fault of a file that is not on the walk: a reserved word that is defined, or else a line that does not parse
 abbrev pub fault_off : FileReading → Option ReadFault
 fault_off file = or_later (reserved_in file.lines) (option_map syntax_fault file.fault)
 
--- what is on the walk, unless one of these files, which are numbered from n on, is not and has a fault
+-- what is on the walk; or the first fault of those of these files, numbered from n on, that are not on it
 abbrev pub unless_off : Walked → ℕ → List FileReading → Result Walked LoadFault
 unless_off w n [] = Ok w
 unless_off w n (file ∷ files) =
@@ -79,18 +79,18 @@ pub record Loaded : Type 0 where
   pub files : List FileReading
   pub walk : Walked
 
--- the walk over files that are read, or the first fault: that of the walk, or else of a file that is not on it
+-- the walk over files that are read; or the first fault of the walk, or else that of a file that is not on it
 abbrev pub walked_over : List FileReading → Result Walked LoadFault
 walked_over read = and_then (walk_of read) (λ w. unless_off w 0 read)
 
 abbrev pub loaded_over : List FileReading → Result Loaded LoadFault
 loaded_over read = and_then (walked_over read) (λ w. Ok (record { files = read; walk = w }))
 
--- the one file of a text, whose name is `policy`
+-- the list of one file, which has the name `policy` and this text
 abbrev pub one_file : List ℕ → List NamedFile
 one_file text = record { name = codes "policy"; bytes = text } ∷ []
 
--- The spot says where the line stands: it is that line of that file.
+-- The line stands at the spot: it is that line of that file, and begins on that row.
 pub record StandsAt (files : List FileReading) (at : Spot) (line : Line) : Type 0 where
   pub is_spot : at ≡ spot_of files at.file at.line
   pub is_line : slice_get (lines_of files at.file) at.line ≡ Some line
@@ -102,15 +102,16 @@ StandAt files (at ∷ spots) (line ∷ lines) = StandsAt files at line × StandA
 StandAt files [] (line ∷ lines) = ⊥
 StandAt files (at ∷ spots) [] = ⊥
 
--- The line with this number of the walk has a spot, at which it stands. Its row and its text are within the limits of two texts.
+-- The line with this number of the walk stands at its spot. Its row and the length of its text together are at most twice the limit of a
+-- text, plus one.
 pub record HasSpot (policy : Loaded) (number : ℕ) (line : Line) : Type 0 where
   pub at : Spot
   pub is : slice_get policy.walk.spots number ≡ Some at
   pub stands : StandsAt policy.files at line
   pub fits : at.row + length line.text ≤ 2 * text_limit + 1
 
--- What comes of these files: too many are a fault, and two of one name; then the texts that cannot be cut, in their order; then the
--- first fault of the walk and of the files that are not on it.
+-- The outcome of loading these files: the policy, or the first of these faults. There are too many files; two files have one name; a text
+-- cannot be cut; the walk has a fault; a file that is not on the walk has a fault.
 unfoldable pub load_of : List NamedFile → Result Loaded LoadFault
 load_of files =
     if nat_lt file_limit (length files) then Err TooManyFiles

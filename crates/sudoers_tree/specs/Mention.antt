@@ -68,7 +68,7 @@ abbrev pub mentions_since : Kind → List ℕ → ℕ → List Line → List Spa
 mentions_since k name n [] = []
 mentions_since k name n (line ∷ lines) = mentions_in k name n line.node ++ mentions_since k name (n + 1) lines
 
--- all mentions of a name in lists of a kind, in file order
+-- all mentions of a name in lists of a kind, in the order of the lines
 abbrev pub mentions : Kind → List ℕ → List Line → List Span
 mentions k name lines = mentions_since k name 0 lines
 

@@ -28,12 +28,12 @@ SaysSo line = ReadsLine line.text line.node
 abbrev pub IsFree : Definition → Type 0
 IsFree d = is_reserved d.def.name ≡ false
 
--- None has the kind and name of one before it.
+-- No definition has the kind and the name of one before it.
 abbrev pub AreOnce : List Definition → Type 0
 AreOnce ds = (before after : List Definition) (d : Definition) → ds ≡ before ++ d ∷ after → defined d.kind d.def.name before ≡ None
 
--- Lines in file order, each with what it says: no reserved word is defined, no name twice in a kind, and there are not too many of a
--- kind.
+-- Lines in the order of the walk, each with what it says. They define no reserved word, no name twice in a kind, and not too many names of
+-- a kind.
 pub record IsWalk (lines : List Line) : Type 0 where
   pub says : AllByRecursion SaysSo lines
   pub free : AllByRecursion IsFree (definitions lines)

@@ -1,6 +1,5 @@
--- The policy that a text is, or its first fault, as a function that computes. Of its own it defines nothing: that it gives the
--- policy or the first fault, as these are defined, is a law (`read_is`), and that a text has one outcome is one too
--- (`one_outcome`).
+-- The policy that a text is, or its first fault, as a function that computes. By the law `read_is` it is the policy or the first fault
+-- that `IsOutcome` defines. By the law `one_outcome` a text has one outcome only.
 use Rattle.std.specs.Prelude.{◌≡◌, ℕ, List, [], ◌∷◌, ◌++◌, take, length, Option, Some, None, Result, Ok, Err}
 use Rattle.sudoers_text.specs.Line.{join}
 use Rattle.sudoers_text.specs.Cut.{cut_of}
@@ -22,7 +21,7 @@ abbrev pub or_later : Option ReadFault → Option ReadFault → Option ReadFault
 or_later (Some fault) later = Some fault
 or_later None later = later
 
--- why the first of these that cannot stand behind the others cannot
+-- the fault of the first of these definitions that cannot stand after those before it
 abbrev pub first_name_fault : List Definition → List Definition → Option ReadFault
 first_name_fault before [] = None
 first_name_fault before (d ∷ ds) = or_later (name_fault before d) (first_name_fault (before ++ d ∷ []) ds)
@@ -31,7 +30,7 @@ abbrev pub unless_faulty : {A : Type 0} → A → Option ReadFault → Result A 
 unless_faulty x None = Ok x
 unless_faulty x (Some fault) = Err fault
 
--- a line with this outcome behind these lines
+-- the line with this outcome, after the lines `before`, or its fault there
 abbrev pub line_by : List Line → List ℕ → Result Node LineFault → Result Line ReadFault
 line_by before text (Ok says) =
     unless_faulty (record { text = text; node = says }) (first_name_fault (definitions before) (definitions_in (length before) says))
@@ -39,7 +38,7 @@ line_by before text (Err (line_fault.Syntax at why)) =
     Err (Syntax (row_behind (join (texts before) ++ take at text)) (column_behind (take at text)) why)
 line_by before text (Err line_fault.NoMemory) = Err NoMemory
 
--- a line behind these, with what it says, or why it cannot stand there
+-- a line after the lines `before`, with what it says, or its fault there
 unfoldable pub line_behind : List Line → List ℕ → Result Line ReadFault
 line_behind before text = line_by before text (outcome_of text)
 
@@ -47,7 +46,7 @@ abbrev pub with_line : Result Line ReadFault → (Line → Result (List Line) Re
 with_line (Ok line) next = next line
 with_line (Err fault) next = Err fault
 
--- these lines and behind them those of these texts
+-- the lines `before`, and then those of these texts, or the first fault
 abbrev pub read_behind : List Line → List (List ℕ) → Result (List Line) ReadFault
 read_behind before [] = Ok before
 read_behind before (text ∷ more) = with_line (line_behind before text) (λ line. read_behind (before ++ line ∷ []) more)
@@ -65,7 +64,7 @@ abbrev pub IsOutcome : List ℕ → Result (List Line) ReadFault → Type 0
 IsOutcome text (Ok lines) = IsPolicy lines × (join (texts lines) ≡ text)
 IsOutcome text (Err fault) = IsFaultOf text fault
 
--- what was returned is the outcome, unless memory ran out
+-- The result is the outcome, unless memory ran out.
 abbrev pub ReadGives : Result (List Line) ReadFault → Result (List Line) ReadFault → Type 0
 ReadGives (Ok lines) outcome = outcome ≡ Ok lines
 ReadGives (Err (Text fault)) outcome = outcome ≡ Err (Text fault)

@@ -6,7 +6,7 @@ use Rattle.sudoers_line.specs.Node.{Node}
 use Rattle.sudoers_line.specs.Line.{ReadsLine}
 use Rattle.sudoers_line_reader.specs.Outcome.{outcome_of}
 
--- The bytes are one logical line that says this; or they are none that says something.
+-- The bytes are one logical line that says this; or they are not one that parses.
 abbrev pub IsSaid : List ℕ → Option Node → Type 0
 IsSaid text (Some says) = IsLogicalLine text × ReadsLine text says
 IsSaid text None = (says : Node) → IsLogicalLine text → ReadsLine text says → ⊥

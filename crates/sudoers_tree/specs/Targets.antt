@@ -37,18 +37,18 @@ number_of name n (file ∷ more) = if bytes_eq name file.name then Some n else n
 abbrev pub is_before : List FileReading → ℕ → ℕ → Bool
 is_before files f g = is_lt (slice_cmp nat_cmp (name_of files f) (name_of files g))
 
--- a file among files that stand in the order of their names
+-- the files in the order of their names, with the file f inserted
 abbrev pub put_in_order : List FileReading → ℕ → List ℕ → List ℕ
 put_in_order files f [] = f ∷ []
 put_in_order files f (g ∷ more) = if is_before files f g then f ∷ g ∷ more else g ∷ put_in_order files f more
 
--- the numbers, in the order of their names, of the files of a folder among the last of the files, which are numbered from n on
+-- the numbers of the files to which an include of the folder leads, in the order of their names, among the last files, numbered from n on
 abbrev pub files_in : List FileReading → List ℕ → ℕ → List FileReading → List ℕ
 files_in files folder n [] = []
 files_in files folder n (file ∷ more) =
     if is_in_folder folder file.name then put_in_order files n (files_in files folder (n + 1) more) else files_in files folder (n + 1) more
 
--- The numbers of the files to which an include leads: the named one, or those of the folder. No list if the named file is not there.
+-- The numbers of the files to which an include leads: the named one, or those of the folder. No list if the named file is missing.
 abbrev pub targets : List FileReading → Lead → Option (List ℕ)
 targets files (File name) = option_map (λ f. f ∷ []) (number_of name 0 files)
 targets files (Dir dir) = Some (files_in files (dir ++ 47 ∷ []) 0 files)

@@ -9,7 +9,7 @@ use crate::line::LineRow;
 use std::alloc::{AllocError, Global};
 use sudoers_line_rows::{Rows, Tables};
 
-/// The text of lines with one more, before the line `at` or behind the last.
+/// Returns the text of `lines` with the line `line` inserted before the line with the number `at`, from 0, or after the last line.
 ///
 /// # Errors
 ///
@@ -31,7 +31,7 @@ pub fn text_with(
     Ok(text)
 }
 
-/// The text of lines without the line `at`.
+/// Returns the text of `lines` without the line with the number `at`, from 0.
 ///
 /// # Errors
 ///
@@ -52,7 +52,7 @@ pub fn text_without(
     Ok(text)
 }
 
-/// The text of lines of which the one at a place is another.
+/// Returns the text of `lines` with the line `line` in place of the one with the number `at`, from 0.
 ///
 /// # Errors
 ///
@@ -75,11 +75,11 @@ pub fn text_replaced(
     Ok(text)
 }
 
-/// Puts the texts of lines behind a text.
+/// Appends the texts of the lines `rows` to `text`.
 ///
 /// # Errors
 ///
-/// Want of memory alone; the text then still begins as it was.
+/// Want of memory alone. `text` then still begins with the bytes that it had.
 #[tactic(auto, using(crate::proofs::ChangedText::front_begins, crate::proofs::ChangedText::front_kept))]
 pub fn append_texts(tables: &Tables, rows: &[LineRow], text: &mut Vec<u8>) -> Result<(), AllocError>
     ensures appended { OnOk result (text.new.items ≡ text.old.items ++ join (texts (map (line_in tables.now) rows.now))) }

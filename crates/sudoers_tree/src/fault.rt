@@ -10,7 +10,7 @@ use sudoers_line::{Items, Kind, Why};
 use sudoers_text::TextFault;
 use thiserror::Error;
 
-/// Where and why a line says nothing: the physical line of its first fault, and the byte of that, both from 1.
+/// Where and why a line does not parse: the physical line and the byte in it of the first fault, both from 1.
 #[derive(Clone, Copy)]
 pub struct SyntaxFault {
     pub line: usize,
@@ -24,7 +24,7 @@ pub enum ReadFault {
     /// The text cannot be cut into lines. Want of memory is [`ReadFault::NoMemory`].
     #[error("{0}")]
     Text(TextFault),
-    /// A line says nothing: on this physical line and at this byte of it, both from 1, its first fault stands.
+    /// A line does not parse. Its first fault is on this physical line and at this byte of it, both from 1.
     #[error("syntax error at {line}:{col}")]
     Syntax { line: usize, col: usize, why: Why },
     /// A reserved word is defined as an alias.

@@ -27,8 +27,8 @@ use sudoers_line::Items;
 use sudoers_line_rows::Rows;
 use sudoers_text::Lines;
 
-/// A file that is read: its name, its lines among those of all, from the one with the number `start` up to that with the
-/// number `stop`, and the fault of the line behind them.
+/// A file that is read. Its lines are those with the numbers from `start` up to, but not with, `stop` among the lines of all files.
+/// `fault` is the fault of the line after them, if that line does not parse.
 #[derive(Drop)]
 struct Part {
     name: Items<u8>,
@@ -38,7 +38,7 @@ struct Part {
 }
 
 impl Part {
-    /// Returns the number among all lines of the line with the number `line` of the file, if there is one.
+    /// Returns the number among all lines of the line with the number `line` of the file, from 0. Returns nothing if there is none.
     fn number(&self, line: usize) -> Option<usize>
         ensures { result ≡ number_in self.now line }
     {
@@ -49,8 +49,8 @@ impl Part {
     }
 }
 
-/// Files that are read, and the walk over them. Contracts see of each file the name, the lines up to the first that says nothing,
-/// and the fault of that one; and the lines of the walk.
+/// Files that are read, and the walk over them. Contracts see the lines of the walk. Of each file they see the name, the lines up to the
+/// first that does not parse, and the fault of that line.
 #[derive(Drop)]
 pub struct Files {
     tree: Tree,
@@ -70,7 +70,7 @@ impl Model for Files {
 }
 
 impl Files {
-    /// Returns no files.
+    /// Returns no files, with room for `count`.
     ///
     /// # Errors
     ///
@@ -127,7 +127,7 @@ impl Files {
         }
     }
 
-    /// Returns the fault with which the reading of the file ended.
+    /// Returns the fault of the line of the file with the number `file` that does not parse, if there is one.
     pub fn fault(&self, file: usize) -> Option<SyntaxFault>
         ensures { result ≡ fault_of self.now.files file }
     {
@@ -144,7 +144,7 @@ impl Files {
         }
     }
 
-    /// Returns how many lines of the file are read.
+    /// Returns how many lines of the file with the number `file` are read.
     pub fn line_count(&self, file: usize) -> usize
         ensures { result ≡ length (lines_of self.now.files file) }
     {
@@ -154,7 +154,7 @@ impl Files {
         }
     }
 
-    /// Returns the line with the number `number` of a file, both from 0.
+    /// Returns the line with the number `number` of the file with the number `file`, both from 0.
     pub fn line(&self, file: usize, number: usize) -> Option<Line<'_>>
         ensures { option_map line_shown result ≡ slice_get (lines_of self.now.files file) number }
     {
@@ -198,11 +198,12 @@ impl Files {
         }
     }
 
-    /// Appends the line with the number `number` of a file to the walk, and enters the names that it defines.
+    /// Appends the line with the number `number` of the file with the number `file` to the walk, and enters the names that it defines into
+    /// `index`.
     ///
     /// # Errors
     ///
-    /// Why the first name that cannot be entered cannot, or `NoMemory`: memory ran out.
+    /// The fault of the first name that cannot be entered. `NoMemory`: memory ran out.
     pub fn pass(
         &mut self,
         alloc: Global,
@@ -232,8 +233,8 @@ impl Files {
         let _ = &self.parts;
     }
 
-    /// Returns the physical line on which the line behind the one with the number `number` of a file begins, from 1, if that one
-    /// begins on the physical line `row`.
+    /// Returns the physical line, from 1, on which the line begins that follows the line with the number `number` of the file with the
+    /// number `file`. That line begins on the physical line `row`.
     pub fn row_behind(&self, file: usize, number: usize, row: usize) -> usize
         requires { row ≡ row_of (lines_of self.now.files file) number }
         ensures { (line : LineOf) → slice_get (lines_of self.now.files file) number ≡ Some line → result ≡ row_of (lines_of self.now.files file) (number + 1) }
@@ -245,7 +246,7 @@ impl Files {
         }
     }
 
-    /// Returns the physical line on which the line with the number `number` of a file begins, from 1.
+    /// Returns the physical line, from 1, on which the line with the number `number` of the file with the number `file` begins.
     pub fn row(&self, file: usize, number: usize) -> usize
         ensures { result ≡ row_of (lines_of self.now.files file) number }
     {

@@ -27,7 +27,7 @@ pub struct Index {
 }
 
 impl Index {
-    /// No names.
+    /// Returns an index without names.
     pub fn new(alloc: Global) -> Index
         ensures { Indexes result [] }
     {
@@ -39,7 +39,7 @@ impl Index {
         }
     }
 
-    /// The names of this kind.
+    /// Returns the names of the kind `kind`.
     pub fn of(&self, kind: Kind) -> &Names
         ensures { result.now ≡ names_of kind self.now }
     {
@@ -51,11 +51,11 @@ impl Index {
         }
     }
 
-    /// Enters the names that the line with this number, from 0, defines.
+    /// Enters the names that the line with the number `line`, from 0, defines. The line says `node`.
     ///
     /// # Errors
     ///
-    /// Why the first that cannot be entered cannot.
+    /// The fault of the first name that cannot be entered. `NoMemory`: memory ran out.
     pub fn enter(&mut self, alloc: Global, line: usize, node: &Node<'_>) -> Result<(), ReadFault>
         ensures { (before : List Definition) → Indexes self.old before → Enters result self.new before (definitions_in line (node_shown node.now)) }
     {
@@ -71,7 +71,7 @@ impl Index {
     }
 }
 
-/// Enters the names of a line's definitions.
+/// Enters into `names` the names of the definitions `defs` of the line with the number `line`. They are of the kind `kind`.
 fn enter_all(
     alloc: Global,
     names: &mut Names,
@@ -93,7 +93,7 @@ fn enter_all(
     Ok(())
 }
 
-/// Why the name cannot be entered behind these.
+/// Returns why the name `name` of the kind `kind` cannot be entered after the names `names`. Returns nothing if it can.
 fn fault_of(
     alloc: Global,
     names: &Names,
@@ -117,7 +117,7 @@ fn fault_of(
     Ok(None)
 }
 
-/// Returns the first fault of a name that the line defines which says `node`, if it is that the name is reserved.
+/// Returns the fault of the first reserved word that a line defines which says `node`. Returns nothing if it defines none.
 ///
 /// # Errors
 ///
@@ -131,7 +131,7 @@ pub fn first_reserved(alloc: Global, node: &Node<'_>) -> Result<Option<ReadFault
     }
 }
 
-/// Returns the first fault of a name that these definitions define, if it is that the name is reserved.
+/// Returns the fault of the first reserved word that the definitions `defs` define. Returns nothing if they define none.
 fn reserved_of(
     alloc: Global,
     kind: Kind,

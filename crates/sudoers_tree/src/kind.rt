@@ -6,14 +6,14 @@ ghost use Rattle.sudoers_tree.specs.Kind.{line_kind};
 
 use sudoers_line_rows::Node;
 
-/// What sort of line it is (sudoers(5), SUDOERS FILE FORMAT).
+/// The kind of a line (sudoers(5), SUDOERS FILE FORMAT).
 #[derive(Clone, Copy, Debug, PartialEq, Eq)]
 pub enum LineKind {
-    /// Nothing.
+    /// Blanks alone, or nothing.
     Blank,
     /// A comment alone.
     Comment,
-    /// Another file, or all of a directory.
+    /// An include of a file or of a folder.
     Include,
     /// Settings of parameters.
     Defaults,
@@ -24,7 +24,7 @@ pub enum LineKind {
 }
 
 impl LineKind {
-    /// The kind of a line that says this.
+    /// Returns the kind of a line that says `node`.
     pub fn of(node: &Node<'_>) -> LineKind
         ensures { result ≡ line_kind (node_shown node.now) }
     {

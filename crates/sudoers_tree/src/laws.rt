@@ -103,7 +103,7 @@ pub fn whole_lines_are_read()
     whole_lines_of_join();
 }
 
-/// What is computed of the lines of a text is how they read, and they read in no other way.
+/// `read_until` computes of the lines of a text what `Reads` defines, and `Reads` defines no other outcome.
 pub fn reads_is()
     ensures is { (lines : List (List ℕ)) → Reads lines (read_until [] lines).0 (read_until [] lines).1 }
     ensures one { (lines : List (List ℕ)) (read : List LineOf) (fault : Option SyntaxFaultOf) → Reads lines read fault → read_until [] lines ≡ (read, fault) }
@@ -114,21 +114,21 @@ pub fn reads_is()
     one_fault();
 }
 
-/// The lines of the walk over files that are loaded are a walk: each says what is kept of it, and their names can stand.
+/// The lines of the walk over loaded files are a walk: each says what is kept of it, and no name that they define has a fault.
 pub fn loaded_is_walk()
     ensures { (files : List NamedFileOf) (policy : Loaded) → load_of files ≡ Ok policy → IsWalk policy.walk.lines }
 {
     outcome_is();
 }
 
-/// Each line of the walk over files that are loaded stands at its spot.
+/// Each line of the walk over loaded files stands at its spot.
 pub fn loaded_lines_stand()
     ensures { (files : List NamedFileOf) (policy : Loaded) → load_of files ≡ Ok policy → StandAt policy.files policy.walk.spots policy.walk.lines }
 {
     outcome_is();
 }
 
-/// Each line of the walk over files that are loaded is one logical line.
+/// Each line of the walk over loaded files is one logical line.
 pub fn loaded_lines_are_whole()
     ensures { (files : List NamedFileOf) (policy : Loaded) → load_of files ≡ Ok policy → AllByRecursion IsLogicalLine (texts policy.walk.lines) }
 {
@@ -138,8 +138,8 @@ pub fn loaded_lines_are_whole()
     whole_line_is();
 }
 
-/// Each file is on the walk over files that are loaded at most once. All its lines are within the limit of as many texts as there may
-/// be files.
+/// Each file is at most once on the walk over loaded files. The lines of the walk together are at most as long as the limit of a text
+/// times the limit of files.
 pub fn loaded_is_within()
     ensures once { (files : List NamedFileOf) (policy : Loaded) → load_of files ≡ Ok policy → IsDistinct nat_eq policy.walk.on }
     ensures within { (files : List NamedFileOf) (policy : Loaded) → load_of files ≡ Ok policy → length (join (texts policy.walk.lines)) ≤ file_limit * text_limit }
@@ -147,7 +147,7 @@ pub fn loaded_is_within()
     cut_is();
 }
 
-/// The walk over files that is computed is the walk that is defined, and there is no other.
+/// `walk_of` computes the walk over files that `IsWalkOf` defines, and `IsWalkOf` defines no other.
 #[tactic(auto, using(crate::proofs::WalkOutcomes::walk_goes, crate::proofs::WalkOutcomes::one_walk))]
 pub fn walk_is()
     ensures is { (files : List FileReading) → IsWalkOf files (walk_of files) }

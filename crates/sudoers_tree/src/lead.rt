@@ -45,7 +45,7 @@ fn without_slashes(name: &[u8]) -> &[u8]
     front
 }
 
-/// Returns what `path` means in the file `name`.
+/// Returns the name to which `path` leads in the file `name`: `path` itself if it begins with `/`, else the folder of the file and `path`.
 fn resolve(alloc: Global, name: &[u8], path: &[u8]) -> Result<Vec<u8>, AllocError>
     ensures { IfOk result (λ whole. whole.items ≡ resolved name.now path.now) }
 {
@@ -57,7 +57,7 @@ fn resolve(alloc: Global, name: &[u8], path: &[u8]) -> Result<Vec<u8>, AllocErro
     Ok(whole)
 }
 
-/// Returns where a line of the file `name` leads that says `node`.
+/// Returns where a line that says `node` leads in the file `name`.
 ///
 /// # Errors
 ///
@@ -85,7 +85,7 @@ pub fn may_lead(text: &[u8]) -> bool
     memmem::find(text, b"include").is_some()
 }
 
-/// Returns where the line `line` of the file `name` leads. Bytes that are no line that says something lead nowhere.
+/// Returns where the line `line` of the file `name` leads. Bytes that are not one line that parses lead nowhere.
 ///
 /// # Errors
 ///
@@ -99,7 +99,7 @@ pub fn leads(alloc: Global, name: &[u8], line: &[u8]) -> Result<Option<Lead>, Al
     lead_said(alloc, name, line)
 }
 
-/// Returns where the line `line` of the file `name` leads, by what it says.
+/// Returns where the line `line` of the file `name` leads. Parses the line for that.
 fn lead_said(alloc: Global, name: &[u8], line: &[u8]) -> Result<Option<Lead>, AllocError>
     ensures { IfOk result (λ lead. lead ≡ leads name.now line.now) }
 {

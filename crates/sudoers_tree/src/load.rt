@@ -1,4 +1,4 @@
-//! Files as they are handed in.
+//! The files of a policy, with their bytes.
 
 ghost use Rattle.std.specs.Prelude.{◌≡◌, ◌⊎◌, [], IfOk, MatchResult, Ok, Err};
 ghost use Rattle.sudoers_tree.specs.declared.load_fault.LoadFault.TheVariants.{NoMemory};
@@ -14,14 +14,14 @@ use sudoers_text::{TextFault, cut};
 /// How many files a policy may have.
 pub const FILE_LIMIT: usize = 256;
 
-/// A file as it is handed in.
+/// A file of a policy: its name and its bytes.
 #[derive(Drop)]
 pub struct NamedFile {
     pub name: Items<u8>,
     pub bytes: Items<u8>,
 }
 
-/// Returns a copy of the first name that an earlier file has too.
+/// Returns a copy of the first name of the files `files` that an earlier file has too.
 pub fn first_repeated(alloc: Global, files: &[NamedFile]) -> Result<Option<Items<u8>>, AllocError>
     ensures { IfOk result (λ name. name ≡ first_repeated [] files.now) }
 {
@@ -34,7 +34,7 @@ pub fn first_repeated(alloc: Global, files: &[NamedFile]) -> Result<Option<Items
     Ok(None)
 }
 
-/// Returns whether one of the files has this name.
+/// Returns whether one of the files `files` has the name `name`.
 pub fn has_name(files: &[NamedFile], name: &[u8]) -> bool
     ensures { result ≡ has_name name.now files.now }
 {
@@ -46,7 +46,7 @@ pub fn has_name(files: &[NamedFile], name: &[u8]) -> bool
     false
 }
 
-/// Reads the files up to the first whose text cannot be cut.
+/// Returns the files `files` as they are read. If the text of a file cannot be cut into lines, returns the fault of the first such file.
 pub fn read_files(alloc: Global, files: &[NamedFile]) -> Result<Files, LoadFault>
     ensures { MatchResult result (λ read. readings [] files.now ≡ Ok read.files × (read.walk ≡ []))
         (λ fault. (fault ≡ NoMemory) ⊎ (readings [] files.now ≡ Err fault)) }

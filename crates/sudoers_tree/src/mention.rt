@@ -11,7 +11,7 @@ use std::alloc::{AllocError, Global};
 use sudoers_line::{AliasMember, Kind};
 use sudoers_line_rows::{Node, alias_members};
 
-/// Appends where the name is mentioned in a list of this kind in what the line with this number, from 0, says.
+/// Appends where the line with the number `line`, from 0, mentions the name `name` in a list of the kind `kind`. The line says `node`.
 ///
 /// # Errors
 ///
@@ -52,7 +52,7 @@ fn append_places(
     Ok(())
 }
 
-/// Returns whether the kinds are the same.
+/// Returns whether the kinds `kind` and `other` are the same.
 pub fn is_kind(kind: Kind, other: Kind) -> bool
     ensures { result ≡ same_kind kind other }
 {

@@ -8,7 +8,7 @@ use indexmap::IndexMap;
 use std::alloc::{AllocError, Global};
 use std::marker::Model;
 
-/// Names with the places of their definitions, in file order.
+/// Names with the places of their definitions, in the order in which they were entered.
 #[derive(Drop)]
 pub struct Names {
     places: IndexMap<Vec<u8>, Place>,
@@ -24,7 +24,7 @@ impl Model for Names {
 }
 
 impl Names {
-    /// No names.
+    /// Returns no names.
     pub fn new(alloc: Global) -> Names
         ensures { result ≡ [] }
     {
@@ -33,21 +33,21 @@ impl Names {
         }
     }
 
-    /// How many names there are.
+    /// Returns how many names there are.
     pub fn len(&self) -> usize
         ensures { result ≡ length self.now }
     {
         self.places.len()
     }
 
-    /// Where the name is defined.
+    /// Returns where the name `name` is defined.
     pub fn get(&self, name: &[u8]) -> Option<Place>
         ensures { result ≡ named name.now self.now }
     {
         self.places.get(name).copied()
     }
 
-    /// A name more.
+    /// Appends the name `name` with the place `place` of its definition.
     ///
     /// # Errors
     ///

@@ -40,7 +40,7 @@ use sudoers_line_reader::laws::outcome_is;
 use sudoers_line_rows::{MemberRow, Node, Rows};
 use sudoers_text::{Lines, cut};
 
-/// A policy of one text. Of its include lines none is followed. Contracts see the list of its lines with what they say.
+/// A policy of one text. No include line of it is followed. Contracts see the list of its lines with what they say.
 #[derive(Drop)]
 pub struct OneFile {
     lines: Box<Indexed>,
@@ -75,35 +75,35 @@ impl Model for OneFile {
 }
 
 impl OneFile {
-    /// The policy that a text is (sudoers(5), SUDOERS FILE FORMAT).
+    /// Returns the policy that `text` is (sudoers(5), SUDOERS FILE FORMAT).
     ///
     /// # Errors
     ///
-    /// [`ReadFault`]: what is wrong with the text's cut into lines; else the first line with a fault: that it says nothing, or
-    /// the first of its definitions that cannot stand, as its name is reserved, defined already, or one too many.
+    /// [`ReadFault`]: the text cannot be cut into lines; else the first fault of the first line that has one. Such a line does not
+    /// parse, or defines a name that is reserved, defined already, or one too many.
     pub fn read(alloc: Global, text: &[u8]) -> Result<OneFile, ReadFault>
-        // What is given is a policy, and the text is its lines joined.
+        // The result is a policy, and its lines, joined, are the text.
         ensures policy { IfOk result (λ lines. IsPolicy lines × (join (texts lines) ≡ text.now)) }
-        // A fault is the text's first, or memory ran out.
+        // A fault is the first one of the text, or memory ran out.
         ensures fault { IfErr result (λ fault. (fault ≡ ReadFault.NoMemory) ⊎ IsFaultOf text.now fault) }
-        // In one word: the text's outcome, of which there is exactly one.
+        // The result is the outcome of the text, of which there is exactly one, unless memory ran out.
         ensures outcome { ReadGives result (read_of text.now) }
     {
         read_knowing(alloc, None, text)
     }
 
-    /// Returns the policy that `text` is, as [`OneFile::read`] does. A line of this policy that stands there at the same place,
-    /// or beside it, is not read again.
+    /// Returns the policy that `text` is, as [`OneFile::read`] does. A line that this policy has at the same place, or beside it, is not
+    /// read again.
     ///
     /// # Errors
     ///
     /// Those of [`OneFile::read`].
     pub fn reread(&self, text: &[u8]) -> Result<OneFile, ReadFault>
-        // What is given is a policy, and the text is its lines joined.
+        // The result is a policy, and its lines, joined, are the text.
         ensures policy { IfOk result (λ lines. IsPolicy lines × (join (texts lines) ≡ text.now)) }
-        // A fault is the text's first, or memory ran out.
+        // A fault is the first one of the text, or memory ran out.
         ensures fault { IfErr result (λ fault. (fault ≡ ReadFault.NoMemory) ⊎ IsFaultOf text.now fault) }
-        // In one word: the text's outcome, of which there is exactly one.
+        // The result is the outcome of the text, of which there is exactly one, unless memory ran out.
         ensures outcome { ReadGives result (read_of text.now) }
     {
         let tree = &self.lines.tree;
@@ -135,7 +135,7 @@ impl OneFile {
         let _ = &self.lines;
     }
 
-    /// The text, byte for byte.
+    /// Returns the text, byte for byte.
     ///
     /// # Errors
     ///
@@ -149,7 +149,7 @@ impl OneFile {
         Ok(text)
     }
 
-    /// Puts a line before the line at a place, or behind the last.
+    /// Inserts the line `line` before the line with the number `at`, from 0, or after the last line.
     ///
     /// # Errors
     ///
@@ -169,7 +169,7 @@ impl OneFile {
         Ok(())
     }
 
-    /// Takes the line at a place out.
+    /// Removes the line with the number `at`, from 0.
     ///
     /// # Errors
     ///
@@ -188,7 +188,7 @@ impl OneFile {
         Ok(())
     }
 
-    /// Puts another line in the place of one.
+    /// Replaces the line with the number `at`, from 0, by the line `line`.
     ///
     /// # Errors
     ///
@@ -209,61 +209,61 @@ impl OneFile {
         Ok(())
     }
 
-    /// How many lines there are.
+    /// Returns how many lines there are.
     pub fn len(&self) -> usize
         ensures { result ≡ length self.now }
     {
         self.walk().lines().rows.len()
     }
 
-    /// The lines with what they say.
+    /// Returns the lines with what they say.
     pub fn lines(&self) -> Rows<'_, LineRow>
         ensures { lines_shown result ≡ self.now }
     {
         self.walk().lines()
     }
 
-    /// The allocator of its lines.
+    /// Returns the allocator of the lines.
     pub fn allocator(&self) -> Global {
         self.alloc
     }
 
-    /// The text of a line, its line end included. Lines count from 0; none stands past the last.
+    /// Returns the text of the line with the number `i`, from 0, its line end included. Returns nothing past the last line.
     pub fn line(&self, i: usize) -> Option<&[u8]>
         ensures { option_copied result ≡ option_map (λ (line : LineOf). line.text) (slice_get self.now i) }
     {
         Some(self.walk().line(i)?.text)
     }
 
-    /// The kind of a line.
+    /// Returns the kind of the line with the number `i`, from 0.
     pub fn line_kind(&self, i: usize) -> Option<LineKind>
         ensures { result ≡ option_map (λ (line : LineOf). line_kind line.node) (slice_get self.now i) }
     {
         Some(LineKind::of(&self.node(i)?))
     }
 
-    /// What a line says.
+    /// Returns what the line with the number `i`, from 0, says.
     pub fn node(&self, i: usize) -> Option<Node<'_>>
         ensures { option_map node_shown result ≡ option_map (λ (line : LineOf). line.node) (slice_get self.now i) }
     {
         self.walk().node(i)
     }
 
-    /// Where the name is defined as an alias of this kind.
+    /// Returns where the name `name` is defined as an alias of the kind `kind`.
     pub fn definition(&self, kind: Kind, name: &[u8]) -> Option<Place>
         ensures { result ≡ place_of kind name.now self.now }
     {
         self.walk().definition(kind, name)
     }
 
-    /// The members of the alias.
+    /// Returns the members of the alias `name` of the kind `kind`.
     pub fn members(&self, kind: Kind, name: &[u8]) -> Option<Rows<'_, MemberRow>>
         ensures { option_map members_shown result ≡ members_of kind name.now self.now }
     {
         self.walk().members(kind, name)
     }
 
-    /// Where the name stands as a member of a list of this kind, in file order.
+    /// Returns where the name `name` stands as a member of a list of the kind `kind`, in the order of the lines.
     ///
     /// # Errors
     ///
@@ -281,7 +281,7 @@ impl OneFile {
     }
 }
 
-/// Returns the policy that a text is. What the lines of `known` say is not read again.
+/// Returns the policy that `text` is. A line that `known` has at the same place, or beside it, is not read again.
 fn read_knowing(alloc: Global, known: Option<&Tree>, text: &[u8]) -> Result<OneFile, ReadFault>
     ensures policy { IfOk result (λ lines. IsPolicy lines × (join (texts lines) ≡ text.now)) }
     ensures fault { IfErr result (λ fault. (fault ≡ ReadFault.NoMemory) ⊎ IsFaultOf text.now fault) }
@@ -298,7 +298,8 @@ fn read_knowing(alloc: Global, known: Option<&Tree>, text: &[u8]) -> Result<OneF
     })
 }
 
-/// Reads lines into a tree of no lines, puts them onto the walk, and returns the names that they define, or the first fault.
+/// Reads the lines `lines` into `tree`, which has no lines, and appends them to its walk. Returns the names that they define, or the first
+/// fault.
 fn read_walk(alloc: Global, tree: &mut Tree, lines: &Lines<'_>) -> Result<Index, ReadFault>
     requires empty { tree.old ≡ no_lines }
     requires fits { length (join lines.now) ≤ text_limit }

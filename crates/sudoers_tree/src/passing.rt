@@ -1,4 +1,4 @@
-//! Lines that come onto the walk, with the names that they define.
+//! Appending lines to the walk, and entering the names that they define.
 
 ghost use Rattle.std.specs.Prelude.{◌≡◌, [], slice_get, OnOk, Some};
 ghost use Rattle.sudoers_tree.specs.Definition.{definitions};
@@ -11,11 +11,11 @@ use crate::index::Index;
 use crate::tree::Tree;
 use std::alloc::Global;
 
-/// Appends the line with the number `at`, from 0, of those that are read to the walk, and enters the names that it defines.
+/// Appends the line with the number `at`, from 0, of `tree` to its walk, and enters the names that it defines into `index`.
 ///
 /// # Errors
 ///
-/// Why the first name that cannot be entered cannot, or `NoMemory`: memory ran out.
+/// The fault of the first name that cannot be entered. `NoMemory`: memory ran out.
 pub fn pass_line(
     alloc: Global,
     tree: &mut Tree,
@@ -36,11 +36,11 @@ pub fn pass_line(
     Ok(())
 }
 
-/// Appends all lines that are read to the walk, on which there is none yet, and enters the names that they define.
+/// Appends all lines of `tree` to its walk, which is empty, and enters the names that they define into `index`.
 ///
 /// # Errors
 ///
-/// Why the first name that cannot be entered cannot, or `NoMemory`: memory ran out.
+/// The fault of the first name that cannot be entered. `NoMemory`: memory ran out.
 pub fn pass_all(alloc: Global, tree: &mut Tree, index: &mut Index) -> Result<(), ReadFault>
     requires none { tree.old.walk ≡ [] }
     requires index { Indexes index.old [] }

@@ -1,13 +1,13 @@
 //! Places in a policy.
 
-/// A definition: its line, and which it is in that line, both from 0.
+/// The place of a definition: the number of its line, and its number in that line, both from 0.
 #[derive(Clone, Copy, Debug, PartialEq, Eq)]
 pub struct Place {
     pub line: usize,
     pub def: usize,
 }
 
-/// A part of a line: the line, from 0, and the bytes of it from `start` up to `stop`, from 0.
+/// A part of a line: the number of the line, and its offsets from `start` up to, but not with, `stop`, all from 0.
 #[derive(Clone, Copy, Debug, PartialEq, Eq)]
 pub struct Span {
     pub line: usize,

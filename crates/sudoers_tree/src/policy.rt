@@ -127,7 +127,8 @@ impl Policy {
         self.walking.files.files_fit();
     }
 
-    /// A law: each line of the walk has a spot, at which it stands. Row and text of the line are within the limits of two texts.
+    /// A law: each line of the walk stands at its spot. Its row and the length of its text together are at most twice the limit of a text,
+    /// plus one.
     pub fn lines_stand(&self)
         ensures count { length self.now.walk.spots ≡ length self.now.walk.lines }
         ensures stand { (number : ℕ) (line : LineOf) → slice_get self.now.walk.lines number ≡ Some line → HasSpot self.now number line }

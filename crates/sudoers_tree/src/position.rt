@@ -20,7 +20,7 @@ pub fn lf_count(bytes: &[u8]) -> usize
     count
 }
 
-/// Returns the column of the byte behind `bytes`, from 1.
+/// Returns the column of the byte after `bytes`, from 1.
 pub fn column_behind(bytes: &[u8]) -> usize
     ensures { result ≡ column_behind bytes.now }
 {

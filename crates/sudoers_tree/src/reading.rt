@@ -1,4 +1,4 @@
-//! Lines of a text that are read, up to the first that says nothing.
+//! Reading the lines of a text, up to the first that does not parse.
 
 ghost use Rattle.std.specs.Prelude.{◌≡◌, ◌≤◌, ◌+◌, [], length, take, IfOk};
 ghost use Rattle.sudoers_text.specs.Line.{join};
@@ -14,12 +14,12 @@ use std::alloc::{AllocError, Global};
 use sudoers_line::{LineFault, Why};
 use sudoers_text::Lines;
 
-/// Returns the fault at the byte `at` of a line of this text, which begins on the physical line `row`.
+/// Returns the fault `why` at the byte `at` of the line `text`, which begins on the physical line `row`.
 fn fault_at(row: usize, text: &[u8], at: usize, why: Why) -> SyntaxFault
     requires { row + length text.now ≤ 1048577 }
     ensures { result ≡ fault_at row text.now at why }
 {
-    // It stands in the line or at its end.
+    // The byte stands in the line or at its end.
     let before = &text[..at.min(text.len())];
     SyntaxFault {
         line: row + lf_count(before),
@@ -28,7 +28,7 @@ fn fault_at(row: usize, text: &[u8], at: usize, why: Why) -> SyntaxFault
     }
 }
 
-/// Returns the physical line behind the first `number` of these lines, from 1.
+/// Returns the physical line, from 1, that follows the first `number` of the lines `lines`.
 fn row_behind(lines: &Lines<'_>, number: usize) -> usize
     requires there { number ≤ length lines.now }
     requires fits { length (join lines.now) ≤ text_limit }
@@ -44,7 +44,8 @@ fn row_behind(lines: &Lines<'_>, number: usize) -> usize
     row
 }
 
-/// Reads the lines `lines` up to the first that says nothing, appends them to those of `tree`, and returns the fault of that one.
+/// Reads the lines `lines` up to the first that does not parse, and appends them to those of `tree`. Returns the fault of the line that
+/// does not parse, if there is one.
 ///
 /// # Errors
 ///

@@ -9,15 +9,15 @@ use sudoers_line_reader::{Reading, parse};
 use sudoers_text::is_logical_line;
 use sudoers_text::laws::whole_line_is;
 
-/// What the bytes say, where they are one logical line that says something. How long they are is no matter here.
+/// Returns what the bytes `text` say, if they are one logical line that parses. Their length does not matter.
 ///
 /// # Errors
 ///
 /// Want of memory alone.
 pub fn read_line(alloc: Global, text: &[u8]) -> Result<Option<Reading>, AllocError>
-    // What is given is what the line says, and where nothing is given the bytes are no line that says something.
+    // The result is what the line says. If it is nothing, the bytes are not one line that parses.
     ensures line { IfOk result (IsSaid text.now) }
-    // In one word: what is computed.
+    // The result is what `said` computes.
     ensures said { IfOk result (λ says. says ≡ said text.now) }
 {
     whole_line_is();

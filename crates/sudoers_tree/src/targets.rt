@@ -17,7 +17,7 @@ fn has_byte(byte: u8, bytes: &[u8]) -> bool
     memchr(byte, bytes).is_some()
 }
 
-/// Returns whether the last byte is `~`.
+/// Returns whether the last byte of `name` is `~`.
 fn ends_in_tilde(name: &[u8]) -> bool
     ensures { result ≡ ends_in_tilde name.now }
 {
@@ -52,7 +52,7 @@ fn is_in_folder(folder: &[u8], name: &[u8]) -> bool
     folder_of(name) == folder && is_base(base_of(name))
 }
 
-/// Returns the number of the file of this name, from 0.
+/// Returns the number, from 0, of the first file with the name `name`. Returns nothing if there is none.
 fn number_of(files: &Files, name: &[u8]) -> Option<usize>
     ensures { result ≡ number_of name.now 0 files.now.files }
 {
@@ -71,7 +71,7 @@ fn is_before(files: &Files, file: usize, other: usize) -> bool
     files.name(file).cmp(files.name(other)) == Ordering::Less
 }
 
-/// Inserts a file among files that stand in the order of their names.
+/// Inserts the file `file` into `order`, whose files are in the order of their names.
 fn put_in_order(files: &Files, file: usize, order: &mut Vec<usize>) -> Result<(), AllocError>
     ensures { OnOk result (order.new.items ≡ put_in_order files.now.files file order.old.items) }
 {
@@ -85,7 +85,8 @@ fn put_in_order(files: &Files, file: usize, order: &mut Vec<usize>) -> Result<()
     Ok(())
 }
 
-/// Returns the numbers of the files of a folder in the order of their names.
+/// Returns the numbers of the files to which an include of the folder `folder` leads, in the order of their names. The name of the folder
+/// ends in `/`.
 fn files_in(alloc: Global, files: &Files, folder: &[u8]) -> Result<Vec<usize>, AllocError>
     ensures { IfOk result (λ inner. inner.items ≡ files_in files.now.files folder.now 0 files.now.files) }
 {
@@ -100,7 +101,7 @@ fn files_in(alloc: Global, files: &Files, folder: &[u8]) -> Result<Vec<usize>, A
     Ok(inner)
 }
 
-/// Returns the numbers of the files to which an include leads; nothing if the named file is not there.
+/// Returns the numbers of the files to which `lead` leads. Returns nothing if a named file is missing.
 ///
 /// # Errors
 ///

@@ -1,4 +1,4 @@
-//! The lines of a policy in file order, with the names that they define.
+//! The lines of a policy in the order of the walk, with the names that they define.
 
 ghost use Rattle.std.specs.Prelude.{◌≡◌, ◌≤◌, ◌*◌, length, slice_get};
 ghost use Rattle.std.specs.Option.{option_map};
@@ -20,7 +20,7 @@ use std::marker::Model;
 use sudoers_line::Kind;
 use sudoers_line_rows::{DefRow, MemberRow, Node, Rows};
 
-/// Lines in file order with what they say, and the names that they define. Contracts see the list of the lines.
+/// Lines in the order of the walk with what they say, and the names that they define. Contracts see the list of the lines.
 #[derive(Drop)]
 pub struct Walk<'a> {
     tree: &'a Tree,
@@ -46,7 +46,7 @@ impl<'a> Model for Walk<'a> {
 }
 
 impl<'a> Walk<'a> {
-    /// Returns the walk of `tree`, the names of whose lines are those of `index`.
+    /// Returns the walk of `tree`. `index` has the names that its lines define.
     pub(crate) fn of(tree: &'a Tree, index: &'a Index) -> Walk<'a>
         requires walk { IsWalk tree.now.walk }
         requires index { Indexes index.now (definitions tree.now.walk) }
@@ -63,7 +63,7 @@ impl<'a> Walk<'a> {
         let _ = &self.tree;
     }
 
-    /// A law: the texts are within the limits of as many files as a policy may have.
+    /// A law: the texts together are at most as long as the limit of a text times the limit of files.
     pub fn is_within_limit(&self)
         ensures { length (join (texts self.now)) ≤ file_limit * text_limit }
     {
@@ -95,14 +95,14 @@ impl<'a> Walk<'a> {
         Some(self.line(i)?.node)
     }
 
-    /// Returns where the alias `name` of this kind is defined (sudoers(5), Aliases).
+    /// Returns where the alias `name` of the kind `kind` is defined (sudoers(5), Aliases).
     pub fn definition(&self, kind: Kind, name: &[u8]) -> Option<Place>
         ensures { result ≡ place_of kind name.now self.now }
     {
         self.index.of(kind).get(name)
     }
 
-    /// Returns the members of the alias `name` of this kind.
+    /// Returns the members of the alias `name` of the kind `kind`.
     pub fn members(&self, kind: Kind, name: &[u8]) -> Option<Rows<'a, MemberRow>>
         ensures { option_map members_shown result ≡ members_of kind name.now self.now }
     {
@@ -114,7 +114,7 @@ impl<'a> Walk<'a> {
     }
 }
 
-/// Returns the members of the definition at a place, from 0.
+/// Returns the members of the definition with the number `at`, from 0, of `defs`.
 fn members_at<'a>(defs: &Rows<'a, DefRow>, at: usize) -> Option<Rows<'a, MemberRow>>
     ensures { option_map members_shown result ≡ option_map (λ (d : DefOf). d.members) (slice_get (defs_shown defs.now) at) }
 {

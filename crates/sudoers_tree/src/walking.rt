@@ -27,8 +27,8 @@ use sudoers_line_rows::Rows;
 /// How deep files may be nested below the first.
 const DEPTH_LIMIT: usize = 128;
 
-/// What is on the walk over files: lines, where each stands, the files in the order in which they came onto it, and the names that
-/// the lines define.
+/// A walk over files. `spots` has the spot of each of its lines, `on` the numbers of its files in their order, and `index` the names that
+/// its lines define.
 #[derive(Drop)]
 pub struct Walking {
     pub files: Files,
@@ -38,7 +38,7 @@ pub struct Walking {
 }
 
 impl Walking {
-    /// Returns a walk over `files` on which there is nothing yet.
+    /// Returns an empty walk over `files`.
     pub fn new(alloc: Global, files: Files) -> Walking
         requires { files.walk ≡ [] }
         ensures { IsWalking result × (walked result ≡ nothing) × (result.files.files ≡ files.files) }
@@ -58,14 +58,14 @@ impl Walking {
         self.files.walk()
     }
 
-    /// Returns a copy of the name of the file with this number.
+    /// Returns a copy of the name of the file with the number `file`.
     fn name(&self, alloc: Global, file: usize) -> Result<Items<u8>, AllocError>
         ensures { IfOk result (λ name. name ≡ name_of self.now.files.files file) }
     {
         Items::from_slice(alloc, self.files.name(file))
     }
 
-    /// Returns a fault of the file with this number.
+    /// Returns `fault` as a fault of the file with the number `file`. Returns `NoMemory` if memory ran out.
     fn in_file(&self, alloc: Global, file: usize, fault: ReadFault) -> LoadFault
         ensures { (result ≡ NoMemory) ⊎ (result ≡ InFile (name_of self.now.files.files file) fault) }
     {
@@ -75,7 +75,7 @@ impl Walking {
         }
     }
 
-    /// Returns the fault that the line at `at` includes the file with this number, which is on the walk already.
+    /// Returns the fault of the line at `at`: it includes the file with the number `file`, which is on the walk already.
     fn twice(&self, alloc: Global, at: Spot, file: usize) -> Result<LoadFault, AllocError>
         ensures { IfOk result (λ fault. fault ≡ twice self.now.files.files (site self.now.files.files at.file at.line) file) }
     {
@@ -88,7 +88,7 @@ impl Walking {
         })
     }
 
-    /// Returns the fault that the line at `at` leads to a file that is not there.
+    /// Returns the fault of the line at `at`: it leads by `lead` to a file that is missing.
     fn not_loaded(&self, alloc: Global, at: Spot, lead: Lead) -> Result<LoadFault, AllocError>
         ensures { IfOk result (λ fault. fault ≡ InFile (name_of self.now.files.files at.file) (NotLoaded (site self.now.files.files at.file at.line).row (lead_name lead))) }
     {
@@ -102,7 +102,7 @@ impl Walking {
         })
     }
 
-    /// Returns the fault that the line at `at` includes a file that is nested too deep.
+    /// Returns the fault of the line at `at`: it includes a file that is nested too deep.
     fn too_deep(&self, alloc: Global, at: Spot) -> Result<LoadFault, AllocError>
         ensures { IfOk result (λ fault. fault ≡ InFile (name_of self.now.files.files at.file) (TooDeep (site self.now.files.files at.file at.line).row)) }
     {
@@ -114,14 +114,14 @@ impl Walking {
         })
     }
 
-    /// Returns whether the file is on the walk.
+    /// Returns whether the file with the number `file` is on the walk.
     fn is_on(&self, file: usize) -> bool
         ensures { result ≡ is_on (walked self.now) file }
     {
         self.on.contains(&file)
     }
 
-    /// Returns the first of these files that is on the walk.
+    /// Returns the first of the files `files` that is on the walk.
     fn first_on(&self, files: &[usize]) -> Option<usize>
         ensures { result ≡ first_on (walked self.now) files.now }
     {
@@ -133,7 +133,7 @@ impl Walking {
         None
     }
 
-    /// Appends the line at `at` to the walk, with the names that it defines.
+    /// Appends the line at `at` to the walk, and enters the names that it defines into the index.
     fn take(&mut self, alloc: Global, at: Spot) -> Result<(), LoadFault>
         requires { IsWalking self.old }
         ensures kept { OnOk result ((self.new.files.files ≡ self.old.files.files) × IsWalking self.new) }
@@ -150,7 +150,7 @@ impl Walking {
         Ok(())
     }
 
-    /// Returns the files to which the line at `at` leads.
+    /// Returns the files to which the line at `at` leads. A file that is missing or on the walk already is a fault.
     fn open(&self, alloc: Global, at: Spot) -> Result<Vec<usize>, LoadFault>
         ensures { (line : LineOf) → slice_get (lines_of self.now.files.files at.file) at.line ≡ Some line
             → MatchResult result
@@ -172,7 +172,7 @@ impl Walking {
         Ok(inner)
     }
 
-    /// Returns the fault with which the reading of a file ended, if there is one.
+    /// Returns `Ok` if each line of the file with the number `file` parses, and else the fault of the first line that does not.
     fn end(&self, alloc: Global, file: usize) -> Result<(), LoadFault>
         ensures { MatchResult result
             (λ _. fault_of self.now.files.files file ≡ None)
@@ -184,7 +184,7 @@ impl Walking {
         }
     }
 
-    /// Walks over all that the first file leads to, and looks at the other files.
+    /// Walks over the first file and the files to which it leads. Then returns the first fault of the other files, if there is one.
     pub fn walk_all(&mut self, alloc: Global) -> Result<(), LoadFault>
         requires walking { IsWalking self.old }
         requires nothing { walked self.old ≡ nothing }
@@ -194,7 +194,7 @@ impl Walking {
         self.look_off(alloc)
     }
 
-    /// Looks at the files that are not on the walk, and returns the first fault of one.
+    /// Returns the first fault of the files that are not on the walk, if there is one.
     fn look_off(&self, alloc: Global) -> Result<(), LoadFault>
         ensures { MatchResult result (λ _. unless_off (walked self.now) 0 self.now.files.files ≡ Ok (walked self.now))
             (λ fault. (fault ≡ NoMemory) ⊎ (unless_off (walked self.now) 0 self.now.files.files ≡ Err fault)) }
@@ -211,7 +211,8 @@ impl Walking {
     }
 
     #[cycle(walk)]
-    /// Goes on with a file. Below it files may be nested `left` levels deep.
+    /// Appends the lines of the file `file` to the walk, each include line followed by the lines of the files to which it leads. Below the
+    /// file `file` files may be nested `left` levels deep.
     fn take_file(&mut self, alloc: Global, left: usize, file: usize) -> Result<(), LoadFault>
         requires { IsWalking self.old }
         ensures { Comes result self.old self.new
@@ -229,7 +230,8 @@ impl Walking {
     }
 
     #[cycle(walk)]
-    /// Goes on with the files to which the line at `at` leads. Below its file files may be nested `left` levels deep.
+    /// Appends to the walk the lines of the files to which the line at `at` leads. Below the file of that line, files may be nested `left`
+    /// levels deep.
     fn follow(&mut self, alloc: Global, left: usize, at: Spot) -> Result<(), LoadFault>
         requires { IsWalking self.old }
         ensures { (line : LineOf) → slice_get (lines_of self.old.files.files at.file) at.line ≡ Some line
@@ -249,7 +251,8 @@ impl Walking {
 
     #[tactic(auto, using(crate::proofs::Visits::visit_below))]
     #[cycle(walk)]
-    /// Goes on with a file to which the line at `at` leads, where files may be nested `left` levels deeper.
+    /// Appends to the walk the lines of the file `file`, to which the line at `at` leads. Below the file of that line, files may be nested
+    /// `left` levels deep.
     fn visit(&mut self, alloc: Global, left: usize, at: Spot, file: usize) -> Result<(), LoadFault>
         requires { IsWalking self.old }
         ensures { Comes result self.old self.new (visit left self.old.files.files (site self.old.files.files at.file at.line) file (walked self.old)) }

@@ -15,14 +15,14 @@ pub record Read : Type 0 where
 abbrev pub no_files : Read
 no_files = record { files = []; walk = [] }
 
--- the lines of a part of all lines
+-- the lines of a part, among all lines
 abbrev pub lines_at : List Line → Part → List Line
 lines_at all part = take (part.stop - part.start) (drop part.start all)
 
 abbrev pub reading_in : List Line → Part → FileReading
 reading_in all part = record { name = part.name; lines = lines_at all part; fault = part.fault }
 
--- the number among all lines of a line of a part
+-- the number among all lines of the line with the number n of a part
 abbrev pub number_in : Part → ℕ → Option ℕ
 number_in part n = if nat_lt n (part.stop - part.start) then Some (part.start + n) else None
 

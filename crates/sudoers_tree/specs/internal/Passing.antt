@@ -9,7 +9,7 @@ use Rattle.sudoers_tree.specs.Reading.{first_name_fault}
 use Rattle.sudoers_tree.specs.Index.{Indexes}
 use Rattle.sudoers_tree.specs.internal.Tree.{TreeLines}
 
--- What came of a line that is to stand behind those of the walk.
+-- A call has appended the line to the walk; or its fault is the first one of the names that the line defines, or `NoMemory`.
 abbrev pub Passes : Result (Unit {0}) ReadFault → List Line → List Line → Index → Line → Type 0
 Passes (Ok u) old new index line =
     (first_name_fault (definitions old) (definitions_in (length old) line.node) ≡ None)
@@ -18,7 +18,7 @@ Passes (Ok u) old new index line =
 Passes (Err fault) old new index line =
     (fault ≡ NoMemory) ⊎ (first_name_fault (definitions old) (definitions_in (length old) line.node) ≡ Some fault)
 
--- What came of all lines that are read, the first on the walk.
+-- A call has appended all lines to the walk, which was empty; or its fault is the first one of the names that they define, or `NoMemory`.
 abbrev pub PassesAll : Result (Unit {0}) ReadFault → TreeLines → TreeLines → Index → Type 0
 PassesAll (Ok u) old new index =
     (first_name_fault [] (definitions old.all) ≡ None)

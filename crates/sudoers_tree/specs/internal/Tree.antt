@@ -31,11 +31,11 @@ abbrev pub GivesLine : Tables → Result LineRow LineFault → List ℕ → Type
 GivesLine t (Ok row) text = Stands t row × (text_in t row.text ≡ text)
 GivesLine t (Err fault) text = LineGives (Err fault) (outcome_of text)
 
--- The line says something and is read behind the others, or has this fault, and is not.
+-- The line parses and is read after the others; or it has this fault and is not read.
 abbrev pub ReadsOne : Result (Unit {0}) LineFault → TreeLines → TreeLines → List ℕ → Result Node LineFault → Type 0
 ReadsOne (Ok u) old new text outcome = (n : Node) × (outcome ≡ Ok n) × (new ≡ more_read (record { text = text; node = n }) old)
 ReadsOne (Err fault) old new text outcome = (new ≡ old) × LineGives (Err fault) outcome
 
--- These lines are read more, up to the first that says nothing, and this is the fault of that one.
+-- The lines up to the first that does not parse are read after the others, and this is the fault of that line.
 abbrev pub ReadsUntil : TreeLines → TreeLines → List Line × Option SyntaxFault → Option SyntaxFault → Type 0
 ReadsUntil old new read fault = (new ≡ record { all = old.all ++ read.0; walk = old.walk }) × (fault ≡ read.1)

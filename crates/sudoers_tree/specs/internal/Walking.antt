@@ -11,11 +11,12 @@ use Rattle.sudoers_tree.specs.Walk.{Walked}
 abbrev pub walked : Walking → Walked
 walked w = record { lines = w.files.walk; spots = w.spots.items; on = w.on.items }
 
--- The index has the names that the lines define.
+-- The index has the names that the lines of the walk define.
 abbrev pub IsWalking : Walking → Type 0
 IsWalking w = Indexes w.index (definitions w.files.walk)
 
--- What came of a walk that goes on: this is what it comes to, and the files stay.
+-- A call has continued the walk `old` to the walk that is wanted, and its files do not change; or its fault is the one that is wanted.
+-- `NoMemory` may come instead.
 abbrev pub Comes : Result (Unit {0}) LoadFault → Walking → Walking → Result Walked LoadFault → Type 0
 Comes (Ok u) old new wanted = (wanted ≡ Ok (walked new)) × (new.files.files ≡ old.files.files) × IsWalking new
 Comes (Err fault) old new wanted = (fault ≡ NoMemory) ⊎ (wanted ≡ Err fault)

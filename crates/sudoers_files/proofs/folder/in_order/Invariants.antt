@@ -3,6 +3,6 @@ use Rattle.sudoers_files.specs.Folder.{in_order}
 use Rattle.sudoers_files.proofs.Ordered.{bytes}
 use Rattle.sudoers_files.proofs.folder.in_order.Given as goal
 
--- Those of the names behind them are still to be put in order.
+-- The names that are still to come, inserted into those so far, give the outcome for all names.
 abbrev pub invariant-loop-base : goal.invariant-loop-base
 invariant-loop-base l = in_order l.led (map bytes l.order.keys) (drop l.base-index l.bases) ≡ in_order l.led [] l.bases

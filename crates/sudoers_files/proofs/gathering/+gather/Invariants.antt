@@ -14,7 +14,7 @@ decreases-follow g l = 3 * l.left + 1
 abbrev pub decreases-visit : goal.decreases-visit
 decreases-visit g l = 3 * l.left
 
--- What is left to do comes to what there was to do.
+-- The visits that are left have the outcome of all visits.
 abbrev pub invariant-take_file-loop-line : goal.invariant-take_file-loop-line
 invariant-take_file-loop-line g l =
     (g.F.Files.shelf l.files ≡ g.F.Files.shelf l.fn.files)

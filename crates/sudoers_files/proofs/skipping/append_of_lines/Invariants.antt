@@ -4,7 +4,7 @@ use Rattle.sudoers_files.specs.Included.{by_lines}
 use Rattle.sudoers_files.specs.Skipped.{skipped_by}
 use Rattle.sudoers_files.proofs.skipping.append_of_lines.Given as goal
 
--- The names so far, and those that the lines behind them skip.
+-- The names so far and those that the lines still to come skip are the outcome for all lines.
 abbrev pub invariant-loop-line : goal.invariant-loop-line
 invariant-loop-line g l =
     (g.F.Files.shelf l.files ≡ g.F.Files.shelf l.fn.files)

@@ -3,7 +3,7 @@ use Rattle.sudoers_line_rows.specs.Tables.{def_in}
 use Rattle.sudoers_tree.specs.Index.{entered}
 use Rattle.sudoers_tree.proofs.index.enter_all.Given as goal
 
--- what is left leads on to what the whole leads to
+-- Entering the names that are left has the outcome of entering all.
 abbrev pub invariant-loop-number : goal.invariant-loop-number
 invariant-loop-number l =
     entered l.kind l.line l.number l.names (map (def_in l.defs.tables.now) (drop l.number l.defs.rows.now))

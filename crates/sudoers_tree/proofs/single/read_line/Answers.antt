@@ -9,7 +9,7 @@ use Rattle.sudoers_line_reader.specs.Outcome.{outcome_of, LineGives}
 use Rattle.sudoers_tree.specs.Single.{said}
 use Rattle.sudoers_tree.proofs.single.read_line.Goals as goal
 
--- bytes that are no line say nothing
+-- bytes that are not one line have no reading
 said_none : (text : List ℕ) → false ≡ is_logical_line text → None ≡ said text
 unfolding said
 said_none text e = ap (λ t. if t then result_ok (outcome_of text) else None) e

@@ -2,7 +2,7 @@ use Rattle.std.proofs.Common.{◌≡◌, ◌≤◌, length, drop}
 use Rattle.sudoers_tree.specs.Targets.{files_in}
 use Rattle.sudoers_tree.proofs.targets.files_in.Given as goal
 
--- Those of the last files are found.
+-- The wanted ones among the last files are found.
 abbrev pub invariant-loop-number : goal.invariant-loop-number
 invariant-loop-number l =
     (l.number ≤ length l.files.files)

@@ -2,7 +2,7 @@ use Rattle.std.proofs.Common.{◌≡◌, ◌++◌, take, drop}
 use Rattle.sudoers_tree.specs.Targets.{put_in_order}
 use Rattle.sudoers_tree.proofs.targets.put_in_order.Given as goal
 
--- The file stands behind those that were passed.
+-- The file stands after the files before `at`.
 abbrev pub invariant-loop-at : goal.invariant-loop-at
 invariant-loop-at l =
     (l.order.items ≡ l.fn.order.items)

@@ -59,7 +59,7 @@ returns c =
           walk,
     )
 
--- The lines stay where a line is not read.
+-- If a line is not read, the lines do not change.
 kept : (old new : Tables) → Grown old new → (rows more walk : List LineRow) → All (Stands old) rows → All (Stands old) walk → more ≡ rows
     → tree_of (map (line_in new) more) (map (line_in new) walk) ≡ tree_of (map (line_in old) rows) (map (line_in old) walk)
 kept old new grown rows more walk a b is =

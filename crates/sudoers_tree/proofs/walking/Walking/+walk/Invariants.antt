@@ -13,7 +13,7 @@ decreases-follow l = 3 * l.left + 1
 abbrev pub decreases-visit : goal.decreases-visit
 decreases-visit l = 3 * l.left
 
--- What is left to do comes to what there was to do.
+-- The walk over the rest has the outcome of the whole walk.
 abbrev pub invariant-take_file-loop-line : goal.invariant-take_file-loop-line
 invariant-take_file-loop-line l =
     (l.self.files.files ≡ l.fn.self.files.files)

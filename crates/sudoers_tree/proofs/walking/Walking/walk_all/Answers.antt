@@ -16,7 +16,7 @@ returns-in_err-take_file c =
     subst (λ r. Comes r c.args.self.now c.take_file.new.self (walked_over read)) (sym told)
     (walk_stops read fault (subst (Stops fault) (walk_from read (walked c.args.self.now) c.requires.nothing) c.in_err-take_file.ensures))
 
--- what came of the files that are not on the walk
+-- the outcome of the files that are not on the walk
 came : (old new : Walking) (read : List FileReading) → old.files.files ≡ read → walk_of read ≡ Ok (walked new) → new.files.files ≡ read → IsWalking new
     → (r : Result (Unit {0}) LoadFault)
     → MatchResult r (λ _. unless_off (walked new) 0 new.files.files ≡ Ok (walked new)) (λ fault. Stops fault (unless_off (walked new) 0 new.files.files))
