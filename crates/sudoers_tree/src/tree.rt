@@ -1,10 +1,13 @@
 //! Lines that are read into tables, and the walk over them.
 
 ghost use Rattle.std.specs.Prelude.{◌≡◌, ◌≤◌, ◌-◌, ◌++◌, ◌∷◌, [], drop, take, length, option_map, slice_get, IfOk, OnOk, Some};
+ghost use Rattle.std.specs.Option.{option_copied};
 ghost use Rattle.sudoers_line_reader.specs.Outcome.{outcome_of};
+ghost use Rattle.sudoers_tree.specs.Kind.{line_kind};
 ghost use Rattle.sudoers_tree.specs.Line.{Line as LineOf, line_shown, lines_shown};
 ghost use Rattle.sudoers_tree.specs.internal.Tree.{ReadsOne, no_lines};
 
+use crate::kind::LineKind;
 use crate::known::{copy_tables, row_of};
 use crate::line::{Line, LineRow};
 use std::alloc::{AllocError, Global};
@@ -99,6 +102,20 @@ impl Tree {
             Some(row) => Some(Line::of(&self.tables, row)),
             None => None,
         }
+    }
+
+    /// Returns the kind of the line with the number `at`, from 0, of those that are read.
+    pub fn kind(&self, at: usize) -> Option<LineKind>
+        ensures { result ≡ option_map (λ (line : LineOf). line_kind line.node) (slice_get self.now.all at) }
+    {
+        Some(self.rows.get(at)?.kind())
+    }
+
+    /// Returns the text of the line with the number `at`, from 0, of those that are read.
+    pub fn text(&self, at: usize) -> Option<&[u8]>
+        ensures { option_copied result ≡ option_map (λ (line : LineOf). line.text) (slice_get self.now.all at) }
+    {
+        Some(self.tables.text(self.rows.get(at)?.text))
     }
 
     /// Returns the lines that are read from the one with the number `start`, from 0, up to that with the number `stop`.

@@ -15,6 +15,7 @@ ghost use Rattle.sudoers_tree.specs.internal.Walking.{Comes, IsWalking, walked};
 use crate::fault::ReadFault;
 use crate::files::Files;
 use crate::index::Index;
+use crate::kind::LineKind;
 use crate::lead::{Lead, lead_of};
 use crate::line::LineRow;
 use crate::load_fault::LoadFault;
@@ -237,6 +238,9 @@ impl Walking {
             (and_then (opened self.old.files.files (site self.old.files.files at.file at.line) (walked self.old) (leads_to self.old.files.files at.file line))
             (λ inner. visit_each (visit left self.old.files.files) self.old.files.files (site self.old.files.files at.file at.line) inner (walked self.old))) }
     {
+        if self.files.kind(at.file, at.line) != Some(LineKind::Include) {
+            return Ok(());
+        }
         let inner = self.open(alloc, at)?;
         for file in inner.as_slice() {
             if self.is_on(*file) {
