@@ -1,5 +1,5 @@
 -- Physical lines of the lines of a file.
-use Rattle.std.proofs.Common.{◌≡◌, ℕ, zero, suc, ◌+◌, ◌≤◌, ◌*◌, List, [], ◌∷◌, ◌++◌, length, min, take, drop, slice_get, option_map, Option, Some, None, refl, sym, ap, ◌∙◌, arith}
+use Rattle.std.proofs.Common.{◌≡◌, ℕ, zero, suc, ◌+◌, ◌≤◌, ◌*◌, List, [], ◌∷◌, ◌++◌, length, min, take, drop, slice_get, Some, sym, ap, ◌∙◌, arith}
 use Rattle.std.proofs.lemmas.List.{length-append, take-append-drop, take_all, take_more}
 use Rattle.std.proofs.lemmas.Option.{get_or_from_slice_get, slice_get_within}
 use Rattle.sudoers_text.specs.Line.{join}
@@ -13,16 +13,6 @@ use Rattle.sudoers_tree.proofs.LineEnds.{lf_short}
 use Rattle.sudoers_tree.proofs.Numbered.{drop_at}
 use Rattle.sudoers_tree.proofs.ReadUntil.{row_more}
 use Rattle.std.proofs.lemmas.List.{map-append}
-
--- the line that has a text
-pub line_of_text : (lines : List Line) (n : ℕ) (text : List ℕ) → Some text ≡ option_map (λ (line : Line). line.text) (slice_get lines n)
-    → (line : Line) × (slice_get lines n ≡ Some line) × (text ≡ line.text)
-line_of_text lines n text is = by (slice_get lines n) refl is
-  where
-    by : (o : Option Line) → slice_get lines n ≡ o → Some text ≡ option_map (λ (line : Line). line.text) o
-        → (line : Line) × (slice_get lines n ≡ Some line) × (text ≡ line.text)
-    by (Some line) at same = (line, at, cc)
-    by None at same = absurd cc
 
 -- the physical line of the next line
 pub next_row : (lines : List Line) (n row lfs : ℕ) (line : Line) → slice_get lines n ≡ Some line → row ≡ row_of lines n → lfs ≡ lf_count line.text

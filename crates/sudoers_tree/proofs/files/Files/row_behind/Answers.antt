@@ -2,13 +2,14 @@ use Rattle.std.proofs.Common.{◌≡◌, ◌∙◌, List, option_map, Some, None
 use Rattle.sudoers_text.specs.Fault.{lf_count}
 use Rattle.sudoers_tree.specs.Line.{Line}
 use Rattle.sudoers_tree.specs.Files.{lines_of}
-use Rattle.sudoers_tree.proofs.LineRows.{line_of_text, next_row, row_within}
+use Rattle.sudoers_tree.proofs.LineRows.{next_row, row_within}
+use Rattle.sudoers_tree.proofs.Numbered.{told_of}
 use Rattle.sudoers_tree.proofs.files.Files.row_behind.Goals as goal
 
 pub overflow_add-result : goal.overflow_add-result
 overflow_add-result c =
     let lines : List Line = lines_of c.args.self.now.files c.args.file in
-    let there = line_of_text lines c.args.number c.in-Some.text.now c.in-Some.ensures in
+    let there = told_of (λ (l : Line). l.text) _ c.in-Some.text.now c.in-Some.ensures in
     let within = row_within lines c.args.number c.args.row c.lf_count.result there.0 there.1 c.requires (c.lf_count.ensures.count ∙ ap lf_count there.2)
     (c.files_fit.ensures c.args.file) in
     omega (arith, within)
