@@ -195,6 +195,18 @@ impl Files {
         self.tree.walk()
     }
 
+    /// Makes room on the walk for the lines of all files, and returns how many they are.
+    ///
+    /// # Errors
+    ///
+    /// Memory ran out.
+    pub fn make_room(&mut self) -> Result<usize, AllocError>
+        ensures { self.new ≡ self.old }
+    {
+        self.tree.make_room()?;
+        Ok(self.tree.len())
+    }
+
     /// Returns the first fault that the file with the number `file` has if it is not on the walk.
     ///
     /// # Errors

@@ -155,6 +155,17 @@ impl Tree {
         Ok(())
     }
 
+    /// Makes room on the walk for all lines that are read.
+    ///
+    /// # Errors
+    ///
+    /// Want of memory alone.
+    pub fn make_room(&mut self) -> Result<(), AllocError>
+        ensures { self.new ≡ self.old }
+    {
+        self.walk.reserve(self.rows.len())
+    }
+
     /// Appends the line with the number `at`, from 0, to the walk.
     ///
     /// # Errors

@@ -39,17 +39,22 @@ pub struct Walking {
 }
 
 impl Walking {
-    /// Returns a walk over `files` on which there is nothing yet.
-    pub fn new(alloc: Global, files: Files) -> Walking
+    /// Returns a walk over `files` on which there is nothing yet, with room for all their lines.
+    ///
+    /// # Errors
+    ///
+    /// Memory ran out.
+    pub fn new(alloc: Global, mut files: Files) -> Result<Walking, AllocError>
         requires { files.walk ≡ [] }
-        ensures { IsWalking result × (walked result ≡ nothing) × (result.files.files ≡ files.files) }
+        ensures { IfOk result (λ walking. IsWalking walking × (walked walking ≡ nothing) × (walking.files.files ≡ files.files)) }
     {
-        Walking {
+        let count = files.make_room()?;
+        Ok(Walking {
             files,
-            spots: Vec::new(alloc),
+            spots: Vec::with_capacity(alloc, count)?,
             on: Vec::new(alloc),
             index: Index::new(alloc),
-        }
+        })
     }
 
     /// Returns the lines of the walk.
