@@ -9,4 +9,4 @@ returns-then-not-may_lead c = λ files.
     let name = c.args.name.now in
     let bytes = c.args.bytes.now in
     ap (included_by files name) c.new.ensures.items
-    ∙ text_leads_nowhere files name bytes (cut_of bytes) (c.may_lead.ensures c.if-not-may_lead.true name) (c.cut_is.ensures bytes)
+    ∙ text_leads_nowhere files name bytes (cut_of bytes) (c.may_lead.ensures.nowhere c.if-not-may_lead.true name) (c.cut_is.ensures bytes)
