@@ -4,6 +4,7 @@ use Rattle.std.specs.Str.{bytes_eq}
 use Rattle.std.specs.Result.{result_ok}
 use Rattle.std.proofs.lemmas.List.{get_or_append_left}
 use Rattle.std.proofs.lemmas.Slice.Eq.{bytes_eq-Decides}
+use Rattle.memchr.proofs.lemmas.MatchLemmas.{OccursAt-split}
 use Rattle.memchr.specs.Find.{FindsNeedle, Nowhere, OccursAt}
 use Rattle.sudoers_text.specs.declared.token.Token.{Token}
 use Rattle.sudoers_text.specs.Whole.{is_logical_line}
@@ -18,7 +19,7 @@ use Rattle.sudoers_tree.specs.Lead.{lead_of, lead_said, leads}
 use Rattle.sudoers_tree.specs.Single.{said}
 
 -- the bytes `include` stand in the text
-abbrev Holds : List ℕ → Type 0
+abbrev pub Holds : List ℕ → Type 0
 Holds text = (before : List ℕ) × (after : List ℕ) × (text ≡ before ++ (codes "include" ++ after))
 
 holds_front : (text more : List ℕ) → Holds text → Holds (text ++ more)
@@ -127,3 +128,12 @@ pub none_leads : (text : List ℕ) (found : Option ℕ) → FindsNeedle text (co
     → (name before line after : List ℕ) → text ≡ before ++ (line ++ after) → IsOutcome line (outcome_of line) → leads name line ≡ None
 none_leads text None none lacks name before line after = part_leads_nowhere text name before line after none
 none_leads text (Some at) there lacks name before line after = absurd cc
+
+-- They stand where they are found.
+pub held_there : (text : List ℕ) (found : Option ℕ) → FindsNeedle text (codes "include") 0 found → is_some found ≡ true → Holds text
+held_there text None none has = absurd cc
+held_there text (Some at) (first, occurs) has = (
+  take at text,
+  drop (at + length (codes "include")) text,
+  sym (take-append-drop at text) ∙ ap (λ rest. take at text ++ rest) (OccursAt-split text (codes "include") at occurs),
+)

@@ -1,5 +1,5 @@
 -- Items of lists by their numbers, and lists in order.
-use Rattle.std.proofs.Common.{◌≡◌, ℕ, zero, suc, ◌+◌, ◌-◌, ◌<◌, ◌==◌, true, false, if◌then◌else◌, List, [], ◌∷◌, ◌++◌, length, take, drop, insert, get_or, slice_get, Some, refl, sym, ap, ◌∙◌, arith}
+use Rattle.std.proofs.Common.{◌≡◌, ℕ, zero, suc, ◌+◌, ◌-◌, ◌<◌, ◌==◌, true, false, if◌then◌else◌, List, [], ◌∷◌, ◌++◌, length, take, drop, insert, get_or, slice_get, option_map, Option, Some, None, refl, sym, ap, ◌∙◌, arith}
 use Rattle.std.proofs.lemmas.List.{length-drop, length-take-le, take_all}
 use Rattle.std.proofs.lemmas.Option.{slice_get-get_or}
 use Rattle.std.specs.Str.{bytes_eq}
@@ -32,6 +32,11 @@ pub item_at : {A : Type 0} (xs : List A) (n : ℕ) → n < length xs → (x : A)
 item_at [] n less = absurd (omega (arith, less))
 item_at (x ∷ xs) zero less = (x, refl)
 item_at (x ∷ xs) (suc n) less = item_at xs n (omega (arith, less))
+
+-- The item of which this is told.
+pub told_of : {A B : Type 0} (tell : A → B) (found : Option A) (y : B) → Some y ≡ option_map tell found → (x : A) × (found ≡ Some x) × (y ≡ tell x)
+told_of tell (Some x) y is = (x, refl, cc)
+told_of tell None y is = absurd cc
 
 -- An item that a slice of the list has.
 pub got : {A : Type 0} (xs found : List A) (at : ℕ) (x : A) → found ≡ xs → at < length found → x ≡ get_or found at x → slice_get xs at ≡ Some x

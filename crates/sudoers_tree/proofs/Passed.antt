@@ -1,16 +1,36 @@
 -- Lines that are appended to the walk, one after another.
-use Rattle.std.proofs.Common.{◌≡◌, ℕ, ◌+◌, ◌⊎◌, inl, inr, List, [], ◌∷◌, ◌++◌, length, take, drop, slice_get, Some, None, sym, ap, ◌∙◌, arith}
+use Rattle.std.proofs.Common.{◌≡◌, ℕ, ◌+◌, ◌⊎◌, inl, inr, List, [], ◌∷◌, ◌++◌, length, take, drop, slice_get, Some, None, Ok, refl, sym, ap, subst, append-nil, ◌∙◌, arith}
 use Rattle.std.proofs.lemmas.List.{take-append-drop}
 use Rattle.std.proofs.lemmas.Option.{get_or_from_slice_get, slice_get_within}
 use Rattle.std.proofs.lemmas.List.{take_more}
+use Rattle.sudoers_line.specs.Node.{Node}
+use Rattle.sudoers_line.specs.Node as node
 use Rattle.sudoers_tree.specs.Line.{Line}
+use Rattle.sudoers_tree.specs.Kind.{line_kind}
+use Rattle.sudoers_tree.specs.declared.index.Index.{Index}
+use Rattle.sudoers_tree.specs.declared.kind.LineKind.TheVariants.{Alias}
 use Rattle.sudoers_tree.specs.declared.fault.ReadFault.{ReadFault}
 use Rattle.sudoers_tree.specs.declared.fault.ReadFault.TheVariants.{NoMemory}
-use Rattle.sudoers_tree.specs.Definition.{definitions, definitions_in, definitions_since}
+use Rattle.sudoers_tree.specs.Definition.{Definition, definitions, definitions_in, definitions_since}
+use Rattle.sudoers_tree.specs.Index.{Enters, Indexes}
 use Rattle.sudoers_tree.specs.Reading.{first_name_fault, or_later}
 use Rattle.sudoers_tree.proofs.Joined.{definitions_append, definitions_push}
 use Rattle.sudoers_tree.proofs.Numbered.{drop_at}
 use Rattle.sudoers_tree.proofs.Sound.{first_append, none_append}
+
+-- A line of another kind defines no name.
+none_defined : (n : ℕ) (says : Node) → (line_kind says ≡ Alias → ⊥) → definitions_in n says ≡ []
+none_defined n (node.Alias k defs) other = absurd (other refl)
+none_defined n node.Blank other = refl
+none_defined n node.Comment other = refl
+none_defined n (node.Include dir path) other = refl
+none_defined n (node.Defaults scope params) other = refl
+none_defined n (node.Spec users groups) other = refl
+
+pub none_entered : (index : Index) (before : List Definition) (n : ℕ) (says : Node) → (line_kind says ≡ Alias → ⊥) → Indexes index before
+    → Enters (Ok tt) index before (definitions_in n says)
+none_entered index before n says other indexed =
+    subst (Enters (Ok tt) index before) (sym (none_defined n says other)) (subst (Indexes index) (sym (append-nil before)) indexed, refl)
 
 -- the lines that are taken, and one more
 pub next_taken : (all walk : List Line) (n : ℕ) (line : Line) → slice_get all n ≡ Some line → walk ≡ take n all → walk ++ line ∷ [] ≡ take (n + 1) all

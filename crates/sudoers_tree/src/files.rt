@@ -1,10 +1,12 @@
 //! Files that are read.
 
 ghost use Rattle.std.specs.Prelude.{◌≡◌, ◌≤◌, ◌∷◌, [], ◌++◌, ◌+◌, ℕ, length, slice_get, option_map, IfOk, OnOk, Some};
+ghost use Rattle.std.specs.Option.{option_copied};
 ghost use Rattle.sudoers_text.specs.Line.{join};
 ghost use Rattle.sudoers_text.specs.Fault.{text_limit};
 ghost use Rattle.sudoers_tree.specs.Files.{fault_of, lines_of, name_of, reading_of, row_of};
 ghost use Rattle.sudoers_tree.specs.Fault.{syntax_fault};
+ghost use Rattle.sudoers_tree.specs.Kind.{line_kind};
 ghost use Rattle.sudoers_tree.specs.Line.{Line as LineOf, line_shown, lines_shown};
 ghost use Rattle.sudoers_tree.specs.Load.{reserved_in};
 ghost use Rattle.sudoers_tree.specs.Reading.{or_later};
@@ -16,6 +18,7 @@ ghost use Rattle.sudoers_tree.specs.internal.Passing.{Passes};
 
 use crate::fault::{ReadFault, SyntaxFault};
 use crate::index::{Index, first_reserved};
+use crate::kind::LineKind;
 use crate::line::{Line, LineRow};
 use crate::passing::pass_line;
 use crate::position::lf_count;
@@ -162,6 +165,22 @@ impl Files {
         self.tree.line(part.number(number)?)
     }
 
+    /// Returns the kind of the line with the number `number` of a file, both from 0.
+    pub fn kind(&self, file: usize, number: usize) -> Option<LineKind>
+        ensures { result ≡ option_map (λ (line : LineOf). line_kind line.node) (slice_get (lines_of self.now.files file) number) }
+    {
+        let part = self.parts.get(file)?;
+        self.tree.kind(part.number(number)?)
+    }
+
+    /// Returns the text of the line with the number `number` of a file, both from 0.
+    fn text(&self, file: usize, number: usize) -> Option<&[u8]>
+        ensures { option_copied result ≡ option_map (λ (line : LineOf). line.text) (slice_get (lines_of self.now.files file) number) }
+    {
+        let part = self.parts.get(file)?;
+        self.tree.text(part.number(number)?)
+    }
+
     /// Returns the lines that are read, and those of the walk.
     pub fn tree(&self) -> &Tree
         ensures { result.now.walk ≡ self.now.walk }
@@ -174,6 +193,18 @@ impl Files {
         ensures { lines_shown result ≡ self.now.walk }
     {
         self.tree.walk()
+    }
+
+    /// Makes room on the walk for the lines of all files, and returns how many they are.
+    ///
+    /// # Errors
+    ///
+    /// Memory ran out.
+    pub fn make_room(&mut self) -> Result<usize, AllocError>
+        ensures { self.new ≡ self.old }
+    {
+        self.tree.make_room()?;
+        Ok(self.tree.len())
     }
 
     /// Returns the first fault that the file with the number `file` has if it is not on the walk.
@@ -240,8 +271,8 @@ impl Files {
         ensures { (line : LineOf) → slice_get (lines_of self.now.files file) number ≡ Some line → result ≡ row_of (lines_of self.now.files file) (number + 1) }
     {
         self.files_fit();
-        match self.line(file, number) {
-            Some(line) => row + lf_count(line.text),
+        match self.text(file, number) {
+            Some(text) => row + lf_count(text),
             None => row,
         }
     }

@@ -1,6 +1,6 @@
 //! Where include lines lead.
 
-ghost use Rattle.std.specs.Prelude.{◌≡◌, ◌++◌, ℕ, List, None, false, IfOk};
+ghost use Rattle.std.specs.Prelude.{◌≡◌, ◌++◌, ℕ, List, None, codes, false, true, IfOk};
 ghost use Rattle.sudoers_line_rows.specs.View.{node_shown};
 ghost use Rattle.sudoers_tree.specs.Lead.{folder_of, lead_of, leads, resolved, without_slashes};
 
@@ -76,9 +76,11 @@ pub fn lead_of(alloc: Global, name: &[u8], node: &Node<'_>) -> Result<Option<Lea
     Ok(Some(Lead::File(Items::from_vec(whole))))
 }
 
-/// Returns whether a line of `text` may lead somewhere. If it returns false, no part of `text` leads anywhere.
+/// Returns whether a line of `text` may lead somewhere. If it returns false, no part of `text` leads anywhere; if true, the bytes
+/// `include` stand in `text`.
 pub fn may_lead(text: &[u8]) -> bool
-    ensures { result ≡ false → (name before line after : List ℕ) → text.now ≡ before ++ (line ++ after) → leads name line ≡ None }
+    ensures nowhere { result ≡ false → (name before line after : List ℕ) → text.now ≡ before ++ (line ++ after) → leads name line ≡ None }
+    ensures held { result ≡ true → (before : List ℕ) × (after : List ℕ) × (text.now ≡ before ++ (codes "include" ++ after)) }
 {
     outcome_is();
     // Each word with which an include begins has these bytes.

@@ -73,7 +73,7 @@ impl Policy {
             return Err(LoadFault::SameName { file });
         }
         let read = read_files(alloc, files)?;
-        let mut walking = Walking::new(alloc, read);
+        let mut walking = Walking::new(alloc, read)?;
         match walking.walk_all(alloc) {
             Ok(()) => Ok(Policy {
                 walking: Box::new(alloc, walking)?,

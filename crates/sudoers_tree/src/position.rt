@@ -4,7 +4,7 @@ ghost use Rattle.std.specs.Prelude.{◌≡◌, ◌≤◌, ◌+◌, ◌-◌, leng
 ghost use Rattle.sudoers_text.specs.Fault.{lf_count};
 ghost use Rattle.sudoers_tree.specs.Physical.{column_behind};
 
-use memchr::{memchr, memrchr};
+use memchr::{memchr_iter, memrchr};
 
 /// Returns the number of LF in `bytes`.
 pub fn lf_count(bytes: &[u8]) -> usize
@@ -12,10 +12,8 @@ pub fn lf_count(bytes: &[u8]) -> usize
     ensures within { result ≤ length bytes.now }
 {
     let mut count = 0;
-    let mut rest = bytes;
-    while let Some(at) = memchr(b'\n', rest) {
+    for _ in memchr_iter(b'\n', bytes) {
         count += 1;
-        rest = &rest[at + 1..];
     }
     count
 }

@@ -1,10 +1,13 @@
 //! Lines that are read into tables, and the walk over them.
 
 ghost use Rattle.std.specs.Prelude.{◌≡◌, ◌≤◌, ◌-◌, ◌++◌, ◌∷◌, [], drop, take, length, option_map, slice_get, IfOk, OnOk, Some};
+ghost use Rattle.std.specs.Option.{option_copied};
 ghost use Rattle.sudoers_line_reader.specs.Outcome.{outcome_of};
+ghost use Rattle.sudoers_tree.specs.Kind.{line_kind};
 ghost use Rattle.sudoers_tree.specs.Line.{Line as LineOf, line_shown, lines_shown};
 ghost use Rattle.sudoers_tree.specs.internal.Tree.{ReadsOne, no_lines};
 
+use crate::kind::LineKind;
 use crate::known::{copy_tables, row_of};
 use crate::line::{Line, LineRow};
 use std::alloc::{AllocError, Global};
@@ -101,6 +104,20 @@ impl Tree {
         }
     }
 
+    /// Returns the kind of the line with the number `at`, from 0, of those that are read.
+    pub fn kind(&self, at: usize) -> Option<LineKind>
+        ensures { result ≡ option_map (λ (line : LineOf). line_kind line.node) (slice_get self.now.all at) }
+    {
+        Some(self.rows.get(at)?.kind())
+    }
+
+    /// Returns the text of the line with the number `at`, from 0, of those that are read.
+    pub fn text(&self, at: usize) -> Option<&[u8]>
+        ensures { option_copied result ≡ option_map (λ (line : LineOf). line.text) (slice_get self.now.all at) }
+    {
+        Some(self.tables.text(self.rows.get(at)?.text))
+    }
+
     /// Returns the lines that are read from the one with the number `start`, from 0, up to that with the number `stop`.
     pub fn part(&self, start: usize, stop: usize) -> Rows<'_, LineRow>
         requires starts { start ≤ stop }
@@ -136,6 +153,17 @@ impl Tree {
         let row = row_of(alloc, &mut self.tables, self.known.as_slice(), at, line)?;
         self.rows.push(row)?;
         Ok(())
+    }
+
+    /// Makes room on the walk for all lines that are read.
+    ///
+    /// # Errors
+    ///
+    /// Want of memory alone.
+    pub fn make_room(&mut self) -> Result<(), AllocError>
+        ensures { self.new ≡ self.old }
+    {
+        self.walk.reserve(self.rows.len())
     }
 
     /// Appends the line with the number `at`, from 0, to the walk.

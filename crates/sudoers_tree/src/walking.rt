@@ -15,6 +15,7 @@ ghost use Rattle.sudoers_tree.specs.internal.Walking.{Comes, IsWalking, walked};
 use crate::fault::ReadFault;
 use crate::files::Files;
 use crate::index::Index;
+use crate::kind::LineKind;
 use crate::lead::{Lead, lead_of};
 use crate::line::LineRow;
 use crate::load_fault::LoadFault;
@@ -38,17 +39,22 @@ pub struct Walking {
 }
 
 impl Walking {
-    /// Returns an empty walk over `files`.
-    pub fn new(alloc: Global, files: Files) -> Walking
+    /// Returns an empty walk over `files`, with room for all their lines.
+    ///
+    /// # Errors
+    ///
+    /// Memory ran out.
+    pub fn new(alloc: Global, mut files: Files) -> Result<Walking, AllocError>
         requires { files.walk ≡ [] }
-        ensures { IsWalking result × (walked result ≡ nothing) × (result.files.files ≡ files.files) }
+        ensures { IfOk result (λ walking. IsWalking walking × (walked walking ≡ nothing) × (walking.files.files ≡ files.files)) }
     {
-        Walking {
+        let count = files.make_room()?;
+        Ok(Walking {
             files,
-            spots: Vec::new(alloc),
+            spots: Vec::with_capacity(alloc, count)?,
             on: Vec::new(alloc),
             index: Index::new(alloc),
-        }
+        })
     }
 
     /// Returns the lines of the walk.
@@ -239,6 +245,9 @@ impl Walking {
             (and_then (opened self.old.files.files (site self.old.files.files at.file at.line) (walked self.old) (leads_to self.old.files.files at.file line))
             (λ inner. visit_each (visit left self.old.files.files) self.old.files.files (site self.old.files.files at.file at.line) inner (walked self.old))) }
     {
+        if self.files.kind(at.file, at.line) != Some(LineKind::Include) {
+            return Ok(());
+        }
         let inner = self.open(alloc, at)?;
         for file in inner.as_slice() {
             if self.is_on(*file) {

@@ -9,4 +9,4 @@ returns-then-not-may_lead c = λ of nothing.
     let name = c.args.name.now in
     let bytes = c.args.bytes.now in
     ap (by_lines of name) c.new.ensures.items
-    ∙ text_leads_nowhere of name bytes (cut_of bytes) nothing (c.may_lead.ensures c.if-not-may_lead.true name) (c.cut_is.ensures bytes)
+    ∙ text_leads_nowhere of name bytes (cut_of bytes) nothing (c.may_lead.ensures.nowhere c.if-not-may_lead.true name) (c.cut_is.ensures bytes)

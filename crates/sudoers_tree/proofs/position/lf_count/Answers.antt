@@ -1,22 +1,30 @@
-use Rattle.std.proofs.Common.{◌≡◌, ◌∙◌, ◌+◌, ◌-◌, ℕ, List, length, take, drop, ap, arith, length-drop}
-use Rattle.std.proofs.lemmas.List.{take_rest}
+use Rattle.std.proofs.Common.{◌≡◌, ◌∙◌, ◌∷◌, length, ap, arith}
+use Rattle.memchr.specs.Find.{is_byte}
+use Rattle.memchr.proofs.lemmas.CallerLemmas.{length-places}
 use Rattle.sudoers_text.specs.Fault.{lf_count}
-use Rattle.sudoers_tree.proofs.LineEnds.{none_left, one_passed}
+use Rattle.sudoers_tree.proofs.LineEnds.{lf_short}
 use Rattle.sudoers_tree.proofs.position.lf_count.Goals as goal
 
-pub loop-at-preserved : goal.loop-at-preserved
-loop-at-preserved c =
-    let rest : List ℕ = c.loop-at.rest.now in
-    let count : ℕ = c.loop-at.count in
-    let next : ℕ = c.in-Some.at + 1 in
-    let whole : take (length rest - next) (drop next rest) ≡ drop next rest = take_rest rest next in
-    let passed : lf_count rest ≡ 1 + lf_count (drop next rest) = one_passed rest c.in-Some.at c.in-Some.ensures.0 c.in-Some.ensures.1 in
-    let shorter : length (take (length rest - next) (drop next rest)) ≡ length rest - next = ap length whole ∙ length-drop next rest in (
-      ap (λ xs. count + 1 + lf_count xs) whole ∙ omega (arith, passed, c.loop-at.invariant.0),
-      omega (arith, shorter, c.in-Some.ensures.0.high, c.loop-at.invariant.1),
-    )
+pub loop-init : goal.loop-init
+loop-init c =
+    let all : length c.into_iter-iterator.result ≡ lf_count c.args.bytes.now =
+    ap length (c.into_iter-iterator.ensures.into_iter_gives ∙ c.memchr_iter-items.ensures.value) ∙ length-places (is_byte 10) c.args.bytes.now in
+    omega (arith, all)
+
+pub overflow_add-count : goal.overflow_add-count
+overflow_add-count c =
+    let left : length c.loop.iterator' ≡ length (c.in-Some.field-0 ∷ c.next.new.self) = ap length c.in-Some.ensures.steps in
+    omega (arith, left, c.loop.invariant, lf_short c.args.bytes.now)
+
+pub loop-preserved : goal.loop-preserved
+loop-preserved c =
+    let left : length c.loop.iterator' ≡ length (c.in-Some.field-0 ∷ c.next.new.self) = ap length c.in-Some.ensures.steps in
+    omega (arith, left, c.loop.invariant)
 
 pub returns-clause-count : goal.returns-clause-count
 returns-clause-count c =
-    let none : lf_count c.loop-at.rest.now ≡ 0 = none_left c.loop-at.rest.now c.in_default.ensures in
-    omega (arith, none, c.loop-at.invariant.0)
+    let left : length c.loop.iterator' ≡ 0 = ap length c.in-None.ensures.steps.0 in
+    omega (arith, left, c.loop.invariant)
+
+pub returns-clause-within : goal.returns-clause-within
+returns-clause-within c = omega (arith, c.loop.invariant, lf_short c.args.bytes.now)

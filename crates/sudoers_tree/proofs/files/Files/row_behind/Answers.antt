@@ -1,21 +1,27 @@
-use Rattle.std.proofs.Common.{◌≡◌, slice_get, None, sym, arith}
-use Rattle.sudoers_tree.specs.Line.{line_shown}
+use Rattle.std.proofs.Common.{◌≡◌, ◌∙◌, List, option_map, Some, None, ap, arith}
+use Rattle.sudoers_text.specs.Fault.{lf_count}
+use Rattle.sudoers_tree.specs.Line.{Line}
 use Rattle.sudoers_tree.specs.Files.{lines_of}
 use Rattle.sudoers_tree.proofs.LineRows.{next_row, row_within}
+use Rattle.sudoers_tree.proofs.Numbered.{told_of}
 use Rattle.sudoers_tree.proofs.files.Files.row_behind.Goals as goal
 
 pub overflow_add-result : goal.overflow_add-result
 overflow_add-result c =
-    let within = row_within (lines_of c.args.self.now.files c.args.file) c.args.number c.args.row c.lf_count.result (line_shown c.in-Some.line)
-    (sym c.in-Some.ensures) c.requires c.lf_count.ensures.count (c.files_fit.ensures c.args.file) in
+    let lines : List Line = lines_of c.args.self.now.files c.args.file in
+    let there = told_of (λ (l : Line). l.text) _ c.in-Some.text.now c.in-Some.ensures in
+    let within = row_within lines c.args.number c.args.row c.lf_count.result there.0 there.1 c.requires (c.lf_count.ensures.count ∙ ap lf_count there.2)
+    (c.files_fit.ensures c.args.file) in
     omega (arith, within)
 
 pub returns-in-Some : goal.returns-in-Some
 returns-in-Some c = λ line at.
-    next_row (lines_of c.args.self.now.files c.args.file) c.args.number c.args.row c.lf_count.result (line_shown c.in-Some.line)
-    (sym c.in-Some.ensures) c.requires c.lf_count.ensures.count
+    let lines : List Line = lines_of c.args.self.now.files c.args.file in
+    let same : Some c.in-Some.text.now ≡ Some line.text = c.in-Some.ensures ∙ ap (option_map (λ (l : Line). l.text)) at in
+    let text : c.in-Some.text.now ≡ line.text = cc in
+    next_row lines c.args.number c.args.row c.lf_count.result line at c.requires (c.lf_count.ensures.count ∙ ap lf_count text)
 
 pub returns-in-None : goal.returns-in-None
 returns-in-None c = λ line at.
-    let none : slice_get (lines_of c.args.self.now.files c.args.file) c.args.number ≡ None = sym c.in-None.ensures in
+    let none : None ≡ Some line.text = c.in-None.ensures ∙ ap (option_map (λ (l : Line). l.text)) at in
     absurd cc

@@ -37,7 +37,7 @@ returns-in-Err c =
     let once : first_repeated [] files ≡ None = sym c.in_ok-file.ensures ∙ c.in_default.is in
     let read : List FileReading = c.in_ok-read.read.files in
     let came : Stops c.in-Err.fault (walked_over read) =
-    subst (λ fs. Stops c.in-Err.fault (walked_over fs)) c.new-walking.ensures.2 c.in-Err.ensures in
+    subst (λ fs. Stops c.in-Err.fault (walked_over fs)) c.in_ok-walking.ensures.2 c.in-Err.ensures in
     not_walked files read c.in-Err.fault (load_of files) (loads_as files few once) c.in_ok-read.ensures.0 came
 
 loaded : Walking → Loaded
@@ -52,9 +52,9 @@ is_loaded c =
     let once : first_repeated [] files ≡ None = sym c.in_ok-file.ensures ∙ c.in_default.is in
     let read : List FileReading = c.in_ok-read.read.files in
     let came : walked_over read ≡ Ok (walked c.walk_all.new.self) =
-    subst (λ fs. walked_over fs ≡ Ok (walked c.walk_all.new.self)) c.new-walking.ensures.2 c.in-Ok.ensures.0 in
+    subst (λ fs. walked_over fs ≡ Ok (walked c.walk_all.new.self)) c.in_ok-walking.ensures.2 c.in-Ok.ensures.0 in
     all_walked files read (walked c.walk_all.new.self) (load_of files) (loads_as files few once) c.in_ok-read.ensures.0 came
-    ∙ ap (λ fs. Ok (record { files = fs; walk = walked c.walk_all.new.self })) (sym (c.in-Ok.ensures.1 ∙ c.new-walking.ensures.2))
+    ∙ ap (λ fs. Ok (record { files = fs; walk = walked c.walk_all.new.self })) (sym (c.in-Ok.ensures.1 ∙ c.in_ok-walking.ensures.2))
     ∙ ap (λ w. Ok (loaded w)) (sym c.in_ok-new-in-Ok.ensures.ok)
 
 pub returns-in_ok-new-in-Ok : goal.returns-in_ok-new-in-Ok
