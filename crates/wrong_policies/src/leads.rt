@@ -1,6 +1,6 @@
 //! Where include lines lead.
 
-ghost use Rattle.std.specs.Prelude.{◌≡◌, IfOk};
+ghost use Rattle.std.specs.Prelude.{◌≡◌, ◌++◌, ℕ, List, None, codes, false, true, IfOk};
 ghost use Rattle.sudoers_line_rows.specs.View.{node_shown};
 ghost use Rattle.sudoers_tree.specs.Lead.{lead_of, leads};
 
@@ -27,4 +27,12 @@ pub fn lead_of_line(alloc: Global, name: &[u8], line: &[u8]) -> Result<Option<Le
     ensures { IfOk result (λ lead. lead ≡ leads name.now line.now) }
 {
     sudoers_tree::leads(alloc, name, line)
+}
+
+/// Returns whether a part of `text` may lead somewhere.
+pub fn may_lead_somewhere(text: &[u8]) -> bool
+    ensures nowhere { result ≡ false → (name before line after : List ℕ) → text.now ≡ before ++ (line ++ after) → leads name line ≡ None }
+    ensures held { result ≡ true → (before : List ℕ) × (after : List ℕ) × (text.now ≡ before ++ (codes "include" ++ after)) }
+{
+    sudoers_tree::may_lead(text)
 }

@@ -9,7 +9,7 @@ mod policies;
 mod texts;
 
 pub use checks::{check_policy, is_fine_report, report_of_policy, unused_aliases};
-pub use leads::{lead_of_line, lead_of_node};
+pub use leads::{lead_of_line, lead_of_node, may_lead_somewhere};
 pub use lines::reading_of_line;
 pub use loads::{file_text, load_files, load_text, walk_spots};
 pub use policies::{
