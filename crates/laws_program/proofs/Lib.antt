@@ -40,3 +40,6 @@ mod Outputs
 mod EditLeadsBack
 mod ListOutcome
 mod MarkLemmas
+mod ClosedWalk
+mod LedNames
+pub mod GatheredWalk

@@ -1,8 +1,9 @@
-//! Laws of the program: what `convert` prints is a policy that means the same, what `edit` writes leads back, and a run of `list` has
-//! one outcome.
+//! Laws of the program: what `convert` prints is a policy that means the same, what `edit` writes leads back, a run of `list` has one
+//! outcome, and the walk of a policy has all files that are gathered.
 #![tactic(auto)]
 
 mod answers;
+mod gathering;
 mod printing;
 mod rewriting;
 mod rewritten_answers;
@@ -10,6 +11,7 @@ mod runs;
 mod way_back;
 
 pub use answers::{printed_rules_answer, read_member_matches_same};
+pub use gathering::gathered_files_are_on_walk;
 pub use printing::{printed_rules_are_read, rules_can_be_written, second_printing_is_same};
 pub use rewriting::{
     expanded_rules_are_read, expanded_rules_can_be_written, filtered_rules_are_read,
