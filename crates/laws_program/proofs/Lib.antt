@@ -40,6 +40,10 @@ mod Outputs
 mod EditLeadsBack
 mod ListOutcome
 mod MarkLemmas
-mod ClosedWalk
-mod LedNames
-pub mod GatheredWalk
+mod WalkSteps
+mod FolderNames
+mod SortedNames
+mod FolderOrder
+mod GatheredFiles
+mod GatheredNumbers
+mod WalkOrder

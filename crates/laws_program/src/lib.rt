@@ -1,5 +1,5 @@
 //! Laws of the program: what `convert` prints is a policy that means the same, what `edit` writes leads back, a run of `list` has one
-//! outcome, and the walk of a policy has all files that are gathered.
+//! outcome, and the files that are gathered come onto the walk of their policy in their order.
 #![tactic(auto)]
 
 mod answers;
@@ -11,7 +11,7 @@ mod runs;
 mod way_back;
 
 pub use answers::{printed_rules_answer, read_member_matches_same};
-pub use gathering::gathered_files_are_on_walk;
+pub use gathering::gathered_files_are_walked;
 pub use printing::{printed_rules_are_read, rules_can_be_written, second_printing_is_same};
 pub use rewriting::{
     expanded_rules_are_read, expanded_rules_can_be_written, filtered_rules_are_read,

@@ -1,5 +1,5 @@
--- Each file that is gathered is on the walk over these files.
-use Rattle.std.proofs.Common.{◌≡◌, ℕ, zero, suc, ◌+◌, ◌||◌, nat_le, nat_lt, Bool, true, false, if◌then◌else◌, List, [], ◌∷◌, ◌++◌, length, map, slice_get, Option, Some, None, Result, Ok, Err, refl, sym, ap, ap₂, subst, ◌∙◌, append_assoc, append-nil, arith}
+-- Files that are gathered, and what is read of them.
+use Rattle.std.proofs.Common.{◌≡◌, ℕ, zero, suc, ◌+◌, ◌||◌, nat_le, nat_lt, Bool, true, false, if◌then◌else◌, List, [], ◌∷◌, ◌++◌, length, map, slice_get, Option, Some, None, Result, Ok, Err, refl, sym, ap, subst, ◌∙◌, append_assoc, append-nil, arith}
 use Rattle.std.specs.List.{AllByRecursion, list_any}
 use Rattle.std.specs.Str.{bytes_eq}
 use Rattle.std.proofs.lemmas.List.{map-append}
@@ -9,43 +9,41 @@ use Rattle.sudoers_text.specs.Cut.{cut_of}
 use Rattle.sudoers_text.specs.declared.fault.TextFault.{TextFault}
 use Rattle.sudoers_tree.specs.declared.fault.SyntaxFault.{SyntaxFault}
 use Rattle.sudoers_tree.specs.declared.load.NamedFile.{NamedFile}
-use Rattle.sudoers_tree.specs.declared.load_fault.LoadFault.{LoadFault}
 use Rattle.sudoers_tree.specs.declared.load_fault.LoadFault.TheVariants as load_fault
-use Rattle.sudoers_tree.specs.Files.{FileReading, Reads, fault_in, fault_of, lines_in, lines_of, name_in, name_of, read_until, reading_of}
+use Rattle.sudoers_tree.specs.Files.{FileReading, Reads, read_until, reading_of}
 use Rattle.sudoers_tree.specs.Files.Reads.{whole, broken}
 use Rattle.sudoers_tree.specs.Line.{Line}
 use Rattle.sudoers_tree.specs.Load.{Loaded, cut_file, file_limit, first_repeated, has_name, is_among, load_of, loaded_over, readings, unless_same}
 use Rattle.sudoers_tree.specs.Policy.{texts}
 use Rattle.sudoers_tree.specs.Targets.{number_of}
-use Rattle.sudoers_tree.specs.Walk.{Walked, and_then as then_load, is_on, walk_of}
-use Rattle.sudoers_tree.proofs.WalkSound.{IsLoad, loaded_as}
+use Rattle.sudoers_tree.specs.Walk.{and_then as then_load}
 use Rattle.sudoers_files.specs.declared.fault.GatherFault.{GatherFault}
-use Rattle.sudoers_files.specs.declared.fault.GatherFault.TheVariants.{NoRoot, TooManyFiles}
+use Rattle.sudoers_files.specs.declared.fault.GatherFault.TheVariants.{TooManyFiles}
 use Rattle.sudoers_files.specs.Gather.{Visit, and_then, from_root, gathered, take_file, unless_found, unless_full, visit, visit_each}
-use Rattle.sudoers_files.specs.Included.{by_lines, included, led_by, lines_of as lines_cut}
+use Rattle.sudoers_files.specs.Included.{included}
 use Rattle.sudoers_files.specs.Shelf.{front_of}
-use Rattle.laws_program.proofs.ClosedWalk.{IsClosed, Leads, true_before, true_behind, walk_closed}
-use Rattle.laws_program.proofs.LedNames.{NameOn, lines_on, same_bytes}
+use Rattle.laws_program.proofs.WalkSteps.{true_before, true_behind}
+use Rattle.laws_program.proofs.FolderNames.{same_bytes}
 
-abbrev Outcome : Type 0
+abbrev pub Outcome : Type 0
 Outcome = Result (List NamedFile) GatherFault
 
-abbrev Names : List NamedFile → List (List ℕ)
+abbrev pub Names : List NamedFile → List (List ℕ)
 Names files = map (λ (file : NamedFile). file.name) files
 
-ok_is : (files now : List NamedFile) → (let r : Outcome = Ok files in r) ≡ Ok now → files ≡ now
+pub ok_is : (files now : List NamedFile) → (let r : Outcome = Ok files in r) ≡ Ok now → files ≡ now
 ok_is files now is = cc
 
 -- ---- what stays where files are appended
 
 -- It stays where a file is appended.
-abbrev Stays : (List NamedFile → Type 0) → Type 0
+abbrev pub Stays : (List NamedFile → Type 0) → Type 0
 Stays R = (before : List NamedFile) (file : NamedFile) → R before → R (before ++ file ∷ [])
 
-abbrev Keeps : (List NamedFile → Type 0) → Visit → Type 0
+abbrev pub Keeps : (List NamedFile → Type 0) → Visit → Type 0
 Keeps R visit = (before now : List NamedFile) (name : List ℕ) → R before → visit before name ≡ Ok now → R now
 
-each_keeps : (R : List NamedFile → Type 0) (visit : Visit) → Keeps R visit → (before now : List NamedFile) (names : List (List ℕ)) → R before → visit_each visit before names ≡ Ok now → R now
+pub each_keeps : (R : List NamedFile → Type 0) (visit : Visit) → Keeps R visit → (before now : List NamedFile) (names : List (List ℕ)) → R before → visit_each visit before names ≡ Ok now → R now
 each_keeps R visit keeps before now [] holds is = subst R (ok_is before now is) holds
 each_keeps R visit keeps before now (name ∷ names) holds is = by (visit before name) refl is (λ mid. each_keeps R visit keeps mid now names)
   where
@@ -71,7 +69,7 @@ found_all S next known before now name same taken is = by_name (has_name name be
     by_name true e = same (ok_is before now e)
     by_name false e = by_front (front_of name known) refl e
 
-visit_keeps : (R : List NamedFile → Type 0) → Stays R → (known : List NamedFile) (left : ℕ) → Keeps R (visit left known)
+pub visit_keeps : (R : List NamedFile → Type 0) → Stays R → (known : List NamedFile) (left : ℕ) → Keeps R (visit left known)
 visit_keeps R stays known zero before now name holds is =
     found_all (R now) (λ file. Err TooManyFiles) known before now name (λ same. subst R same holds) (λ bytes there e. absurd cc) is
 visit_keeps R stays known (suc left) before now name holds is =
@@ -85,17 +83,13 @@ pushed_any : (q : List ℕ) (before : List NamedFile) (file : NamedFile) → has
 pushed_any q before file =
     ap (list_any (bytes_eq q)) (map-append (λ (f : NamedFile). f.name) before (file ∷ [])) ∙ list_any-append (bytes_eq q) (Names before) (file.name ∷ [])
 
-has_stays : (q : List ℕ) → Stays (λ files. has_name q files ≡ true)
+pub has_stays : (q : List ℕ) → Stays (λ files. has_name q files ≡ true)
 has_stays q before file has = pushed_any q before file ∙ true_before (has_name q before) (has_name q (file ∷ [])) has
 
-pushed : (before : List NamedFile) (file : NamedFile) → has_name file.name (before ++ file ∷ []) ≡ true
+pub pushed : (before : List NamedFile) (file : NamedFile) → has_name file.name (before ++ file ∷ []) ≡ true
 pushed before file =
     pushed_any file.name before file
     ∙ true_behind (has_name file.name before) (has_name file.name (file ∷ [])) (true_before (bytes_eq file.name file.name) false (same_bytes file.name))
-
-first_stays : (x : NamedFile) → Stays (λ files. slice_get files 0 ≡ Some x)
-first_stays x [] file is = absurd cc
-first_stays x (y ∷ before) file is = is
 
 -- ---- what holds of all files that are gathered
 
@@ -109,7 +103,7 @@ Within final now = (q : List ℕ) → has_name q now ≡ true → has_name q fin
 abbrev Good : (final : List NamedFile) (P : NamedFile → Type 0) (N : List ℕ → Type 0) → Visit → Type 0
 Good final P N visit = (before now : List NamedFile) (name : List ℕ) → Within final now → AllByRecursion P before → N name → visit before name ≡ Ok now → AllByRecursion P now
 
-one_more : {A : Type 0} (P : A → Type 0) (xs : List A) (x : A) → AllByRecursion P xs → P x → AllByRecursion P (xs ++ x ∷ [])
+pub one_more : {A : Type 0} (P : A → Type 0) (xs : List A) (x : A) → AllByRecursion P xs → P x → AllByRecursion P (xs ++ x ∷ [])
 one_more P [] x all is = (is, tt)
 one_more P (y ∷ xs) x all is = (all.0, one_more P xs x all.1 is)
 
@@ -126,7 +120,7 @@ each_good final P N visit good keeps before now (name ∷ names) within all led 
         later mid (good before mid name (λ q has. within q (each_keeps (λ files. has_name q files ≡ true) visit (keeps q) mid now names has e)) all led.0 here) e
     by (Err fault) here e later = absurd cc
 
-names_kept : (known : List NamedFile) (left : ℕ) (q : List ℕ) → Keeps (λ files. has_name q files ≡ true) (visit left known)
+pub names_kept : (known : List NamedFile) (left : ℕ) (q : List ℕ) → Keeps (λ files. has_name q files ≡ true) (visit left known)
 names_kept known left q = visit_keeps (λ files. has_name q files ≡ true) (has_stays q) known left
 
 taken_good : (known final : List NamedFile) (P : NamedFile → Type 0) (N : List ℕ → Type 0) → Step known final P N → (left : ℕ) → Good final P N (visit left known)
@@ -155,50 +149,35 @@ all_gathered known root final P N is led step = by (front_of root known) refl is
     by (Some bytes) there e =
         taken_good known final P N step file_limit (visit_good known final P N step file_limit) [] final (record { name = root; bytes = bytes }) (λ q has. has) tt led there e
 
--- The first file has the name of the root.
-first_is_root : (known : List NamedFile) (root : List ℕ) (final : List NamedFile) → gathered known root ≡ Ok final → (file : NamedFile) × (slice_get final 0 ≡ Some file) × (file.name ≡ root)
-unfolding gathered
-first_is_root known root final is = by (front_of root known) refl is
-  where
-    by : (o : Option (List ℕ)) → front_of root known ≡ o → from_root known root o ≡ Ok final → (file : NamedFile) × (slice_get final 0 ≡ Some file) × (file.name ≡ root)
-    by None there e = absurd cc
-    by (Some bytes) there e =
-        let file : NamedFile = record { name = root; bytes = bytes } in (
-          file,
-          each_keeps (λ files. slice_get files 0 ≡ Some file) (visit file_limit known) (visit_keeps (λ files. slice_get files 0 ≡ Some file) (first_stays file) known file_limit)
-              (file ∷ []) final (included known file) refl e,
-          refl,
-        )
-
 -- ---- files that are read
 
-abbrev IsFrom : List NamedFile → NamedFile → Type 0
+abbrev pub IsFrom : List NamedFile → NamedFile → Type 0
 IsFrom known file = front_of file.name known ≡ Some file.bytes
 
 all_units : (names : List (List ℕ)) → AllByRecursion (λ (name : List ℕ). Unit {0}) names
 all_units [] = tt
 all_units (name ∷ names) = (tt, all_units names)
 
-from_known : (known : List NamedFile) (root : List ℕ) (final : List NamedFile) → gathered known root ≡ Ok final → AllByRecursion (IsFrom known) final
+pub from_known : (known : List NamedFile) (root : List ℕ) (final : List NamedFile) → gathered known root ≡ Ok final → AllByRecursion (IsFrom known) final
 from_known known root final is =
     all_gathered known root final (IsFrom known) (λ (name : List ℕ). Unit {0}) is tt (λ file led there has. (there, all_units (included known file)))
 
 -- what is read of a file that is known
-record IsReading (known : List NamedFile) (reading : FileReading) : Type 0 where
-  bytes : List ℕ
-  lines : List (List ℕ)
-  there : front_of reading.name known ≡ Some bytes
-  cuts : cut_of bytes ≡ Ok lines
-  is : reading ≡ reading_of reading.name lines
+pub record IsReading (known : List NamedFile) (reading : FileReading) : Type 0 where
+  pub bytes : List ℕ
+  pub lines : List (List ℕ)
+  pub there : front_of reading.name known ≡ Some bytes
+  pub cuts : cut_of bytes ≡ Ok lines
+  pub is : reading ≡ reading_of reading.name lines
 
-abbrev NamesRead : List FileReading → List (List ℕ)
+abbrev pub NamesRead : List FileReading → List (List ℕ)
 NamesRead files = map (λ (file : FileReading). file.name) files
 
 named_so : (name : List ℕ) (lines : List (List ℕ)) → (reading_of name lines).name ≡ name
 unfolding reading_of
 named_so name lines = refl
 
-files_read : (known : List NamedFile) (before read : List FileReading) (files : List NamedFile) → AllByRecursion (IsReading known) before → AllByRecursion (IsFrom known) files
+pub files_read : (known : List NamedFile) (before read : List FileReading) (files : List NamedFile) → AllByRecursion (IsReading known) before → AllByRecursion (IsFrom known) files
     → readings before files ≡ Ok read → AllByRecursion (IsReading known) read × (NamesRead read ≡ NamesRead before ++ Names files)
 files_read known before read [] all from is =
     let same : before ≡ read = cc in
@@ -231,25 +210,15 @@ files_read known before read (file ∷ files) all from is = by (cut_of file.byte
         )
     by (Err fault) cuts e later = absurd cc
 
--- the first file of a name, if one has it
-number_there : (name : List ℕ) (n : ℕ) (files : List FileReading) → is_among name (NamesRead files) ≡ true → (k : ℕ) × (number_of name n files ≡ Some k)
-number_there name n [] has = absurd cc
-number_there name n (file ∷ files) has = by (bytes_eq name file.name) has (number_there name (n + 1) files)
-  where
-    by : (t : Bool) → (t || is_among name (NamesRead files)) ≡ true → (is_among name (NamesRead files) ≡ true → (k : ℕ) × (number_of name (n + 1) files ≡ Some k))
-        → (k : ℕ) × ((if t then Some n else number_of name (n + 1) files) ≡ Some k)
-    by true e later = (n, refl)
-    by false e later = later e
+pub record IsNumber (Q : FileReading → Type 0) (name : List ℕ) (n k : ℕ) (files : List FileReading) : Type 0 where
+  pub at : ℕ
+  pub number : k ≡ n + at
+  pub reading : FileReading
+  pub there : slice_get files at ≡ Some reading
+  pub named : reading.name ≡ name
+  pub holds : Q reading
 
-record IsNumber (Q : FileReading → Type 0) (name : List ℕ) (n k : ℕ) (files : List FileReading) : Type 0 where
-  at : ℕ
-  number : k ≡ n + at
-  reading : FileReading
-  there : slice_get files at ≡ Some reading
-  named : reading.name ≡ name
-  holds : Q reading
-
-number_is : (Q : FileReading → Type 0) (name : List ℕ) (n k : ℕ) (files : List FileReading) → AllByRecursion Q files → number_of name n files ≡ Some k → IsNumber Q name n k files
+pub number_is : (Q : FileReading → Type 0) (name : List ℕ) (n k : ℕ) (files : List FileReading) → AllByRecursion Q files → number_of name n files ≡ Some k → IsNumber Q name n k files
 number_is Q name n k [] all is = absurd cc
 number_is Q name n k (file ∷ files) all is = by (bytes_eq name file.name) refl is (number_is Q name (n + 1) k files all.1)
   where
@@ -280,7 +249,7 @@ none_before before (f ∷ files) once i file is = by (is_among f.name before) re
     by false e o (suc j) s later =
         (or_false (is_among file.name before) (is_among file.name (f.name ∷ [])) (sym (list_any-append (bytes_eq file.name) before (f.name ∷ [])) ∙ later o j file s)).0
 
-number_at : (before : List (List ℕ)) (n : ℕ) (files : List NamedFile) (read : List FileReading) → NamesRead read ≡ Names files → first_repeated before files ≡ None
+pub number_at : (before : List (List ℕ)) (n : ℕ) (files : List NamedFile) (read : List FileReading) → NamesRead read ≡ Names files → first_repeated before files ≡ None
     → (i : ℕ) (file : NamedFile) → slice_get files i ≡ Some file → number_of file.name n read ≡ Some (n + i)
 number_at before n [] read same once i file is = absurd cc
 number_at before n (f ∷ files) [] same once i file is = absurd cc
@@ -306,7 +275,7 @@ number_at before n (f ∷ files) (r ∷ read) same once (suc i) file is = by (is
         ∙ later o i file is
         ∙ ap (λ k. Some k) (omega arith)
 
-load_once : (files : List NamedFile) (p : Loaded) → load_of files ≡ Ok p → first_repeated [] files ≡ None
+pub load_once : (files : List NamedFile) (p : Loaded) → load_of files ≡ Ok p → first_repeated [] files ≡ None
 unfolding load_of
 load_once files p is = by_count (nat_lt file_limit (length files)) is
   where
@@ -323,59 +292,19 @@ load_once files p is = by_count (nat_lt file_limit (length files)) is
 abbrev pub ReadsAre : Type 0
 ReadsAre = (lines : List (List ℕ)) → Reads lines (read_until [] lines).0 (read_until [] lines).1
 
-reads_whole : (lines : List (List ℕ)) (read : List Line) (fault : Option SyntaxFault) → Reads lines read fault → fault ≡ None → texts read ≡ lines
+pub reads_whole : (lines : List (List ℕ)) (read : List Line) (fault : Option SyntaxFault) → Reads lines read fault → fault ≡ None → texts read ≡ lines
 reads_whole lines read fault (whole ls says) none = refl
 reads_whole lines read fault (broken ls text more f says is) none = absurd cc
 
-fault_read : (name : List ℕ) (lines : List (List ℕ)) → (reading_of name lines).fault ≡ (read_until [] lines).1
+pub fault_read : (name : List ℕ) (lines : List (List ℕ)) → (reading_of name lines).fault ≡ (read_until [] lines).1
 unfolding reading_of
 fault_read name lines = refl
 
-lines_read : (name : List ℕ) (lines : List (List ℕ)) → (reading_of name lines).lines ≡ (read_until [] lines).0
+pub lines_read : (name : List ℕ) (lines : List (List ℕ)) → (reading_of name lines).lines ≡ (read_until [] lines).0
 unfolding reading_of
 lines_read name lines = refl
 
--- The names to which a file leads are on the walk, if it is.
-file_leads : ReadsAre → (known : List NamedFile) (files : List FileReading) (w : Walked) → AllByRecursion (IsReading known) files → ((q : ℕ) → is_on w q ≡ true → IsClosed files w q)
-    → (file : NamedFile) → NameOn files w file.name → front_of file.name known ≡ Some file.bytes → is_among file.name (NamesRead files) ≡ true
-    → AllByRecursion (NameOn files w) (included known file)
-file_leads reads known files w all closed file on there has =
-    let first = number_there file.name 0 files has in
-    let k = first.0 in
-    let number = number_is (IsReading known) file.name 0 k files all first.1 in
-    let at : k ≡ number.at = omega (arith, number.number) in
-    let got : slice_get files k ≡ Some number.reading = ap (slice_get files) at ∙ number.there in
-    let is = number.holds in
-    let close = closed k (on k first.1) in
-    let named : name_of files k ≡ file.name = ap name_in got ∙ number.named in
-    let read : number.reading ≡ reading_of number.reading.name is.lines = is.is in
-    let bytes : is.bytes ≡ file.bytes = let both : Some is.bytes ≡ Some file.bytes = sym is.there ∙ ap (λ n. front_of n known) number.named ∙ there in cc in
-    let cuts : cut_of file.bytes ≡ Ok is.lines = ap cut_of (sym bytes) ∙ is.cuts in
-    let none : (read_until [] is.lines).1 ≡ None = sym (fault_read number.reading.name is.lines) ∙ ap (λ (r : FileReading). r.fault) (sym read) ∙ sym (ap fault_in got) ∙ close.whole in
-    let lines : lines_of files k ≡ (read_until [] is.lines).0 = ap lines_in got ∙ ap (λ (r : FileReading). r.lines) read ∙ lines_read number.reading.name is.lines in
-    subst (λ c. AllByRecursion (NameOn files w) (by_lines (led_by known) file.name (lines_cut c))) (sym cuts)
-    (lines_on known files w k file.name named [] is.lines (reads_whole is.lines (read_until [] is.lines).0 (read_until [] is.lines).1 (reads is.lines) none)
-    (subst (AllByRecursion (Leads files w k)) lines close.led))
-
-all_at : {A : Type 0} (P : A → Type 0) (xs : List A) → AllByRecursion P xs → (i : ℕ) (x : A) → slice_get xs i ≡ Some x → P x
+pub all_at : {A : Type 0} (P : A → Type 0) (xs : List A) → AllByRecursion P xs → (i : ℕ) (x : A) → slice_get xs i ≡ Some x → P x
 all_at P [] all i x is = absurd cc
 all_at P (y ∷ xs) all zero x is = let same : y ≡ x = cc in subst P same all.0
 all_at P (y ∷ xs) all (suc i) x is = all_at P xs all.1 i x is
-
--- Each file that is gathered is on the walk over these files, if they are a policy.
-pub gathered_on_walk : ReadsAre → (known : List NamedFile) (root : List ℕ) (found : List NamedFile) (policy : Loaded) → gathered known root ≡ Ok found → load_of found ≡ Ok policy
-    → (number : ℕ) (file : NamedFile) → slice_get found number ≡ Some file → is_on policy.walk number ≡ true
-gathered_on_walk reads known root found policy gathers loads number file is =
-    let load : IsLoad found policy = loaded_as found policy loads in
-    let once = load_once found policy loads in
-    let closed = walk_closed policy.files policy.walk load.walks in
-    let read = files_read known [] policy.files found tt (from_known known root found gathers) load.reads in
-    let first = first_is_root known root found gathers in
-    let root_on : NameOn policy.files policy.walk root = λ k found-at.
-    let zero-at : number_of first.0.name 0 policy.files ≡ Some 0 = number_at [] 0 found policy.files read.1 once 0 first.0 first.1 in
-    let same : 0 ≡ k = let both : Some 0 ≡ Some k = sym zero-at ∙ ap (λ n. number_of n 0 policy.files) first.2 ∙ found-at in cc in
-    subst (λ q. is_on policy.walk q ≡ true) same closed.0 in
-    let all = all_gathered known root found (λ (f : NamedFile). NameOn policy.files policy.walk f.name) (NameOn policy.files policy.walk) gathers root_on
-    (λ f led there has. (led, file_leads reads known policy.files policy.walk read.0 closed.1 f led there (ap (list_any (bytes_eq f.name)) read.1 ∙ has))) in
-    all_at (λ (f : NamedFile). NameOn policy.files policy.walk f.name) found all number file is number
-    (number_at [] 0 found policy.files read.1 once number file is ∙ (let same : 0 + number ≡ number = omega arith in ap (λ k. Some k) same))
