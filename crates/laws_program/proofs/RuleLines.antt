@@ -1,11 +1,11 @@
 -- Each line of the rules of a policy can be written.
 use Rattle.laws_print.proofs.Kept.{all_of}
-use Rattle.laws_program.proofs.Common.{◌≡◌, ℕ, false, List, [], ◌∷◌, ◌++◌, map, refl, AllByRecursion, flat_map, Kind, Def, Node, has_byte, join, Nul, Line}
+use Rattle.laws_program.proofs.Common.{◌≡◌, ℕ, false, List, [], ◌∷◌, ◌++◌, map, AllByRecursion, flat_map, Kind, Def, Node, has_byte, Line}
 use Rattle.laws_program.proofs.Common.{texts, SaysSo, IsSound, IsWritableDef, IsWritable, IsReadable, specs_in, one_def, defs_in, rules_of, lines_of}
 use Rattle.sudoers_line.specs.Node as node
 use Rattle.sudoers_line.specs.Line.{ReadsLine}
 use Rattle.sudoers_cvt.specs.Rules.{defaults_in}
-use Rattle.laws_program.proofs.Clean.{NoNul, clean_of, each_clean}
+use Rattle.laws_program.proofs.Clean.{each_clean}
 use Rattle.laws_program.proofs.PrintedHeads.{all_append, groups_may}
 
 -- what the law of what is read says

@@ -1,4 +1,4 @@
-use Rattle.std.proofs.Common.{◌≡◌, List, Result, Ok, Err, refl, sym, ap, subst, ◌∙◌}
+use Rattle.std.proofs.Common.{◌≡◌, List, Result, Ok, Err, refl, sym, ap, ◌∙◌}
 use Rattle.sudoers_tree.specs.Line.{Line}
 use Rattle.sudoers_tree.specs.declared.load.NamedFile.{NamedFile}
 use Rattle.sudoers_tree.specs.declared.load_fault.LoadFault.{LoadFault}
@@ -7,7 +7,6 @@ use Rattle.sudoers_tree.specs.Reading.{read_of}
 use Rattle.sudoers_files.specs.declared.fault.GatherFault.{GatherFault}
 use Rattle.sudoers_files.specs.Gather.{gathered}
 use Rattle.sudoers_cvt.specs.Rules.{rules_of, printed, fits}
-use Rattle.sudoers_run.specs.declared.fault.LayerFault.TheVariants as layer
 use Rattle.sudoers_run.specs.declared.words.ConvertWords.{ConvertWords}
 use Rattle.sudoers_run.specs.Convert.{convert_read}
 use Rattle.sudoers_run.specs.Policy.{of_gathered}

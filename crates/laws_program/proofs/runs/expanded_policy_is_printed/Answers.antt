@@ -1,4 +1,4 @@
-use Rattle.std.proofs.Common.{◌≡◌, true, false, List, Result, Ok, Err, refl, sym, ap, subst, ◌∙◌, nat_lt}
+use Rattle.std.proofs.Common.{◌≡◌, true, false, List, Result, Ok, Err, refl, sym, ap, ◌∙◌, nat_lt}
 use Rattle.sudoers_tree.specs.Line.{Line}
 use Rattle.sudoers_tree.specs.declared.load.NamedFile.{NamedFile}
 use Rattle.sudoers_tree.specs.declared.load_fault.LoadFault.{LoadFault}
@@ -12,11 +12,10 @@ use Rattle.sudoers_cvt_rewrite.specs.Count.{member_limit}
 use Rattle.sudoers_cvt_rewrite.specs.Rewrite.{has_round, member_count, used_rules}
 use Rattle.sudoers_cvt_rewrite.proofs.Uses.{round_is}
 use Rattle.laws_program.specs.Expanded.{expanded}
-use Rattle.sudoers_run.specs.declared.fault.LayerFault.TheVariants as layer
 use Rattle.sudoers_run.specs.declared.words.ConvertWords.{ConvertWords}
 use Rattle.sudoers_run.specs.Convert.{convert_read}
 use Rattle.sudoers_run.specs.Policy.{of_gathered}
-use Rattle.laws_program.specs.Converted.{IsExpanded, expanding_words, plain_words}
+use Rattle.laws_program.specs.Converted.{IsExpanded, expanding_words}
 use Rattle.laws_program.proofs.Sounds.{sound_lines}
 use Rattle.laws_program.proofs.Outputs.{if_fits, opened}
 use Rattle.laws_program.proofs.runs.expanded_policy_is_printed.Goals as goal

@@ -1,4 +1,4 @@
-use Rattle.std.proofs.Common.{◌≡◌, true, false, List, Result, Ok, Err, refl, sym, ap, subst, ◌∙◌, nat_lt, ◌&&◌}
+use Rattle.std.proofs.Common.{◌≡◌, true, false, List, Result, Ok, Err, refl, sym, ap, ◌∙◌, nat_lt, ◌&&◌}
 use Rattle.sudoers_tree.specs.Line.{Line}
 use Rattle.sudoers_tree.specs.declared.load.NamedFile.{NamedFile}
 use Rattle.sudoers_tree.specs.declared.load_fault.LoadFault.{LoadFault}
