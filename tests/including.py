@@ -90,6 +90,13 @@ PRINTED = (
         0,
     ),
     (
+        "skipped_file_that_is_included_by_its_name",
+        {"main": "@includedir d\n@include d/x.y\n", "d/x.y": "# x\n", "d/x.z": ""},
+        "check --skipped main",
+        "main: parsed OK\nd/x.z: not read: its name contains '.'\n",
+        0,
+    ),
+    (
         "skipped_files_of_an_image",
         {**IMAGE, "image/etc/sudoers.d/web.conf": "# web\n"},
         "check --skipped --root image /etc/sudoers",

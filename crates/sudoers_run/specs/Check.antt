@@ -3,7 +3,7 @@ use Rattle.std.specs.Prelude.{ℕ, Bool, if◌then◌else◌, List, [], ◌∷�
 use Rattle.sudoers_line.specs.Piece.{has_byte}
 use Rattle.sudoers_tree.specs.declared.load.NamedFile.{NamedFile}
 use Rattle.sudoers_tree.specs.declared.load_fault.LoadFault.{LoadFault}
-use Rattle.sudoers_tree.specs.Load.{Loaded, load_of}
+use Rattle.sudoers_tree.specs.Load.{Loaded, has_name, load_of}
 use Rattle.sudoers_tree.specs.Targets.{base_of}
 use Rattle.sudoers_check.specs.Report.{report_of, report_text, is_fine}
 use Rattle.sudoers_files.specs.Gather.{gathered}
@@ -37,13 +37,14 @@ skip_reason name = if has_byte 46 (base_of name) then codes "contains '.'" else 
 abbrev pub skipped_line : List ℕ → List ℕ
 skipped_line name = name ++ codes ": not read: its name " ++ skip_reason name ++ codes "\n"
 
-abbrev pub skipped_text : List (List ℕ) → List ℕ
-skipped_text [] = []
-skipped_text (name ∷ names) = skipped_line name ++ skipped_text names
+-- the lines for those of these files that are not among the files `found`: a skipped file may be included by its name
+abbrev pub skipped_text : List NamedFile → List (List ℕ) → List ℕ
+skipped_text found [] = []
+skipped_text found (name ∷ names) = (if has_name name found then [] else skipped_line name) ++ skipped_text found names
 
 -- the report on the files `found`, which are gathered from the known ones, and the lines for the files that they skip, if asked for
 abbrev pub found_text : CheckWords → List NamedFile → List NamedFile → List ℕ
-found_text words known found = check_text words.strict (load_of found) ++ (if words.skipped then skipped_text (skipped known found) else [])
+found_text words known found = check_text words.strict (load_of found) ++ (if words.skipped then skipped_text found (skipped known found) else [])
 
 -- what is written; nothing with `quiet`
 abbrev pub check_output : CheckWords → List ℕ → List NamedFile → Result (List ℕ) LayerFault

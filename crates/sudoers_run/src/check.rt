@@ -1,9 +1,9 @@
 //! Checking a policy.
-ghost use Rattle.std.specs.Prelude.{◌≡◌, ◌≢◌, ◌+◌, ◌<◌, ◌≤◌, ◌++◌, true, codes, length, List, Ok, Err, Some, IfOk, IfErr, IfSome, IsOkAnd, OnOk, min, ◌-◌, ◌^◌};
+ghost use Rattle.std.specs.Prelude.{◌≡◌, ◌≢◌, ◌+◌, ◌<◌, ◌≤◌, ◌++◌, true, codes, length, List, Ok, Err, Some, IfOk, IfErr, IfSome, IsOkAnd, OnOk, min, ◌-◌, ◌^◌, [], if◌then◌else◌};
 ghost use Rattle.std.specs.Io.KnownBytes.{Keeps, Appends};
 ghost use Rattle.sudoers_run.specs.Device.{Writes, AppendsFront};
 ghost use Rattle.sudoers_tree.specs.declared.load.NamedFile.{NamedFile as NamedFileOf};
-ghost use Rattle.sudoers_tree.specs.Load.{load_of};
+ghost use Rattle.sudoers_tree.specs.Load.{has_name, load_of};
 ghost use Rattle.sudoers_run.specs.Policy.{IsOutside, Searches};
 ghost use Rattle.sudoers_run.specs.FaultText.{text_of_load};
 ghost use Rattle.sudoers_run.specs.Check.{check_text as text_of_check, check_status, check_output, found_text, skip_reason, skipped_line, skipped_text, status_of, IsCheckFault, TellsCheck};
@@ -18,7 +18,7 @@ use crate::words::CheckWords;
 use std::alloc::{AllocError, Global};
 use sudoers_check::{check, report_text};
 use sudoers_files::{Files, skipped};
-use sudoers_tree::{Items, LoadFault, NamedFile, Policy, base_of};
+use sudoers_tree::{Items, LoadFault, NamedFile, Policy, base_of, has_name};
 
 /// Reads the policy `root` with the files that it includes, and writes the notes on its aliases. If the files are no policy, writes the
 /// first fault instead. Returns status 0 if the policy passes, and else 1 (visudo(8)). `words` has the options.
@@ -76,19 +76,37 @@ fn check_found<F: Files>(
     let mut output = check_text(alloc, load_found(alloc, found)?, words.strict)?;
     if words.skipped {
         let names = skipped(alloc, files, found)?;
-        append_skipped(&mut output.text, names.as_slice())?;
+        append_skipped(&mut output.text, found, names.as_slice())?;
     }
     Ok(output)
 }
 
-/// Appends to `out` a line for each of the skipped files `names`.
-fn append_skipped(out: &mut Vec<u8>, names: &[Items<u8>]) -> Result<(), AllocError>
-    ensures { OnOk result (out.new.items ≡ out.old.items ++ skipped_text names.now) }
+/// Appends to `out` a line for each of the skipped files `names` that is not among the files `found`.
+fn append_skipped(
+    out: &mut Vec<u8>,
+    found: &[NamedFile],
+    names: &[Items<u8>],
+) -> Result<(), AllocError>
+    ensures { OnOk result (out.new.items ≡ out.old.items ++ skipped_text found.now names.now) }
 {
     for name in names {
-        append_skipped_line(out, name.as_slice())?;
+        append_unless_found(out, found, name.as_slice())?;
     }
     Ok(())
+}
+
+/// Appends to `out` the line for the skipped file `name`, unless it is among the files `found`.
+fn append_unless_found(
+    out: &mut Vec<u8>,
+    found: &[NamedFile],
+    name: &[u8],
+) -> Result<(), AllocError>
+    ensures { OnOk result (out.new.items ≡ out.old.items ++ (if has_name name.now found.now then [] else skipped_line name.now)) }
+{
+    if has_name(found, name) {
+        return Ok(());
+    }
+    append_skipped_line(out, name)
 }
 
 /// Appends to `out` the line for the skipped file `name`.
