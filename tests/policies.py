@@ -172,7 +172,7 @@ def drawn_name(name):
 def drawn_spot(files, spot):
     """A line of the walk as its file and its number there, and the physical line of the file on which it begins if that is another."""
     number, row = spot["line"] + 1, spot["row"]
-    return f"{drawn_name(files[spot['file']][0])} {number}" + f" row {row}" * (row != number)
+    return f"{drawn_name(files[spot['file']][0])} {number}" + f" on {row}" * (row != number)
 
 
 def drawn_walk(files, line):

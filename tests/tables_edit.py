@@ -8,7 +8,7 @@ The words of a group's head say what its rows are. Two rows, a case and its answ
     line-of FILE        where a text leads as a line of this file: `file NAME`, `folder NAME` or `nowhere`;
                         `says nothing` if it leads nowhere because it is no line that says something
     load                files `NAME: TEXT` with ` | ` between two, the root first; and the lines of their walk, each by
-                        its file and its number there, from 1, with `row N` if it begins on another physical line of
+                        its file and its number there, from 1, with `on N` if it begins on another physical line of
                         the file, and behind ` | ` the files on the walk; or the error
     gather ROOT         files as for `load`; and those that are gathered from this root on, or the error, and behind ` | `
                         how often the files are asked. Each of these calls fails in turn
