@@ -34,11 +34,15 @@ Names files = map (λ (file : NamedFile). file.name) files
 pub ok_is : (files now : List NamedFile) → (let r : Outcome = Ok files in r) ≡ Ok now → files ≡ now
 ok_is files now is = cc
 
+-- the file has the bytes that are known of its name
+abbrev pub IsFrom : List NamedFile → NamedFile → Type 0
+IsFrom known file = front_of file.name known ≡ Some file.bytes
+
 -- ---- what stays where files are appended
 
--- It stays where a file is appended.
-abbrev pub Stays : (List NamedFile → Type 0) → Type 0
-Stays R = (before : List NamedFile) (file : NamedFile) → R before → R (before ++ file ∷ [])
+-- It stays where such a file is appended.
+abbrev pub Stays : List NamedFile → (List NamedFile → Type 0) → Type 0
+Stays known R = (before : List NamedFile) (file : NamedFile) → IsFrom known file → R before → R (before ++ file ∷ [])
 
 abbrev pub Keeps : (List NamedFile → Type 0) → Visit → Type 0
 Keeps R visit = (before now : List NamedFile) (name : List ℕ) → R before → visit before name ≡ Ok now → R now
@@ -69,98 +73,49 @@ found_all S next known before now name same taken is = by_name (has_name name be
     by_name true e = same (ok_is before now e)
     by_name false e = by_front (front_of name known) refl e
 
-pub visit_keeps : (R : List NamedFile → Type 0) → Stays R → (known : List NamedFile) (left : ℕ) → Keeps R (visit left known)
-visit_keeps R stays known zero before now name holds is =
+pub visit_keeps : (R : List NamedFile → Type 0) (known : List NamedFile) → Stays known R → (left : ℕ) → Keeps R (visit left known)
+visit_keeps R known stays zero before now name holds is =
     found_all (R now) (λ file. Err TooManyFiles) known before now name (λ same. subst R same holds) (λ bytes there e. absurd cc) is
-visit_keeps R stays known (suc left) before now name holds is =
+visit_keeps R known stays (suc left) before now name holds is =
     found_all (R now) (take_file (visit left known) known before) known before now name (λ same. subst R same holds)
     (λ bytes there e.
     let file : NamedFile = record { name = name; bytes = bytes } in
-    each_keeps R (visit left known) (visit_keeps R stays known left) (before ++ file ∷ []) now (included known file) (stays before file holds) e)
+    each_keeps R (visit left known) (visit_keeps R known stays left) (before ++ file ∷ []) now (included known file) (stays before file there holds) e)
     is
 
 pushed_any : (q : List ℕ) (before : List NamedFile) (file : NamedFile) → has_name q (before ++ file ∷ []) ≡ (has_name q before || has_name q (file ∷ []))
 pushed_any q before file =
     ap (list_any (bytes_eq q)) (map-append (λ (f : NamedFile). f.name) before (file ∷ [])) ∙ list_any-append (bytes_eq q) (Names before) (file.name ∷ [])
 
-pub has_stays : (q : List ℕ) → Stays (λ files. has_name q files ≡ true)
-has_stays q before file has = pushed_any q before file ∙ true_before (has_name q before) (has_name q (file ∷ [])) has
+has_stays : (known : List NamedFile) (q : List ℕ) → Stays known (λ files. has_name q files ≡ true)
+has_stays known q before file there has = pushed_any q before file ∙ true_before (has_name q before) (has_name q (file ∷ [])) has
 
 pub pushed : (before : List NamedFile) (file : NamedFile) → has_name file.name (before ++ file ∷ []) ≡ true
 pushed before file =
     pushed_any file.name before file
     ∙ true_behind (has_name file.name before) (has_name file.name (file ∷ [])) (true_before (bytes_eq file.name file.name) false (same_bytes file.name))
 
--- ---- what holds of all files that are gathered
+pub names_kept : (known : List NamedFile) (left : ℕ) (q : List ℕ) → Keeps (λ files. has_name q files ≡ true) (visit left known)
+names_kept known left q = visit_keeps (λ files. has_name q files ≡ true) known (has_stays known q) left
 
--- A file is taken whose name is led to. Then this holds of it, and it leads to such names.
-abbrev Step : (known final : List NamedFile) (P : NamedFile → Type 0) (N : List ℕ → Type 0) → Type 0
-Step known final P N = (file : NamedFile) → N file.name → front_of file.name known ≡ Some file.bytes → has_name file.name final ≡ true → P file × AllByRecursion N (included known file)
-
-abbrev Within : (final now : List NamedFile) → Type 0
-Within final now = (q : List ℕ) → has_name q now ≡ true → has_name q final ≡ true
-
-abbrev Good : (final : List NamedFile) (P : NamedFile → Type 0) (N : List ℕ → Type 0) → Visit → Type 0
-Good final P N visit = (before now : List NamedFile) (name : List ℕ) → Within final now → AllByRecursion P before → N name → visit before name ≡ Ok now → AllByRecursion P now
+-- ---- files that are read
 
 pub one_more : {A : Type 0} (P : A → Type 0) (xs : List A) (x : A) → AllByRecursion P xs → P x → AllByRecursion P (xs ++ x ∷ [])
 one_more P [] x all is = (is, tt)
 one_more P (y ∷ xs) x all is = (all.0, one_more P xs x all.1 is)
 
-each_good : (final : List NamedFile) (P : NamedFile → Type 0) (N : List ℕ → Type 0) (visit : Visit) → Good final P N visit
-    → ((q : List ℕ) → Keeps (λ files. has_name q files ≡ true) visit) → (before now : List NamedFile) (names : List (List ℕ))
-    → Within final now → AllByRecursion P before → AllByRecursion N names → visit_each visit before names ≡ Ok now → AllByRecursion P now
-each_good final P N visit good keeps before now [] within all led is = subst (AllByRecursion P) (ok_is before now is) all
-each_good final P N visit good keeps before now (name ∷ names) within all led is =
-    by (visit before name) refl is (λ mid some. each_good final P N visit good keeps mid now names within some led.1)
-  where
-    by : (r : Outcome) → visit before name ≡ r → and_then r (λ mid. visit_each visit mid names) ≡ Ok now
-        → ((mid : List NamedFile) → AllByRecursion P mid → visit_each visit mid names ≡ Ok now → AllByRecursion P now) → AllByRecursion P now
-    by (Ok mid) here e later =
-        later mid (good before mid name (λ q has. within q (each_keeps (λ files. has_name q files ≡ true) visit (keeps q) mid now names has e)) all led.0 here) e
-    by (Err fault) here e later = absurd cc
-
-pub names_kept : (known : List NamedFile) (left : ℕ) (q : List ℕ) → Keeps (λ files. has_name q files ≡ true) (visit left known)
-names_kept known left q = visit_keeps (λ files. has_name q files ≡ true) (has_stays q) known left
-
-taken_good : (known final : List NamedFile) (P : NamedFile → Type 0) (N : List ℕ → Type 0) → Step known final P N → (left : ℕ) → Good final P N (visit left known)
-    → (before now : List NamedFile) (file : NamedFile) → Within final now → AllByRecursion P before → N file.name → front_of file.name known ≡ Some file.bytes
-    → take_file (visit left known) known before file ≡ Ok now → AllByRecursion P now
-taken_good known final P N step left good before now file within all led there is =
-    let has = within file.name (each_keeps (λ files. has_name file.name files ≡ true) (visit left known) (names_kept known left file.name) (before ++ file ∷ []) now (included known file) (pushed before file) is) in
-    let here = step file led there has in
-    each_good final P N (visit left known) good (names_kept known left) (before ++ file ∷ []) now (included known file) within (one_more P before file all here.0) here.1 is
-
-visit_good : (known final : List NamedFile) (P : NamedFile → Type 0) (N : List ℕ → Type 0) → Step known final P N → (left : ℕ) → Good final P N (visit left known)
-visit_good known final P N step zero before now name within all led is =
-    found_all (AllByRecursion P now) (λ file. Err TooManyFiles) known before now name (λ same. subst (AllByRecursion P) same all) (λ bytes there e. absurd cc) is
-visit_good known final P N step (suc left) before now name within all led is =
-    found_all (AllByRecursion P now) (take_file (visit left known) known before) known before now name (λ same. subst (AllByRecursion P) same all)
-    (λ bytes there e. taken_good known final P N step left (visit_good known final P N step left) before now (record { name = name; bytes = bytes }) within all led there e)
-    is
-
-all_gathered : (known : List NamedFile) (root : List ℕ) (final : List NamedFile) (P : NamedFile → Type 0) (N : List ℕ → Type 0) → gathered known root ≡ Ok final → N root → Step known final P N
-    → AllByRecursion P final
+pub from_known : (known : List NamedFile) (root : List ℕ) (final : List NamedFile) → gathered known root ≡ Ok final → AllByRecursion (IsFrom known) final
 unfolding gathered
-all_gathered known root final P N is led step = by (front_of root known) refl is
+from_known known root final is = by (front_of root known) refl is
   where
-    by : (o : Option (List ℕ)) → front_of root known ≡ o → from_root known root o ≡ Ok final → AllByRecursion P final
+    all : Stays known (AllByRecursion (IsFrom known))
+    all before file there some = one_more (IsFrom known) before file some there
+
+    by : (o : Option (List ℕ)) → front_of root known ≡ o → from_root known root o ≡ Ok final → AllByRecursion (IsFrom known) final
     by None there e = absurd cc
     by (Some bytes) there e =
-        taken_good known final P N step file_limit (visit_good known final P N step file_limit) [] final (record { name = root; bytes = bytes }) (λ q has. has) tt led there e
-
--- ---- files that are read
-
-abbrev pub IsFrom : List NamedFile → NamedFile → Type 0
-IsFrom known file = front_of file.name known ≡ Some file.bytes
-
-all_units : (names : List (List ℕ)) → AllByRecursion (λ (name : List ℕ). Unit {0}) names
-all_units [] = tt
-all_units (name ∷ names) = (tt, all_units names)
-
-pub from_known : (known : List NamedFile) (root : List ℕ) (final : List NamedFile) → gathered known root ≡ Ok final → AllByRecursion (IsFrom known) final
-from_known known root final is =
-    all_gathered known root final (IsFrom known) (λ (name : List ℕ). Unit {0}) is tt (λ file led there has. (there, all_units (included known file)))
+        let file : NamedFile = record { name = root; bytes = bytes } in
+        each_keeps (AllByRecursion (IsFrom known)) (visit file_limit known) (visit_keeps (AllByRecursion (IsFrom known)) known all file_limit) (file ∷ []) final (included known file) (there, tt) e
 
 -- what is read of a file that is known
 pub record IsReading (known : List NamedFile) (reading : FileReading) : Type 0 where

@@ -115,7 +115,7 @@ Extends before now = (more : List NamedFile) × (now ≡ before ++ more)
 pub each_extends : (known : List NamedFile) (left : ℕ) (before now : List NamedFile) (names : List (List ℕ)) → visit_each (visit left known) before names ≡ Ok now → Extends before now
 each_extends known left before now names is =
     each_keeps (Extends before) (visit left known)
-    (visit_keeps (Extends before) (λ files file extends. (extends.0 ++ file ∷ [], ap (λ fs. fs ++ file ∷ []) extends.1 ∙ append_assoc before extends.0 (file ∷ []))) known left)
+    (visit_keeps (Extends before) known (λ files file there extends. (extends.0 ++ file ∷ [], ap (λ fs. fs ++ file ∷ []) extends.1 ∙ append_assoc before extends.0 (file ∷ []))) left)
     before now names ([], sym (append-nil before)) is
 
 pub prefix_back : (found before now : List NamedFile) → Prefix found now → Extends before now → Prefix found before
