@@ -26,5 +26,7 @@ pub mod OneOutcome
 pub mod AtPlaces
 pub mod ReadText
 pub mod ChangedText
+pub mod ChangedLines
+pub mod PieceLines
 pub mod ListedMembers
 pub mod TreeLines

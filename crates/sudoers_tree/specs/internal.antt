@@ -4,3 +4,4 @@ pub mod Wrapped
 pub mod Passing
 pub mod Files
 pub mod Walking
+pub mod Pieces

@@ -1,10 +1,13 @@
 //! Laws of policies. Each is the contract of a function that does nothing.
 
-ghost use Rattle.std.specs.Prelude.{◌≡◌, ◌≤◌, ◌*◌, List, [], ℕ, Option, length, nat_eq, false, Ok, Result, Some};
+ghost use Rattle.std.specs.Prelude.{◌≡◌, ◌≤◌, ◌<◌, ◌+◌, ◌-◌, ◌*◌, List, [], ◌∷◌, ◌++◌, ℕ, Option, option_to_list, length, take, drop, insert, remove, nat_eq, false, Ok, Result, Some};
 ghost use Rattle.sudoers_text.specs.Ended.{has_unended_inside};
 ghost use Rattle.sudoers_text.specs.Line.{join};
 ghost use Rattle.sudoers_text.specs.Whole.{IsLogicalLine};
 ghost use Rattle.sudoers_tree.specs.Line.{Line as LineOf};
+ghost use Rattle.sudoers_tree.specs.Changed.{changed, changed_from, replaced, place_of, next_place, text_brought, AreInOrder};
+ghost use Rattle.sudoers_tree.specs.declared.line_change.LineChange.{LineChange as LineChangeOf};
+ghost use Rattle.sudoers_tree.specs.declared.line_change.LineChange.TheVariants.{Put, Swap, Take};
 ghost use Rattle.sudoers_tree.specs.Reading.{read_of, IsOutcome};
 ghost use Rattle.std.specs.List.{AllByRecursion, IsDistinct};
 ghost use Rattle.sudoers_text.specs.Cut.{cut_of};
@@ -102,6 +105,23 @@ pub fn whole_lines_are_read()
     one_list();
     whole_lines_of_join();
 }
+
+/// Lines after changes are made of the first change and the others: the lines up to its place, the text that it brings, and what the others
+/// make of the lines behind. Without changes they are as they were.
+pub fn changed_by_first()
+    ensures none { (n : ℕ) (lines : List (List ℕ)) → changed_from n [] lines ≡ lines }
+    ensures first { (n : ℕ) (change : LineChangeOf) (changes : List LineChangeOf) (lines : List (List ℕ))
+        → AreInOrder n (change ∷ changes) (n + length lines) → changed_from n (change ∷ changes) lines
+        ≡ take (place_of change - n) lines ++ (option_to_list (text_brought change)
+        ++ changed_from (next_place change) changes (drop (next_place change - n) lines)) }
+{}
+
+/// One change puts, takes out or replaces one line.
+pub fn one_change()
+    ensures put { (lines : List (List ℕ)) (at : ℕ) (text : List ℕ) → at ≤ length lines → changed (Put at text ∷ []) lines ≡ insert lines at text }
+    ensures take { (lines : List (List ℕ)) (at : ℕ) → at < length lines → changed (Take at ∷ []) lines ≡ remove lines at }
+    ensures swap { (lines : List (List ℕ)) (at : ℕ) (text : List ℕ) → at < length lines → changed (Swap at text ∷ []) lines ≡ replaced at text lines }
+{}
 
 /// `read_until` computes of the lines of a text what `Reads` defines, and `Reads` defines no other outcome.
 pub fn reads_is()

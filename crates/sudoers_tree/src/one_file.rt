@@ -1,9 +1,10 @@
 //! Policies of one text, which can be changed.
 
-ghost use Rattle.std.specs.Prelude.{◌≡◌, ◌<◌, ◌≤◌, ◌++◌, ◌⊎◌, [], List, ℕ, length, slice_get, insert, remove, false, Option, None, IfOk, IfErr, OnOk, OnErr};
+ghost use Rattle.std.specs.Prelude.{◌≡◌, ◌<◌, ◌≤◌, ◌++◌, ◌⊎◌, [], List, ℕ, length, slice_get, insert, remove, false, Option, None, Ok, Err, IfOk, IfErr, OnOk, OnErr, MatchResult};
 ghost use Rattle.sudoers_text.specs.Ended.{has_unended_inside};
 ghost use Rattle.sudoers_text.specs.Whole.{IsLogicalLine};
-ghost use Rattle.sudoers_tree.specs.Changed.{replaced as with_another};
+ghost use Rattle.sudoers_tree.specs.Changed.{replaced as with_another, changed, AreInOrder, brought};
+ghost use Rattle.std.specs.List.{AllByRecursion};
 ghost use Rattle.std.specs.Option.{option_map, option_copied};
 ghost use Rattle.sudoers_text.specs.Line.{join};
 ghost use Rattle.sudoers_text.specs.Fault.{text_limit};
@@ -20,14 +21,16 @@ ghost use Rattle.sudoers_tree.specs.Reading.{read_behind, read_of, ReadGives};
 ghost use Rattle.sudoers_tree.specs.Index.{ReadsAll};
 ghost use Rattle.sudoers_tree.specs.internal.Tree.{no_lines};
 
-use crate::changed::{append_texts, text_replaced, text_with, text_without};
+use crate::changed::{append_texts, text_of};
 use crate::fault::ReadFault;
 use crate::index::Index;
 use crate::kind::LineKind;
 use crate::laws::{lines_are_whole, read_is, whole_lines_are_read};
 use crate::line::{Line, LineRow};
+use crate::line_change::LineChange;
 use crate::mention::append_mentions;
 use crate::passing::pass_all;
+use crate::pieces::pieces;
 use crate::place::{Place, Span};
 use crate::reading::read_lines;
 use crate::tree::Tree;
@@ -35,7 +38,7 @@ use crate::walk::Walk;
 use std::alloc::{AllocError, Global};
 use std::boxed::Box;
 use std::marker::Model;
-use sudoers_line::Kind;
+use sudoers_line::{Items, Kind};
 use sudoers_line_reader::laws::outcome_is;
 use sudoers_line_rows::{MemberRow, Node, Rows};
 use sudoers_text::{Lines, cut};
@@ -113,6 +116,22 @@ impl OneFile {
         read_knowing(self.alloc, Some(tree), text)
     }
 
+    /// Returns a copy.
+    ///
+    /// # Errors
+    ///
+    /// Memory ran out.
+    pub fn copied(&self) -> Result<OneFile, AllocError>
+        ensures { IfOk result (λ copy. copy ≡ self.now) }
+    {
+        self.is_policy();
+        let text = self.text()?;
+        match self.reread(text.as_slice()) {
+            Ok(copy) => Ok(copy),
+            Err(_) => Err(AllocError),
+        }
+    }
+
     /// A law: the lines are a policy, and are those of their text.
     pub fn is_policy(&self)
         ensures policy { IsPolicy self.now }
@@ -149,6 +168,39 @@ impl OneFile {
         Ok(text)
     }
 
+    /// Makes the changes `changes` of the lines at once.
+    ///
+    /// # Errors
+    ///
+    /// Those of reading the changed text; the policy is then as it was.
+    pub fn changed(&mut self, changes: &[LineChange]) -> Result<(), ReadFault>
+        requires order { AreInOrder 0 changes.now (length self.old) }
+        requires lines { AllByRecursion IsLogicalLine (brought changes.now) }
+        requires ended { has_unended_inside (changed changes.now (texts self.old)) ≡ false }
+        ensures lines { OnOk result (texts self.new ≡ changed changes.now (texts self.old)) }
+        ensures fault { IfErr result (λ fault. (fault ≡ ReadFault.NoMemory) ⊎ IsFaultOf (join (changed changes.now (texts self.old))) fault) }
+        // The result is the outcome of the changed text, unless memory ran out.
+        ensures outcome { MatchResult result (λ _. read_of (join (changed changes.now (texts self.old))) ≡ Ok self.new)
+            (λ fault. (fault ≡ ReadFault.NoMemory) ⊎ (read_of (join (changed changes.now (texts self.old))) ≡ Err fault)) }
+        ensures unchanged { OnErr result (self.new ≡ self.old) }
+    {
+        lines_are_whole(self);
+        whole_lines_are_read();
+        let text = self.changed_text(changes)?;
+        *self = self.reread(text.as_slice())?;
+        Ok(())
+    }
+
+    /// Returns the text after the changes.
+    fn changed_text(&self, changes: &[LineChange]) -> Result<Vec<u8>, AllocError>
+        requires { AreInOrder 0 changes.now (length self.now) }
+        ensures { IfOk result (λ text. text.items ≡ join (changed changes.now (texts self.now))) }
+    {
+        let lines = self.lines();
+        let pieces = pieces(self.alloc, lines.rows, changes)?;
+        text_of(self.alloc, lines.tables, pieces.as_slice())
+    }
+
     /// Inserts the line `line` before the line with the number `at`, from 0, or after the last line.
     ///
     /// # Errors
@@ -162,11 +214,9 @@ impl OneFile {
         ensures fault { IfErr result (λ fault. (fault ≡ ReadFault.NoMemory) ⊎ IsFaultOf (join (insert (texts self.old) at line.now)) fault) }
         ensures unchanged { OnErr result (self.new ≡ self.old) }
     {
-        lines_are_whole(self);
-        whole_lines_are_read();
-        let text = text_with(self.alloc, &self.lines(), at, line)?;
-        *self = self.reread(text.as_slice())?;
-        Ok(())
+        let text = Items::from_slice(self.alloc, line)?;
+        let changes = Items::one(self.alloc, LineChange::Put { at, text })?;
+        self.changed(changes.as_slice())
     }
 
     /// Removes the line with the number `at`, from 0.
@@ -181,11 +231,8 @@ impl OneFile {
         ensures fault { IfErr result (λ fault. (fault ≡ ReadFault.NoMemory) ⊎ IsFaultOf (join (remove (texts self.old) at)) fault) }
         ensures unchanged { OnErr result (self.new ≡ self.old) }
     {
-        lines_are_whole(self);
-        whole_lines_are_read();
-        let text = text_without(self.alloc, &self.lines(), at)?;
-        *self = self.reread(text.as_slice())?;
-        Ok(())
+        let changes = Items::one(self.alloc, LineChange::Take { at })?;
+        self.changed(changes.as_slice())
     }
 
     /// Replaces the line with the number `at`, from 0, by the line `line`.
@@ -193,7 +240,6 @@ impl OneFile {
     /// # Errors
     ///
     /// Those of reading the changed text; the policy is then as it was.
-    #[tactic(auto, using(crate::proofs::ChangedText::whole_replaced))]
     pub fn replaced(&mut self, at: usize, line: &[u8]) -> Result<(), ReadFault>
         requires at { at < length self.old }
         requires line { IsLogicalLine line.now }
@@ -202,11 +248,9 @@ impl OneFile {
         ensures fault { IfErr result (λ fault. (fault ≡ ReadFault.NoMemory) ⊎ IsFaultOf (join (with_another at line.now (texts self.old))) fault) }
         ensures unchanged { OnErr result (self.new ≡ self.old) }
     {
-        lines_are_whole(self);
-        whole_lines_are_read();
-        let text = text_replaced(self.alloc, &self.lines(), at, line)?;
-        *self = self.reread(text.as_slice())?;
-        Ok(())
+        let text = Items::from_slice(self.alloc, line)?;
+        let changes = Items::one(self.alloc, LineChange::Swap { at, text })?;
+        self.changed(changes.as_slice())
     }
 
     /// Returns how many lines there are.

@@ -1,31 +1,31 @@
-use Rattle.std.proofs.Common.{◌≡◌, ◌∙◌, ◌⊎◌, List, ℕ, IfErr, ap, sym, subst, rules, Ok, Err}
+use Rattle.std.proofs.Common.{◌≡◌, ◌∙◌, ◌⊎◌, ◌<◌, List, ℕ, ◌∷◌, [], length, OnOk, IfErr, ap, subst, arith}
+use Rattle.std.proofs.lemmas.List.{length-map}
 use Rattle.sudoers_text.specs.Line.{join}
-use Rattle.sudoers_tree.specs.declared.fault.ReadFault.{ReadFault}
+use Rattle.sudoers_text.specs.Ended.{has_unended_inside}
 use Rattle.sudoers_tree.specs.declared.fault.ReadFault.TheVariants.{NoMemory}
-use Rattle.sudoers_tree.specs.Changed.{replaced}
+use Rattle.sudoers_tree.specs.declared.line_change.LineChange.TheVariants.{Swap}
+use Rattle.sudoers_tree.specs.Changed.{changed, replaced}
 use Rattle.sudoers_tree.specs.Fault.{IsFaultOf}
+use Rattle.sudoers_tree.specs.Line.{Line}
 use Rattle.sudoers_tree.specs.Policy.{texts}
-use Rattle.sudoers_tree.specs.Reading.{read_of}
-use Rattle.sudoers_tree.proofs.ChangedText.{whole_replaced}
+use Rattle.sudoers_tree.proofs.ChangedLines.{as_swap}
 use Rattle.sudoers_tree.proofs.one_file.OneFile.replaced.Goals as goal
+
+within : (lines : List Line) (at : ℕ) → at < length lines → at < length (texts lines)
+within lines at h = omega (arith, h, length-map lines (λ (line : Line). line.text))
+
+pub changed-requires-clause-ended : goal.changed-requires-clause-ended
+changed-requires-clause-ended c =
+    ap has_unended_inside (as_swap c.as_slice.result.now (texts c.args.self.now) c.args.at c.args.line.now (c.as_slice.ensures ∙ c.in_ok-changes.ensures ∙ ap (λ t. Swap c.args.at t ∷ []) c.in_ok-text.ensures) (within c.args.self.now c.args.at c.requires.at)) ∙ c.requires.ended
 
 pub returns-clause-lines : goal.returns-clause-lines
 returns-clause-lines c =
-    let lines : List (List ℕ) = replaced c.args.at c.args.line.now (texts c.args.self.now) in
-    let text : c.as_slice.result.now ≡ join lines =
-    c.as_slice.ensures.value ∙ c.in_ok-text.ensures
-    ∙ ap (λ before. join (replaced c.args.at c.args.line.now (texts before))) c.lines.ensures in
-    c.whole_lines_are_read.ensures lines c.drop.inside.lines.value.tree.walk
-    (whole_replaced (texts c.args.self.now) c.args.at c.args.line.now c.lines_are_whole.ensures c.requires.line) c.requires.ended
-    (ap read_of (sym text) ∙ c.in_ok-self-inside.ensures.outcome ∙ ap Ok (sym c.drop.view_is))
+    let is : changed c.as_slice.result.now (texts c.args.self.now) ≡ replaced c.args.at c.args.line.now (texts c.args.self.now) =
+    as_swap c.as_slice.result.now (texts c.args.self.now) c.args.at c.args.line.now (c.as_slice.ensures ∙ c.in_ok-changes.ensures ∙ ap (λ t. Swap c.args.at t ∷ []) c.in_ok-text.ensures) (within c.args.self.now c.args.at c.requires.at) in
+    subst (λ ls. OnOk c.changed.result (texts c.changed.new.self ≡ ls)) is c.changed.ensures.lines
 
-pub returns-in_err-self-inside-clause-fault : goal.returns-in_err-self-inside-clause-fault
-returns-in_err-self-inside-clause-fault c =
-    let fault : ReadFault = c.in_err-self-inside.field-0.0 in
-    let same : c.from_residual-in_err-self-inside.result ≡ Err fault = search rules in
-    let lines : List (List ℕ) = replaced c.args.at c.args.line.now (texts c.args.self.now) in
-    let text : c.as_slice.result.now ≡ join lines =
-    c.as_slice.ensures.value ∙ c.in_ok-text.ensures
-    ∙ ap (λ before. join (replaced c.args.at c.args.line.now (texts before))) c.lines.ensures in
-    subst (λ r. IfErr r (λ e. (e ≡ NoMemory) ⊎ IsFaultOf (join lines) e)) (sym same)
-    (subst (λ t. (fault ≡ NoMemory) ⊎ IsFaultOf t fault) text c.in_err-self-inside.ensures.fault)
+pub returns-clause-fault : goal.returns-clause-fault
+returns-clause-fault c =
+    let is : changed c.as_slice.result.now (texts c.args.self.now) ≡ replaced c.args.at c.args.line.now (texts c.args.self.now) =
+    as_swap c.as_slice.result.now (texts c.args.self.now) c.args.at c.args.line.now (c.as_slice.ensures ∙ c.in_ok-changes.ensures ∙ ap (λ t. Swap c.args.at t ∷ []) c.in_ok-text.ensures) (within c.args.self.now c.args.at c.requires.at) in
+    subst (λ ls. IfErr c.changed.result (λ fault. (fault ≡ NoMemory) ⊎ IsFaultOf (join ls) fault)) is c.changed.ensures.fault

@@ -1,0 +1,51 @@
+//! Changes of the lines of a policy.
+
+ghost use Rattle.std.specs.Prelude.{◌≡◌, ◌<◌, ◌^◌, option_map};
+ghost use Rattle.std.specs.Option.{option_copied};
+ghost use Rattle.sudoers_tree.specs.Changed.{next_place, place_of, text_brought};
+
+use sudoers_line::Items;
+
+/// A change of the lines of a policy. `at` is the number of a line before the change, from 0.
+#[derive(Debug, Drop)]
+pub enum LineChange {
+    /// Puts the line `text` before the line with the number `at`, or after the last line.
+    Put { at: usize, text: Items<u8> },
+    /// Replaces the line with the number `at` by the line `text`.
+    Swap { at: usize, text: Items<u8> },
+    /// Takes out the line with the number `at`.
+    Take { at: usize },
+}
+
+impl LineChange {
+    /// Returns its place.
+    pub(crate) fn place(&self) -> usize
+        ensures { result ≡ place_of self.now }
+    {
+        match self {
+            LineChange::Put { at, .. } | LineChange::Swap { at, .. } | LineChange::Take { at } =>
+                *at,
+        }
+    }
+
+    /// Returns the first place that a change after it may have.
+    pub(crate) fn next_place(&self) -> usize
+        requires { next_place self.now < 2 ^ 64 }
+        ensures { result ≡ next_place self.now }
+    {
+        match self {
+            LineChange::Put { at, .. } => *at,
+            LineChange::Swap { at, .. } | LineChange::Take { at } => *at + 1,
+        }
+    }
+
+    /// Returns the text that it brings.
+    pub(crate) fn text(&self) -> Option<&[u8]>
+        ensures { option_copied result ≡ text_brought self.now }
+    {
+        match self {
+            LineChange::Put { text, .. } | LineChange::Swap { text, .. } => Some(text.as_slice()),
+            LineChange::Take { .. } => None,
+        }
+    }
+}
