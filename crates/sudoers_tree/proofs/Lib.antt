@@ -27,6 +27,8 @@ pub mod AtPlaces
 pub mod ReadText
 pub mod ChangedText
 pub mod ChangedLines
+pub mod NameLists
 pub mod PieceLines
+pub mod ReadPieces
 pub mod ListedMembers
 pub mod TreeLines

@@ -2,7 +2,7 @@
 use Rattle.std.proofs.Common.{◌≡◌, ℕ, ◌+◌, ◌⊎◌, inl, inr, List, [], ◌∷◌, ◌++◌, length, take, drop, slice_get, Some, None, Ok, refl, sym, ap, subst, append-nil, ◌∙◌, arith}
 use Rattle.std.proofs.lemmas.List.{take-append-drop}
 use Rattle.std.proofs.lemmas.Option.{get_or_from_slice_get, slice_get_within}
-use Rattle.std.proofs.lemmas.List.{take_more}
+use Rattle.std.proofs.lemmas.List.{take_more, length-take-le}
 use Rattle.sudoers_line.specs.Node.{Node}
 use Rattle.sudoers_line.specs.Node as node
 use Rattle.sudoers_tree.specs.Line.{Line}
@@ -68,3 +68,29 @@ pub fault_of_all : (all walk : List Line) (n : ℕ) (line : Line) (fault : ReadF
     → (fault ≡ NoMemory) ⊎ (first_name_fault [] (definitions all) ≡ Some fault)
 fault_of_all all walk n line fault is front none (inl memory) = inl memory
 fault_of_all all walk n line fault is front none (inr here) = inr (first_of_all all walk n line fault is front none here)
+
+-- the lines that are taken
+pub taken_count : (all : List Line) (n : ℕ) (line : Line) → slice_get all n ≡ Some line → length (take n all) ≡ n
+taken_count all n line is = length-take-le n all (omega (arith, slice_get_within all n line is))
+
+-- The names of one more line are entered, and have no fault.
+pub line_entered : (index : Index) (all : List Line) (n : ℕ) (line : Line) → slice_get all n ≡ Some line → first_name_fault [] (definitions (take n all)) ≡ None
+    → Enters (Ok tt) index (definitions (take n all)) (definitions_in n line.node)
+    → Indexes index (definitions (take (n + 1) all)) × (first_name_fault [] (definitions (take (n + 1) all)) ≡ None)
+line_entered index all n line is none entered =
+    let count : length (take n all) ≡ n = taken_count all n line is in
+    let next : take n all ++ line ∷ [] ≡ take (n + 1) all = next_taken all (take n all) n line is refl in
+    let here : definitions (take n all) ++ definitions_in n line.node ≡ definitions (take (n + 1) all) =
+    ap (λ k. definitions (take n all) ++ definitions_in k line.node) (sym count) ∙ sym (definitions_push (take n all) line) ∙ ap definitions next in (
+      subst (Indexes index) here entered.0,
+      ap (λ ls. first_name_fault [] (definitions ls)) (sym next)
+          ∙ line_passed (take n all) line none (ap (λ k. first_name_fault (definitions (take n all)) (definitions_in k line.node)) count ∙ entered.1),
+    )
+
+-- the fault of one more line
+pub line_stops : (all : List Line) (n : ℕ) (line : Line) (fault : ReadFault) → slice_get all n ≡ Some line → first_name_fault [] (definitions (take n all)) ≡ None
+    → (fault ≡ NoMemory) ⊎ (first_name_fault (definitions (take n all)) (definitions_in n line.node) ≡ Some fault)
+    → (fault ≡ NoMemory) ⊎ (first_name_fault [] (definitions all) ≡ Some fault)
+line_stops all n line fault is none stops =
+    fault_of_all all (take n all) n line fault is refl none
+    (subst (λ k. (fault ≡ NoMemory) ⊎ (first_name_fault (definitions (take n all)) (definitions_in k line.node) ≡ Some fault)) (sym (taken_count all n line is)) stops)

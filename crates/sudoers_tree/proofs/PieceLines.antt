@@ -1,7 +1,13 @@
 -- The lines of pieces.
-use Rattle.std.proofs.Common.{◌≡◌, ℕ, ◌+◌, ◌-◌, ◌≤◌, ◌<◌, List, [], ◌∷◌, ◌++◌, length, take, drop, map, get_or, option_to_list, sym, ap, subst, ◌∙◌, arith, append_assoc, append-nil}
+use Rattle.std.proofs.Common.{◌≡◌, ℕ, zero, suc, ◌+◌, ◌-◌, ◌≤◌, ◌<◌, List, [], ◌∷◌, ◌++◌, length, take, drop, map, get_or, option_to_list, sym, ap, subst, ◌∙◌, arith, append_assoc, append-nil}
 use Rattle.std.proofs.lemmas.List.{drop-drop, drop-map, drop_more, take-map, take_all, length-map, length-drop}
+use Rattle.std.specs.List.{All}
 use Rattle.std.proofs.lemmas.Grind.{flat_map-append}
+use Rattle.std.proofs.lemmas.List.{length-append}
+use Rattle.std.proofs.lemmas.List.Elements.{All-drop, All-head, All-tail, All-take}
+use Rattle.sudoers_text.specs.Fault.{lf_count}
+use Rattle.sudoers_text.specs.Line.{join}
+use Rattle.sudoers_tree.proofs.Joined.{lf_append}
 use Rattle.sudoers_line_rows.specs.declared.rows.Tables.{Tables}
 use Rattle.sudoers_tree.specs.declared.line.LineRow.{LineRow}
 use Rattle.sudoers_tree.specs.declared.line_change.LineChange.{LineChange}
@@ -11,7 +17,7 @@ use Rattle.sudoers_tree.specs.declared.pieces.Piece.TheVariants.{Old}
 use Rattle.sudoers_tree.specs.Changed.{changed_from, place_of, next_place, text_brought, AreInOrder}
 use Rattle.sudoers_tree.specs.Line.{Line, line_in}
 use Rattle.sudoers_tree.specs.Policy.{texts}
-use Rattle.sudoers_tree.specs.internal.Pieces.{piece_texts, texts_of}
+use Rattle.sudoers_tree.specs.internal.Pieces.{piece_texts, texts_of, bytes_in, lfs_in, AreKept, AreShort, IsKept, IsKeptPiece}
 use Rattle.sudoers_tree.proofs.ChangedLines.{first_change, ends}
 
 pub pieces_push : (t : Tables) (ps : List Piece) (p : Piece) → piece_texts t (ps ++ p ∷ []) ≡ piece_texts t ps ++ texts_of t p
@@ -89,3 +95,39 @@ no_piece = Old (record { ref_ptr = (0, 0); now = [] })
 pub piece_first : (t : Tables) (pieces : List Piece) (i : ℕ) → i < length pieces
     → piece_texts t (drop i pieces) ≡ texts_of t (get_or pieces i no_piece) ++ piece_texts t (drop (i + 1) pieces)
 piece_first t pieces i less = ap (piece_texts t) (drop_more pieces i no_piece less)
+
+-- ---- kept rows
+
+pub kept_push : (t : Tables) (ps : List Piece) (p : Piece) → AreKept t ps → IsKeptPiece t p → AreKept t (ps ++ p ∷ [])
+kept_push t [] p all is = (is, tt)
+kept_push t (q ∷ ps) p all is = (all.0, kept_push t ps p all.1 is)
+
+pub kept_part : (t : Tables) (rows : List LineRow) (n k : ℕ) → All (IsKept t) rows → All (IsKept t) (take k (drop n rows))
+kept_part t rows n k all = All-take (IsKept t) k (drop n rows) (All-drop (IsKept t) n rows all)
+
+pub kept_first : (t : Tables) (ps : List Piece) (i : ℕ) → i < length ps → AreKept t ps → IsKeptPiece t (get_or ps i no_piece)
+kept_first t [] i less all = absurd (omega (arith, less))
+kept_first t (p ∷ ps) zero less all = all.0
+kept_first t (p ∷ ps) (suc i) less all = kept_first t ps i (omega (arith, less)) all.1
+
+-- ---- bytes and line ends
+
+pub bytes_joined : (lines : List (List ℕ)) → bytes_in lines ≡ length (join lines)
+bytes_joined [] = omega arith
+bytes_joined (line ∷ lines) = omega (arith, bytes_joined lines, length-append line (join lines))
+
+pub lfs_joined : (lines : List (List ℕ)) → lfs_in lines ≡ lf_count (join lines)
+lfs_joined [] = omega arith
+lfs_joined (line ∷ lines) = omega (arith, lfs_joined lines, lf_append line (join lines))
+
+pub bytes_both : (xs ys : List (List ℕ)) → bytes_in (xs ++ ys) ≡ bytes_in xs + bytes_in ys
+bytes_both [] ys = omega arith
+bytes_both (x ∷ xs) ys = omega (arith, bytes_both xs ys)
+
+pub short_both : (xs ys : List (List ℕ)) → AreShort xs → AreShort ys → AreShort (xs ++ ys)
+short_both [] ys some more = more
+short_both (x ∷ xs) ys some more = (some.0, short_both xs ys some.1 more)
+
+pub short_rows : (t : Tables) (rows : List LineRow) → All (IsKept t) rows → AreShort (texts (map (line_in t) rows))
+short_rows t [] all = tt
+short_rows t (row ∷ rows) all = ((All-head (IsKept t) row rows all).short, short_rows t rows (All-tail (IsKept t) row rows all))

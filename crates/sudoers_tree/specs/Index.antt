@@ -1,5 +1,5 @@
 -- A device of the proof, which no public contract cites: the index of names.
-use Rattle.std.specs.Prelude.{◌≡◌, ◌⊎◌, ℕ, ◌+◌, List, [], ◌∷◌, ◌++◌, length, nat_le, Option, Some, None, Result, Ok, Err, if◌then◌else◌}
+use Rattle.std.specs.Prelude.{◌≡◌, ◌⊎◌, ℕ, ◌+◌, Bool, false, List, [], ◌∷◌, ◌++◌, length, map, zip, slice_get, option_map, nat_le, Option, Some, None, Result, Ok, Err, if◌then◌else◌}
 use Rattle.std.specs.Str.{bytes_eq}
 use Rattle.sudoers_text.specs.Word.{is_reserved}
 use Rattle.sudoers_line.specs.declared.node.Kind.{Kind}
@@ -8,6 +8,8 @@ use Rattle.sudoers_line.specs.Node.{Def}
 use Rattle.sudoers_tree.specs.Line.{Line}
 use Rattle.sudoers_tree.specs.declared.place.Place.{Place}
 use Rattle.sudoers_tree.specs.declared.index.Index.{Index}
+use Rattle.sudoers_tree.specs.declared.index.Renewals.{Renewals}
+use Rattle.sudoers_tree.specs.declared.renewal.Renewal.{Renewal}
 use Rattle.sudoers_tree.specs.declared.fault.ReadFault.{ReadFault}
 use Rattle.sudoers_tree.specs.declared.fault.ReadFault.TheVariants.{Text, Syntax, Reserved, Duplicate, TooMany, NotLoaded, Twice, TooDeep, NoMemory}
 use Rattle.sudoers_tree.specs.Definition.{Definition, definitions, is_kind}
@@ -20,6 +22,35 @@ abbrev pub named : List ℕ → List (List ℕ × Place) → Option Place
 named name [] = None
 named name (e ∷ es) = if bytes_eq name e.0 then Some e.1 else named name es
 
+-- the names, without their places
+abbrev pub names_in : List (List ℕ × Place) → List (List ℕ)
+names_in es = map (λ e. e.0) es
+
+-- the number of the first entry with this name
+abbrev pub number_named : List ℕ → List (List ℕ × Place) → Option ℕ
+number_named name [] = None
+number_named name (e ∷ es) = if bytes_eq name e.0 then Some 0 else option_map (λ n. n + 1) (number_named name es)
+
+-- the first known names, as many as these places, with them
+abbrev pub known_by : List (List ℕ × Place) → List Place → List (List ℕ × Place)
+known_by known places = zip (names_in known) places
+
+abbrev pub renewed_by : List (List ℕ × Place) → Option (List (List ℕ × Place)) → List Place → List (List ℕ × Place)
+renewed_by known None places = known_by known places
+renewed_by known (Some names) places = names
+
+-- the names that are entered beside known ones
+abbrev pub renewed : List (List ℕ × Place) → Renewal → List (List ℕ × Place)
+renewed known renewal = renewed_by known renewal.own renewal.places.items
+
+abbrev pub is_name_of : List ℕ → Option (List ℕ) → Bool
+is_name_of name None = false
+is_name_of name (Some next) = bytes_eq next name
+
+-- the name is the next of the known ones
+abbrev pub follows : List (List ℕ × Place) → Renewal → List ℕ → Bool
+follows known renewal name = is_name_of name (slice_get (names_in known) (length renewal.places.items))
+
 -- the names of the definitions of a kind, with their places
 abbrev pub entries : Kind → List Definition → List (List ℕ × Place)
 entries k [] = []
@@ -31,6 +62,15 @@ names_of User index = index.user
 names_of Runas index = index.runas
 names_of Host index = index.host
 names_of Cmnd index = index.cmnd
+
+-- the names that are entered again beside those of an index
+abbrev pub renewed_index : Index → Renewals → Index
+renewed_index known new = record {
+  user = renewed known.user new.user;
+  runas = renewed known.runas new.runas;
+  host = renewed known.host new.host;
+  cmnd = renewed known.cmnd new.cmnd;
+}
 
 -- The index has the names of these definitions.
 abbrev pub Indexes : Index → List Definition → Type 0

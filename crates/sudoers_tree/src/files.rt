@@ -12,12 +12,12 @@ ghost use Rattle.sudoers_tree.specs.Load.{reserved_in};
 ghost use Rattle.sudoers_tree.specs.Reading.{or_later};
 ghost use Rattle.sudoers_tree.specs.Policy.{texts};
 ghost use Rattle.sudoers_tree.specs.Definition.{definitions};
-ghost use Rattle.sudoers_tree.specs.Index.{Indexes};
+ghost use Rattle.sudoers_tree.specs.Index.{renewed_index, Indexes};
 ghost use Rattle.sudoers_tree.specs.internal.Files.{no_files, number_in};
 ghost use Rattle.sudoers_tree.specs.internal.Passing.{Passes};
 
 use crate::fault::{ReadFault, SyntaxFault};
-use crate::index::{Index, first_reserved};
+use crate::index::{Index, Renewals, first_reserved};
 use crate::kind::LineKind;
 use crate::line::{Line, LineRow};
 use crate::passing::pass_line;
@@ -82,7 +82,7 @@ impl Files {
         ensures { IfOk result (λ files. files ≡ no_files) }
     {
         Ok(Files {
-            tree: Tree::new(alloc, None, 0)?,
+            tree: Tree::new(alloc, 0)?,
             parts: Vec::with_capacity(alloc, count)?,
         })
     }
@@ -230,7 +230,7 @@ impl Files {
     }
 
     /// Appends the line with the number `number` of the file with the number `file` to the walk, and enters the names that it defines into
-    /// `index`.
+    /// `names`, beside those of `known`.
     ///
     /// # Errors
     ///
@@ -238,15 +238,16 @@ impl Files {
     pub fn pass(
         &mut self,
         alloc: Global,
-        index: &mut Index,
+        known: &Index,
+        names: &mut Renewals,
         file: usize,
         number: usize,
     ) -> Result<(), ReadFault>
-        requires { Indexes index.old (definitions self.old.walk) }
+        requires { Indexes (renewed_index known.now names.old) (definitions self.old.walk) }
         ensures files { self.new.files ≡ self.old.files }
-        ensures index { OnOk result (Indexes index.new (definitions self.new.walk)) }
+        ensures names { OnOk result (Indexes (renewed_index known.now names.new) (definitions self.new.walk)) }
         ensures passes { (line : LineOf) → slice_get (lines_of self.old.files file) number ≡ Some line
-            → Passes result self.old.walk self.new.walk index.new line }
+            → Passes result self.old.walk self.new.walk (renewed_index known.now names.new) line }
     {
         let Some(part) = self.parts.get(file) else {
             return Ok(());
@@ -254,7 +255,7 @@ impl Files {
         let Some(number) = part.number(number) else {
             return Ok(());
         };
-        pass_line(alloc, &mut self.tree, index, number)
+        pass_line(alloc, &mut self.tree, known, names, number)
     }
 
     /// A law: the lines of each file are within the limit of a text.

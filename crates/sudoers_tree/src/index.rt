@@ -4,11 +4,12 @@ ghost use Rattle.std.specs.Prelude.{◌≡◌, [], ◌∷◌, ◌++◌, List, Ok
 ghost use Rattle.sudoers_line_rows.specs.View.{defs_shown, node_shown};
 ghost use Rattle.sudoers_tree.specs.Definition.{Definition, definitions_from, definitions_in};
 ghost use Rattle.sudoers_tree.specs.Load.{first_reserved};
-ghost use Rattle.sudoers_tree.specs.Index.{names_of, Indexes, entry_fault, entered, Comes, Enters};
+ghost use Rattle.sudoers_tree.specs.Index.{names_of, Indexes, entry_fault, entered, renewed, renewed_index, Comes, Enters};
 
 use crate::fault::ReadFault;
 use crate::names::Names;
 use crate::place::Place;
+use crate::renewal::Renewal;
 use std::alloc::{AllocError, Global};
 use sudoers_line::{Items, Kind};
 use sudoers_line_rows::{DefRow, Node, Rows};
@@ -51,67 +52,143 @@ impl Index {
         }
     }
 
-    /// Enters the names that the line with the number `line`, from 0, defines. The line says `node`.
+    /// Returns a copy.
+    ///
+    /// # Errors
+    ///
+    /// A growth of memory was refused.
+    pub fn copied(&self, alloc: Global) -> Result<Index, AllocError>
+        ensures { IfOk result (λ index. index ≡ self.now) }
+    {
+        Ok(Index {
+            user: self.user.copied(alloc)?,
+            runas: self.runas.copied(alloc)?,
+            host: self.host.copied(alloc)?,
+            cmnd: self.cmnd.copied(alloc)?,
+        })
+    }
+
+    /// Puts the names that `new` has beside these in their place. It takes no memory.
+    pub fn renew(&mut self, new: Renewals)
+        ensures { self.new ≡ renewed_index self.old new }
+    {
+        let Renewals {
+            user,
+            runas,
+            host,
+            cmnd,
+        } = new;
+        self.user.renew(user);
+        self.runas.renew(runas);
+        self.host.renew(host);
+        self.cmnd.renew(cmnd);
+    }
+}
+
+/// Names that are entered beside those of an index, by kind.
+#[derive(Drop)]
+pub struct Renewals {
+    user: Renewal,
+    runas: Renewal,
+    host: Renewal,
+    cmnd: Renewal,
+}
+
+impl Renewals {
+    /// Returns no names, with room for the places of those of `known`.
+    ///
+    /// # Errors
+    ///
+    /// A growth of memory was refused.
+    pub fn new(alloc: Global, known: &Index) -> Result<Renewals, AllocError>
+        ensures { IfOk result (λ new. Indexes (renewed_index known.now new) []) }
+    {
+        Ok(Renewals {
+            user: Renewal::new(alloc, &known.user)?,
+            runas: Renewal::new(alloc, &known.runas)?,
+            host: Renewal::new(alloc, &known.host)?,
+            cmnd: Renewal::new(alloc, &known.cmnd)?,
+        })
+    }
+
+    /// Enters the names that the line with the number `line`, from 0, defines, beside those of `known`. The line says `node`.
     ///
     /// # Errors
     ///
     /// The fault of the first name that cannot be entered. `NoMemory`: memory ran out.
-    pub fn enter(&mut self, alloc: Global, line: usize, node: &Node<'_>) -> Result<(), ReadFault>
-        ensures { (before : List Definition) → Indexes self.old before → Enters result self.new before (definitions_in line (node_shown node.now)) }
+    pub fn enter(
+        &mut self,
+        alloc: Global,
+        known: &Index,
+        line: usize,
+        node: &Node<'_>,
+    ) -> Result<(), ReadFault>
+        ensures { (before : List Definition) → Indexes (renewed_index known.now self.old) before
+            → Enters result (renewed_index known.now self.new) before (definitions_in line (node_shown node.now)) }
     {
         let Node::Alias { kind, defs } = *node else {
             return Ok(());
         };
         match kind {
-            Kind::User => enter_all(alloc, &mut self.user, Kind::User, line, &defs),
-            Kind::Runas => enter_all(alloc, &mut self.runas, Kind::Runas, line, &defs),
-            Kind::Host => enter_all(alloc, &mut self.host, Kind::Host, line, &defs),
-            Kind::Cmnd => enter_all(alloc, &mut self.cmnd, Kind::Cmnd, line, &defs),
+            Kind::User => enter_all(alloc, &known.user, &mut self.user, Kind::User, line, &defs),
+            Kind::Runas => enter_all(
+                alloc,
+                &known.runas,
+                &mut self.runas,
+                Kind::Runas,
+                line,
+                &defs,
+            ),
+            Kind::Host => enter_all(alloc, &known.host, &mut self.host, Kind::Host, line, &defs),
+            Kind::Cmnd => enter_all(alloc, &known.cmnd, &mut self.cmnd, Kind::Cmnd, line, &defs),
         }
     }
 }
 
-/// Enters into `names` the names of the definitions `defs` of the line with the number `line`. They are of the kind `kind`.
+/// Enters into `names`, beside `known`, the names of the definitions `defs` of the line with the number `line`. They are of the kind
+/// `kind`.
 fn enter_all(
     alloc: Global,
-    names: &mut Names,
+    known: &Names,
+    names: &mut Renewal,
     kind: Kind,
     line: usize,
     defs: &Rows<'_, DefRow>,
 ) -> Result<(), ReadFault>
-    ensures { Comes result names.new (entered kind line 0 names.old (defs_shown defs.now)) }
+    ensures { Comes result (renewed known.now names.new) (entered kind line 0 (renewed known.now names.old) (defs_shown defs.now)) }
 {
     let tables = defs.tables;
     for (number, row) in defs.rows.iter().enumerate() {
         let name = tables.text(row.name);
-        if let Some(fault) = fault_of(alloc, names, kind, name)? {
+        if let Some(fault) = fault_of(alloc, known, names, kind, name)? {
             return Err(fault);
         }
         let place = Place { line, def: number };
-        names.push(alloc, name, place)?;
+        names.push(alloc, known, name, place)?;
     }
     Ok(())
 }
 
-/// Returns why the name `name` of the kind `kind` cannot be entered after the names `names`. Returns nothing if it can.
+/// Returns why the name `name` of the kind `kind` cannot be entered into `names`, beside `known`. Returns nothing if it can.
 fn fault_of(
     alloc: Global,
-    names: &Names,
+    known: &Names,
+    names: &Renewal,
     kind: Kind,
     name: &[u8],
 ) -> Result<Option<ReadFault>, ReadFault>
-    ensures is { IfOk result (λ fault. fault ≡ entry_fault kind names.now name.now) }
+    ensures is { IfOk result (λ fault. fault ≡ entry_fault kind (renewed known.now names.now) name.now) }
     ensures memory { IfErr result (λ fault. fault ≡ ReadFault.NoMemory) }
 {
     if is_reserved(name) {
         let name = Items::from_slice(alloc, name)?;
         return Ok(Some(ReadFault::Reserved { kind, name }));
     }
-    if names.get(name).is_some() {
+    if names.has(known, name) {
         let name = Items::from_slice(alloc, name)?;
         return Ok(Some(ReadFault::Duplicate { kind, name }));
     }
-    if names.len() >= ALIAS_LIMIT {
+    if names.len(known) >= ALIAS_LIMIT {
         return Ok(Some(ReadFault::TooMany { kind }));
     }
     Ok(None)

@@ -24,6 +24,7 @@ ghost use Rattle.sudoers_tree.specs.Single.{said};
 ghost use Rattle.sudoers_tree.specs.Files.{FileReading, Reads, read_until};
 ghost use Rattle.sudoers_tree.specs.declared.fault.SyntaxFault.{SyntaxFault as SyntaxFaultOf};
 ghost use Rattle.sudoers_tree.specs.Goes.{IsWalkOf};
+ghost use Rattle.sudoers_tree.specs.internal.Pieces.{AreShort};
 ghost use Rattle.sudoers_tree.specs.Walk.{Walked, walk_of};
 ghost use Rattle.sudoers_tree.specs.declared.load_fault.LoadFault.{LoadFault as LoadFaultOf};
 
@@ -31,8 +32,8 @@ use crate::one_file::OneFile;
 use sudoers_line::laws::{no_fault, one_fault};
 use sudoers_line_reader::laws::{one_reading, outcome_is};
 use sudoers_text::laws::{
-    cut_is, line_alone_is_whole, lines_stand_alone, one_list, one_outcome as one_cut,
-    whole_line_is, whole_lines_of_join,
+    cut_is, line_alone_is_whole, line_alone_size, lines_stand_alone, one_list,
+    one_outcome as one_cut, whole_line_is, whole_lines_of_join,
 };
 
 /// A text has an outcome: the policy that it is, or its first fault.
@@ -93,6 +94,16 @@ pub fn lines_are_whole(policy: &OneFile)
     lines_stand_alone();
     line_alone_is_whole();
     whole_line_is();
+}
+
+/// A law: each line of a policy is within the limit of a line.
+pub(crate) fn lines_are_short(policy: &OneFile)
+    ensures { AreShort (texts policy.now) }
+{
+    policy.is_policy();
+    policy_is_cut();
+    lines_stand_alone();
+    line_alone_size();
 }
 
 /// A law: lines that are each one logical line, all but the last ending in LF, are those of the policy that their join is.

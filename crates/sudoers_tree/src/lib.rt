@@ -1,12 +1,12 @@
 //! A sudoers policy: its lines with what they say, and the definitions and mentions of its aliases.
 #![tactic(auto)]
 
+mod change;
 mod changed;
 mod fault;
 mod files;
 mod index;
 mod kind;
-mod known;
 pub mod laws;
 mod lead;
 mod line;
@@ -22,6 +22,8 @@ mod place;
 mod policy;
 mod position;
 mod reading;
+mod renewal;
+mod row;
 mod single;
 mod targets;
 mod tree;

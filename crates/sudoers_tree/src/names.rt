@@ -1,26 +1,31 @@
 //! The names that are defined in one kind.
 
-ghost use Rattle.std.specs.Prelude.{◌≡◌, ◌∷◌, [], ◌++◌, length, map, OnOk, None};
-ghost use Rattle.sudoers_tree.specs.Index.{named};
+ghost use Rattle.std.specs.Prelude.{◌≡◌, ◌≤◌, ◌∷◌, [], ◌++◌, ℕ, List, length, take, slice_get, zip, IfOk, OnOk, None, Some};
+ghost use Rattle.std.specs.Option.{option_copied};
+ghost use Rattle.sudoers_tree.specs.Index.{named, number_named, names_in, renewed};
 
 use crate::place::Place;
-use indexmap::IndexMap;
+use crate::renewal::Renewal;
+use indexmap::IndexSet;
 use std::alloc::{AllocError, Global};
 use std::marker::Model;
 
 /// Names with the places of their definitions, in the order in which they were entered.
 #[derive(Drop)]
 pub struct Names {
-    places: IndexMap<Vec<u8>, Place>,
+    names: IndexSet<Vec<u8>>,
+    places: Vec<Place>,
 }
 
 impl Model for Names {
-    ghost use Rattle.std.specs.Prelude.{ℕ, List, map};
+    ghost use Rattle.std.specs.Prelude.{◌≡◌, ℕ, List, length, map, zip};
     ghost use Rattle.sudoers_tree.specs.declared.place.Place.{Place};
 
     ghost Value = { List (List ℕ × Place) };
 
-    ghost view = { λ names. map (λ entry. (entry.0.items, entry.1)) names.places.entries };
+    ghost view = { λ names. zip (map (λ name. name.items) names.names.keys) names.places.items };
+
+    ghost invariant = { λ names. length names.names.keys ≡ length names.places.items };
 }
 
 impl Names {
@@ -29,7 +34,8 @@ impl Names {
         ensures { result ≡ [] }
     {
         Names {
-            places: IndexMap::new(alloc),
+            names: IndexSet::new(alloc),
+            places: Vec::new(alloc),
         }
     }
 
@@ -37,14 +43,41 @@ impl Names {
     pub fn len(&self) -> usize
         ensures { result ≡ length self.now }
     {
-        self.places.len()
+        self.places.as_slice().len()
+    }
+
+    /// Returns the number, from 0, of the name `name`.
+    pub fn number(&self, name: &[u8]) -> Option<usize>
+        ensures { result ≡ number_named name.now self.now }
+    {
+        self.names.get_index_of(name)
+    }
+
+    /// Returns the name with the number `number`, from 0.
+    pub fn name(&self, number: usize) -> Option<&[u8]>
+        ensures { option_copied result ≡ slice_get (names_in self.now) number }
+    {
+        match self.names.get_index(number) {
+            Some(name) => Some(name.as_slice()),
+            None => None,
+        }
     }
 
     /// Returns where the name `name` is defined.
     pub fn get(&self, name: &[u8]) -> Option<Place>
         ensures { result ≡ named name.now self.now }
     {
-        self.places.get(name).copied()
+        match self.number(name) {
+            Some(number) => place_at(self.places.as_slice(), number),
+            None => None,
+        }
+    }
+
+    /// A law: no name stands twice.
+    pub fn are_distinct(&self)
+        ensures { (number : ℕ) (name : List ℕ) → slice_get (names_in self.now) number ≡ Some name → named name (take number self.now) ≡ None }
+    {
+        let _ = self.names.len();
     }
 
     /// Appends the name `name` with the place `place` of its definition.
@@ -56,7 +89,63 @@ impl Names {
         requires { named name.now self.old ≡ None }
         ensures { OnOk result (self.new ≡ self.old ++ (name.now, place) ∷ []) }
     {
-        self.places.insert(Vec::from_slice(alloc, name)?, place)?;
+        self.places.reserve(1)?;
+        self.names.insert(Vec::from_slice(alloc, name)?)?;
+        self.places.push(place).unwrap();
         Ok(())
     }
+
+    /// Returns the first names, as many as `places`, with these places.
+    ///
+    /// # Errors
+    ///
+    /// A growth of memory was refused.
+    pub fn front(&self, alloc: Global, places: Vec<Place>) -> Result<Names, AllocError>
+        requires { length places.items ≤ length self.now }
+        ensures { IfOk result (λ names. names ≡ zip (names_in self.now) places.items) }
+    {
+        self.are_distinct();
+        let mut names = Names::new(alloc);
+        for number in 0..places.as_slice().len() {
+            let Some(name) = self.name(number) else {
+                return Ok(names);
+            };
+            names.push(alloc, name, places[number])?;
+        }
+        Ok(names)
+    }
+
+    /// Returns a copy.
+    ///
+    /// # Errors
+    ///
+    /// A growth of memory was refused.
+    pub fn copied(&self, alloc: Global) -> Result<Names, AllocError>
+        ensures { IfOk result (λ names. names ≡ self.now) }
+    {
+        let places = Vec::from_slice(alloc, self.places.as_slice())?;
+        self.front(alloc, places)
+    }
+
+    /// Puts the names that `renewal` has beside these in their place. It takes no memory.
+    pub fn renew(&mut self, renewal: Renewal)
+        ensures { self.new ≡ renewed self.old renewal }
+    {
+        let Renewal { own, mut places } = renewal;
+        match own {
+            Some(names) => *self = names,
+            None => {
+                places.truncate(self.len());
+                self.names.truncate(places.as_slice().len());
+                self.places = places;
+            }
+        }
+    }
+}
+
+/// Returns the place with the number `number`, from 0.
+fn place_at(places: &[Place], number: usize) -> Option<Place>
+    ensures { result ≡ slice_get places.now number }
+{
+    places.get(number).copied()
 }

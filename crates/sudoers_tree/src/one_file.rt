@@ -21,16 +21,15 @@ ghost use Rattle.sudoers_tree.specs.Reading.{read_behind, read_of, ReadGives};
 ghost use Rattle.sudoers_tree.specs.Index.{ReadsAll};
 ghost use Rattle.sudoers_tree.specs.internal.Tree.{no_lines};
 
-use crate::changed::{append_texts, text_of};
+use crate::changed::append_texts;
 use crate::fault::ReadFault;
 use crate::index::Index;
 use crate::kind::LineKind;
-use crate::laws::{lines_are_whole, read_is, whole_lines_are_read};
+use crate::laws::{lines_are_short, lines_are_whole, read_is, whole_lines_are_read};
 use crate::line::{Line, LineRow};
 use crate::line_change::LineChange;
 use crate::mention::append_mentions;
-use crate::passing::pass_all;
-use crate::pieces::pieces;
+use crate::passing::enter_lines;
 use crate::place::{Place, Span};
 use crate::reading::read_lines;
 use crate::tree::Tree;
@@ -69,12 +68,12 @@ impl Model for OneFile {
 
     ghost Value = { List Line };
 
-    ghost view = { λ policy. policy.lines.value.tree.walk };
+    ghost view = { λ policy. policy.lines.value.tree.all };
 
-    ghost invariant = { λ policy. (read_of (join (texts policy.lines.value.tree.walk)) ≡ Ok policy.lines.value.tree.walk)
-        × (policy.size ≡ length (join (texts policy.lines.value.tree.walk)))
-        × Indexes policy.lines.value.index (definitions policy.lines.value.tree.walk)
-        × IsPolicy policy.lines.value.tree.walk };
+    ghost invariant = { λ policy. (read_of (join (texts policy.lines.value.tree.all)) ≡ Ok policy.lines.value.tree.all)
+        × (policy.size ≡ length (join (texts policy.lines.value.tree.all)))
+        × Indexes policy.lines.value.index (definitions policy.lines.value.tree.all)
+        × IsPolicy policy.lines.value.tree.all };
 }
 
 impl OneFile {
@@ -92,28 +91,15 @@ impl OneFile {
         // The result is the outcome of the text, of which there is exactly one, unless memory ran out.
         ensures outcome { ReadGives result (read_of text.now) }
     {
-        read_knowing(alloc, None, text)
-    }
-
-    /// Returns the policy that `text` is, as [`OneFile::read`] does. A line that this policy has at the same place, or beside it, is not
-    /// read again.
-    ///
-    /// # Errors
-    ///
-    /// Those of [`OneFile::read`].
-    pub fn reread(&self, text: &[u8]) -> Result<OneFile, ReadFault>
-        // The result is a policy, and its lines, joined, are the text.
-        ensures policy { IfOk result (λ lines. IsPolicy lines × (join (texts lines) ≡ text.now)) }
-        // A fault is the first one of the text, or memory ran out.
-        ensures fault { IfErr result (λ fault. (fault ≡ ReadFault.NoMemory) ⊎ IsFaultOf text.now fault) }
-        // The result is the outcome of the text, of which there is exactly one, unless memory ran out.
-        ensures outcome { ReadGives result (read_of text.now) }
-    {
-        let tree = &self.lines.tree;
-        if tree.is_mostly_unused(self.size) {
-            return OneFile::read(self.alloc, text);
-        }
-        read_knowing(self.alloc, Some(tree), text)
+        read_is();
+        let lines = cut(alloc, text)?;
+        let mut tree = Tree::new(alloc, lines.len())?;
+        let index = read_all(alloc, &mut tree, &lines)?;
+        Ok(OneFile {
+            lines: Box::new(alloc, Indexed { tree, index })?,
+            size: text.len(),
+            alloc,
+        })
     }
 
     /// Returns a copy.
@@ -124,12 +110,15 @@ impl OneFile {
     pub fn copied(&self) -> Result<OneFile, AllocError>
         ensures { IfOk result (λ copy. copy ≡ self.now) }
     {
-        self.is_policy();
-        let text = self.text()?;
-        match self.reread(text.as_slice()) {
-            Ok(copy) => Ok(copy),
-            Err(_) => Err(AllocError),
-        }
+        let lines = Indexed {
+            tree: self.lines.tree.copied(self.alloc)?,
+            index: self.lines.index.copied(self.alloc)?,
+        };
+        Ok(OneFile {
+            lines: Box::new(self.alloc, lines)?,
+            size: self.size,
+            alloc: self.alloc,
+        })
     }
 
     /// A law: the lines are a policy, and are those of their text.
@@ -144,7 +133,7 @@ impl OneFile {
     pub fn walk(&self) -> Walk<'_>
         ensures { result ≡ self.now }
     {
-        Walk::of(&self.lines.tree, &self.lines.index)
+        Walk::of(self.lines.tree.all(), &self.lines.index)
     }
 
     /// A law: the text is within the limit.
@@ -184,21 +173,27 @@ impl OneFile {
             (λ fault. (fault ≡ ReadFault.NoMemory) ⊎ (read_of (join (changed changes.now (texts self.old))) ≡ Err fault)) }
         ensures unchanged { OnErr result (self.new ≡ self.old) }
     {
+        read_is();
         lines_are_whole(self);
+        lines_are_short(self);
         whole_lines_are_read();
-        let text = self.changed_text(changes)?;
-        *self = self.reread(text.as_slice())?;
+        self.drop_waste()?;
+        let lines = &mut *self.lines;
+        let (names, size) = lines.tree.change(self.alloc, &lines.index, changes)?;
+        lines.index.renew(names);
+        self.size = size;
         Ok(())
     }
 
-    /// Returns the text after the changes.
-    fn changed_text(&self, changes: &[LineChange]) -> Result<Vec<u8>, AllocError>
-        requires { AreInOrder 0 changes.now (length self.now) }
-        ensures { IfOk result (λ text. text.items ≡ join (changed changes.now (texts self.now))) }
+    /// Reads the lines again if most bytes of their tables are unused.
+    fn drop_waste(&mut self) -> Result<(), AllocError>
+        ensures { self.new ≡ self.old }
     {
-        let lines = self.lines();
-        let pieces = pieces(self.alloc, lines.rows, changes)?;
-        text_of(self.alloc, lines.tables, pieces.as_slice())
+        if self.lines.tree.is_mostly_unused(self.size) {
+            let tree = self.lines.tree.reread(self.alloc)?;
+            self.lines.tree = tree;
+        }
+        Ok(())
     }
 
     /// Inserts the line `line` before the line with the number `at`, from 0, or after the last line.
@@ -325,37 +320,19 @@ impl OneFile {
     }
 }
 
-/// Returns the policy that `text` is. A line that `known` has at the same place, or beside it, is not read again.
-fn read_knowing(alloc: Global, known: Option<&Tree>, text: &[u8]) -> Result<OneFile, ReadFault>
-    ensures policy { IfOk result (λ lines. IsPolicy lines × (join (texts lines) ≡ text.now)) }
-    ensures fault { IfErr result (λ fault. (fault ≡ ReadFault.NoMemory) ⊎ IsFaultOf text.now fault) }
-    ensures outcome { ReadGives result (read_of text.now) }
-{
-    read_is();
-    let lines = cut(alloc, text)?;
-    let mut tree = Tree::new(alloc, known, lines.len())?;
-    let index = read_walk(alloc, &mut tree, &lines)?;
-    Ok(OneFile {
-        lines: Box::new(alloc, Indexed { tree, index })?,
-        size: text.len(),
-        alloc,
-    })
-}
-
-/// Reads the lines `lines` into `tree`, which has no lines, and appends them to its walk. Returns the names that they define, or the first
-/// fault.
-fn read_walk(alloc: Global, tree: &mut Tree, lines: &Lines<'_>) -> Result<Index, ReadFault>
+/// Reads the lines `lines` into `tree`, which has no lines. Returns the names that they define, or the first fault.
+fn read_all(alloc: Global, tree: &mut Tree, lines: &Lines<'_>) -> Result<Index, ReadFault>
     requires empty { tree.old ≡ no_lines }
     requires fits { length (join lines.now) ≤ text_limit }
-    ensures { ReadsAll result tree.new.walk (read_behind [] lines.now) }
+    ensures { ReadsAll result tree.new.all (read_behind [] lines.now) }
 {
     outcome_is();
     let fault = read_lines(alloc, tree, lines)?;
     let mut index = Index::new(alloc);
-    pass_all(alloc, tree, &mut index)?;
+    let names = enter_lines(alloc, &index, &tree.all())?;
     if let Some(fault) = fault {
         return Err(fault.into());
     }
-    tree.forget(alloc);
+    index.renew(names);
     Ok(index)
 }

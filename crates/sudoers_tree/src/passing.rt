@@ -1,18 +1,21 @@
 //! Appending lines to the walk, and entering the names that they define.
 
-ghost use Rattle.std.specs.Prelude.{◌≡◌, [], List, length, slice_get, OnOk, Some};
+ghost use Rattle.std.specs.Prelude.{◌≡◌, List, length, slice_get, OnOk, Some};
 ghost use Rattle.sudoers_tree.specs.Definition.{Definition, definitions, definitions_in};
-ghost use Rattle.sudoers_tree.specs.Index.{Enters, Indexes};
-ghost use Rattle.sudoers_tree.specs.Line.{Line as LineOf};
-ghost use Rattle.sudoers_tree.specs.internal.Passing.{Passes, PassesAll};
+ghost use Rattle.sudoers_tree.specs.Index.{renewed_index, Enters, Indexes};
+ghost use Rattle.sudoers_tree.specs.Line.{Line as LineOf, line_in, lines_shown};
+ghost use Rattle.sudoers_tree.specs.internal.Passing.{EntersAll, Passes};
 
 use crate::fault::ReadFault;
-use crate::index::Index;
+use crate::index::{Index, Renewals};
 use crate::kind::LineKind;
+use crate::line::LineRow;
 use crate::tree::Tree;
 use std::alloc::Global;
+use sudoers_line_rows::{Rows, Tables};
 
-/// Appends the line with the number `at`, from 0, of `tree` to its walk, and enters the names that it defines into `index`.
+/// Appends the line with the number `at`, from 0, of `tree` to its walk, and enters the names that it defines into `names`, beside those
+/// of `known`.
 ///
 /// # Errors
 ///
@@ -20,48 +23,97 @@ use std::alloc::Global;
 pub fn pass_line(
     alloc: Global,
     tree: &mut Tree,
-    index: &mut Index,
+    known: &Index,
+    names: &mut Renewals,
     at: usize,
 ) -> Result<(), ReadFault>
-    requires { Indexes index.old (definitions tree.old.walk) }
+    requires { Indexes (renewed_index known.now names.old) (definitions tree.old.walk) }
     ensures all { tree.new.all ≡ tree.old.all }
-    ensures index { OnOk result (Indexes index.new (definitions tree.new.walk)) }
-    ensures passes { (line : LineOf) → slice_get tree.old.all at ≡ Some line → Passes result tree.old.walk tree.new.walk index.new line }
+    ensures names { OnOk result (Indexes (renewed_index known.now names.new) (definitions tree.new.walk)) }
+    ensures passes { (line : LineOf) → slice_get tree.old.all at ≡ Some line
+        → Passes result tree.old.walk tree.new.walk (renewed_index known.now names.new) line }
 {
     let Some(kind) = tree.kind(at) else {
         return Ok(());
     };
     if kind == LineKind::Alias {
-        enter_names(alloc, tree, index, at)?;
+        enter_names(alloc, tree, known, names, at)?;
     }
     tree.pass(at)?;
     Ok(())
 }
 
-/// Enters the names that the line with the number `at`, from 0, of those that are read defines. It is to stand behind those of the walk.
-fn enter_names(alloc: Global, tree: &Tree, index: &mut Index, at: usize) -> Result<(), ReadFault>
-    ensures { (line : LineOf) (before : List Definition) → slice_get tree.now.all at ≡ Some line → Indexes index.old before
-        → Enters result index.new before (definitions_in (length tree.now.walk) line.node) }
+/// Enters the names that the line with the number `at`, from 0, of those that are read defines into `names`, beside those of `known`. The
+/// line is to stand behind those of the walk.
+fn enter_names(
+    alloc: Global,
+    tree: &Tree,
+    known: &Index,
+    names: &mut Renewals,
+    at: usize,
+) -> Result<(), ReadFault>
+    ensures { (line : LineOf) (before : List Definition) → slice_get tree.now.all at ≡ Some line
+        → Indexes (renewed_index known.now names.old) before
+        → Enters result (renewed_index known.now names.new) before (definitions_in (length tree.now.walk) line.node) }
 {
     let number = tree.walk().rows.len();
     let Some(line) = tree.line(at) else {
         return Ok(());
     };
-    index.enter(alloc, number, &line.node)
+    names.enter(alloc, known, number, &line.node)
 }
 
-/// Appends all lines of `tree` to its walk, which is empty, and enters the names that they define into `index`.
+/// Returns the names that the lines `lines` define, beside those of `known`.
 ///
 /// # Errors
 ///
 /// The fault of the first name that cannot be entered. `NoMemory`: memory ran out.
-pub fn pass_all(alloc: Global, tree: &mut Tree, index: &mut Index) -> Result<(), ReadFault>
-    requires none { tree.old.walk ≡ [] }
-    requires index { Indexes index.old [] }
-    ensures { PassesAll result tree.old tree.new index.new }
+pub fn enter_lines(
+    alloc: Global,
+    known: &Index,
+    lines: &Rows<'_, LineRow>,
+) -> Result<Renewals, ReadFault>
+    ensures { EntersAll result known.now (lines_shown lines.now) }
 {
-    for at in 0..tree.len() {
-        pass_line(alloc, tree, index, at)?;
+    let mut names = Renewals::new(alloc, known)?;
+    for number in 0..lines.rows.len() {
+        enter_line(alloc, known, lines, number, &mut names)?;
     }
-    Ok(())
+    Ok(names)
+}
+
+/// Enters the names that the line with the number `number`, from 0, of `lines` defines into `names`, beside those of `known`.
+fn enter_line(
+    alloc: Global,
+    known: &Index,
+    lines: &Rows<'_, LineRow>,
+    number: usize,
+    names: &mut Renewals,
+) -> Result<(), ReadFault>
+    ensures { (line : LineOf) (before : List Definition) → slice_get (lines_shown lines.now) number ≡ Some line
+        → Indexes (renewed_index known.now names.old) before
+        → Enters result (renewed_index known.now names.new) before (definitions_in number line.node) }
+{
+    let Some(row) = lines.rows.get(number) else {
+        return Ok(());
+    };
+    enter_row(alloc, known, lines.tables, number, row, names)
+}
+
+/// Enters the names that the line of the row `row`, which has the number `number`, defines into `names`, beside those of `known`.
+fn enter_row(
+    alloc: Global,
+    known: &Index,
+    tables: &Tables,
+    number: usize,
+    row: &LineRow,
+    names: &mut Renewals,
+) -> Result<(), ReadFault>
+    ensures { (before : List Definition) → Indexes (renewed_index known.now names.old) before
+        → Enters result (renewed_index known.now names.new) before (definitions_in number (line_in tables.now row.now).node) }
+{
+    if row.kind() != LineKind::Alias {
+        return Ok(());
+    }
+    names.enter(alloc, known, number, &tables.node(&row.node))
 }

@@ -1,11 +1,12 @@
 //! The lines of a policy after changes, as stretches of its lines and texts between them.
 
 ghost use Rattle.std.specs.Prelude.{◌≡◌, ◌≤◌, ◌<◌, ◌^◌, ◌-◌, ◌++◌, length, map, take, drop, option_to_list, IfOk, OnOk};
+ghost use Rattle.std.specs.List.{All};
 ghost use Rattle.sudoers_line_rows.specs.declared.rows.Tables.{Tables as TablesOf};
 ghost use Rattle.sudoers_tree.specs.Changed.{changed, place_of, text_brought, AreInOrder};
 ghost use Rattle.sudoers_tree.specs.Line.{line_in};
 ghost use Rattle.sudoers_tree.specs.Policy.{texts};
-ghost use Rattle.sudoers_tree.specs.internal.Pieces.{piece_texts};
+ghost use Rattle.sudoers_tree.specs.internal.Pieces.{piece_texts, AreKept, IsKept};
 
 use crate::line::LineRow;
 use crate::line_change::LineChange;
@@ -29,8 +30,9 @@ pub fn pieces<'a>(
     changes: &'a [LineChange],
 ) -> Result<Vec<Piece<'a>>, AllocError>
     requires { AreInOrder 0 changes.now (length rows.now) }
-    ensures { IfOk result (λ pieces. (tables : TablesOf)
+    ensures lines { IfOk result (λ pieces. (tables : TablesOf)
         → piece_texts tables pieces.items ≡ changed changes.now (texts (map (line_in tables) rows.now))) }
+    ensures kept { IfOk result (λ pieces. (tables : TablesOf) → All (IsKept tables) rows.now → AreKept tables pieces.items) }
 {
     let mut pieces = Vec::with_capacity(alloc, changes.len().saturating_mul(2).saturating_add(1))?;
     let count = row_count(rows);
@@ -52,7 +54,8 @@ fn append_change<'a>(
 ) -> Result<(), AllocError>
     requires order { from ≤ place_of change.now }
     requires within { place_of change.now ≤ length rows.now }
-    ensures { OnOk result ((tables : TablesOf) → piece_texts tables pieces.new.items
+    ensures kept { OnOk result ((tables : TablesOf) → All (IsKept tables) rows.now → AreKept tables pieces.old.items → AreKept tables pieces.new.items) }
+    ensures lines { OnOk result ((tables : TablesOf) → piece_texts tables pieces.new.items
         ≡ piece_texts tables pieces.old.items ++ (texts (map (line_in tables) (take (place_of change.now - from) (drop from rows.now)))
         ++ option_to_list (text_brought change.now))) }
 {

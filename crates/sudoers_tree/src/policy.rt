@@ -5,11 +5,14 @@ ghost use Rattle.sudoers_text.specs.Fault.{text_limit};
 ghost use Rattle.sudoers_text.specs.Line.{join};
 ghost use Rattle.sudoers_tree.specs.declared.load_fault.LoadFault.TheVariants.{NoMemory};
 ghost use Rattle.sudoers_tree.specs.Files.{lines_of, name_of};
+ghost use Rattle.sudoers_tree.specs.Index.{renewed_index};
 ghost use Rattle.sudoers_tree.specs.Line.{Line as LineOf, line_shown, lines_shown};
 ghost use Rattle.sudoers_tree.specs.Load.{HasSpot, load_of, one_file};
 ghost use Rattle.sudoers_tree.specs.Policy.{texts};
 
 use crate::changed::append_texts;
+use crate::files::Files;
+use crate::index::Index;
 use crate::laws::{loaded_is_walk, loaded_is_within, loaded_lines_stand};
 use crate::line::{Line, LineRow};
 use crate::load::{FILE_LIMIT, NamedFile, first_repeated, read_files};
@@ -28,7 +31,17 @@ use sudoers_line_rows::Rows;
 /// numbers of the files on the walk.
 #[derive(Drop)]
 pub struct Policy {
-    walking: Box<Walking>,
+    walked: Box<WalkedFiles>,
+}
+
+/// Files with the walk over them: the spot of each of its lines, the numbers of its files in their order, and the names that its lines
+/// define.
+#[derive(Drop)]
+struct WalkedFiles {
+    files: Files,
+    spots: Vec<Spot>,
+    on: Vec<usize>,
+    index: Index,
 }
 
 impl Model for Policy {
@@ -39,16 +52,38 @@ impl Model for Policy {
     ghost use Rattle.sudoers_tree.specs.Index.{Indexes};
     ghost use Rattle.sudoers_tree.specs.Load.{Loaded, StandAt, file_limit};
     ghost use Rattle.sudoers_tree.specs.Policy.{IsWalk, texts};
-    ghost use Rattle.sudoers_tree.specs.internal.Walking.{walked};
+    ghost use Rattle.sudoers_tree.specs.internal.Walking.{walk_over};
 
     ghost Value = { Loaded };
 
-    ghost view = { λ policy. record { files = policy.walking.value.files.files; walk = walked policy.walking.value } };
+    ghost view = { λ policy. record { files = policy.walked.value.files.files; walk = walk_over policy.walked.value.files policy.walked.value.spots.items policy.walked.value.on.items } };
 
-    ghost invariant = { λ policy. Indexes policy.walking.value.index (definitions policy.walking.value.files.walk)
-        × IsWalk policy.walking.value.files.walk
-        × (length (join (texts policy.walking.value.files.walk)) ≤ file_limit * text_limit)
-        × StandAt policy.walking.value.files.files policy.walking.value.spots.items policy.walking.value.files.walk };
+    ghost invariant = { λ policy. Indexes policy.walked.value.index (definitions policy.walked.value.files.walk)
+        × IsWalk policy.walked.value.files.walk
+        × (length (join (texts policy.walked.value.files.walk)) ≤ file_limit * text_limit)
+        × StandAt policy.walked.value.files.files policy.walked.value.spots.items policy.walked.value.files.walk };
+}
+
+impl WalkedFiles {
+    /// Returns the files over which `walking` went, with the walk.
+    fn of(walking: Walking) -> WalkedFiles
+        ensures { result ≡ record { files = walking.files; spots = walking.spots; on = walking.on; index = renewed_index walking.known walking.names } }
+    {
+        let Walking {
+            files,
+            spots,
+            on,
+            known: mut index,
+            names,
+        } = walking;
+        index.renew(names);
+        WalkedFiles {
+            files,
+            spots,
+            on,
+            index,
+        }
+    }
 }
 
 impl Policy {
@@ -76,7 +111,7 @@ impl Policy {
         let mut walking = Walking::new(alloc, read)?;
         match walking.walk_all(alloc) {
             Ok(()) => Ok(Policy {
-                walking: Box::new(alloc, walking)?,
+                walked: Box::new(alloc, WalkedFiles::of(walking))?,
             }),
             Err(fault) => Err(fault),
         }
@@ -103,28 +138,28 @@ impl Policy {
     pub fn lines(&self) -> Rows<'_, LineRow>
         ensures { lines_shown result ≡ self.now.walk.lines }
     {
-        self.walking.lines()
+        self.walked.files.walk()
     }
 
     /// Returns the lines of the walk, with the names that they define.
     pub fn walk(&self) -> Walk<'_>
         ensures { result ≡ self.now.walk.lines }
     {
-        Walk::of(self.walking.files.tree(), &self.walking.index)
+        Walk::of(self.walked.files.walk(), &self.walked.index)
     }
 
     /// Returns where each line of the walk stands.
     pub fn spots(&self) -> &[Spot]
         ensures { result.now ≡ self.now.walk.spots }
     {
-        self.walking.spots.as_slice()
+        self.walked.spots.as_slice()
     }
 
     /// A law: the lines of each file are within the limit of a text.
     pub fn files_fit(&self)
         ensures { (file : ℕ) → length (join (texts (lines_of self.now.files file))) ≤ text_limit }
     {
-        self.walking.files.files_fit();
+        self.walked.files.files_fit();
     }
 
     /// A law: each line of the walk stands at its spot. Its row and the length of its text together are at most twice the limit of a text,
@@ -134,35 +169,35 @@ impl Policy {
         ensures stand { (number : ℕ) (line : LineOf) → slice_get self.now.walk.lines number ≡ Some line → HasSpot self.now number line }
     {
         self.files_fit();
-        let _ = &self.walking;
+        let _ = &self.walked;
     }
 
     /// Returns the numbers of the files on the walk, in the order in which they came onto it.
     pub fn on_walk(&self) -> &[usize]
         ensures { result.now ≡ self.now.walk.on }
     {
-        self.walking.on.as_slice()
+        self.walked.on.as_slice()
     }
 
     /// Returns how many files there are.
     pub fn files(&self) -> usize
         ensures { result ≡ length self.now.files }
     {
-        self.walking.files.len()
+        self.walked.files.len()
     }
 
     /// Returns the name of the file with the number `file`, from 0; no bytes if there is none.
     pub fn file_name(&self, file: usize) -> &[u8]
         ensures { result.now ≡ name_of self.now.files file }
     {
-        self.walking.files.name(file)
+        self.walked.files.name(file)
     }
 
     /// Returns the lines of the file with the number `file`, from 0, with what they say; no lines if there is no such file.
     pub fn file_lines(&self, file: usize) -> Rows<'_, LineRow>
         ensures { lines_shown result ≡ lines_of self.now.files file }
     {
-        self.walking.files.lines(file)
+        self.walked.files.lines(file)
     }
 
     /// Returns the text of the file with the number `file`, from 0, byte for byte.
@@ -183,13 +218,13 @@ impl Policy {
     pub fn len(&self, file: usize) -> usize
         ensures { result ≡ length (lines_of self.now.files file) }
     {
-        self.walking.files.line_count(file)
+        self.walked.files.line_count(file)
     }
 
     /// Returns the line with the number `line` of the file with the number `file`, both from 0.
     pub fn line(&self, file: usize, line: usize) -> Option<Line<'_>>
         ensures { option_map line_shown result ≡ slice_get (lines_of self.now.files file) line }
     {
-        self.walking.files.line(file, line)
+        self.walked.files.line(file, line)
     }
 }

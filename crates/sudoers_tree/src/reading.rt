@@ -15,7 +15,7 @@ use sudoers_line::{LineFault, Why};
 use sudoers_text::Lines;
 
 /// Returns the fault `why` at the byte `at` of the line `text`, which begins on the physical line `row`.
-fn fault_at(row: usize, text: &[u8], at: usize, why: Why) -> SyntaxFault
+pub fn fault_at(row: usize, text: &[u8], at: usize, why: Why) -> SyntaxFault
     requires { row + length text.now ≤ 1048577 }
     ensures { result ≡ fault_at row text.now at why }
 {

@@ -1,15 +1,26 @@
 //! Lines that are read into tables, and the walk over them.
 
-ghost use Rattle.std.specs.Prelude.{◌≡◌, ◌≤◌, ◌-◌, ◌++◌, ◌∷◌, [], drop, take, length, option_map, slice_get, IfOk, OnOk, Some};
+ghost use Rattle.std.specs.Prelude.{◌≡◌, ◌≤◌, ◌-◌, ◌++◌, ◌∷◌, [], drop, take, length, option_map, slice_get, false, IfOk, OnOk, OnErr, Some};
 ghost use Rattle.std.specs.Option.{option_copied};
 ghost use Rattle.sudoers_line_reader.specs.Outcome.{outcome_of};
 ghost use Rattle.sudoers_tree.specs.Kind.{line_kind};
 ghost use Rattle.sudoers_tree.specs.Line.{Line as LineOf, line_shown, lines_shown};
+ghost use Rattle.std.specs.List.{AllByRecursion};
+ghost use Rattle.sudoers_text.specs.Ended.{has_unended_inside};
+ghost use Rattle.sudoers_text.specs.Whole.{IsLogicalLine};
+ghost use Rattle.sudoers_tree.specs.Changed.{changed, AreInOrder};
+ghost use Rattle.sudoers_tree.specs.Policy.{texts};
+ghost use Rattle.sudoers_tree.specs.internal.Pieces.{AreShort, Changes};
 ghost use Rattle.sudoers_tree.specs.internal.Tree.{ReadsOne, no_lines};
 
+use crate::change::{ChangedLines, changed_lines};
+use crate::fault::ReadFault;
+use crate::index::{Index, Renewals};
 use crate::kind::LineKind;
-use crate::known::{copy_tables, row_of};
 use crate::line::{Line, LineRow};
+use crate::line_change::LineChange;
+use crate::pieces::pieces;
+use crate::row::{copy_tables, read_row};
 use std::alloc::{AllocError, Global};
 use std::marker::Model;
 use sudoers_line::LineFault;
@@ -17,12 +28,10 @@ use sudoers_line_rows::laws::growth_goes_on;
 use sudoers_line_rows::{Rows, Tables};
 
 /// Lines as they are read, those of them that are on the walk, in its order, and the tables in which they say something.
-/// Contracts see the two lists with what the lines say. `known` holds rows of an earlier reading, which the lists leave out. A
-/// line that stands there is not read again.
+/// Contracts see the two lists with what the lines say.
 #[derive(Drop)]
 pub struct Tree {
     tables: Tables,
-    known: Vec<LineRow>,
     rows: Vec<LineRow>,
     walk: Vec<LineRow>,
 }
@@ -40,45 +49,60 @@ impl Model for Tree {
       walk = map (line_in tree.tables) tree.walk.items;
     } };
 
-    ghost invariant = { λ tree. All (Stands tree.tables) tree.known.items × All (Stands tree.tables) tree.rows.items
-        × All (Stands tree.tables) tree.walk.items };
+    ghost invariant = { λ tree. All (Stands tree.tables) tree.rows.items × All (Stands tree.tables) tree.walk.items };
 }
 
 impl Tree {
-    /// Returns no lines, with room for `count`. The tables are new, or a copy of those of `known`, whose lines need not be
-    /// read again.
+    /// Returns no lines, with room for `count`.
     ///
     /// # Errors
     ///
-    /// Want of memory alone.
-    pub fn new(alloc: Global, known: Option<&Tree>, count: usize) -> Result<Tree, AllocError>
+    /// Memory ran out.
+    pub fn new(alloc: Global, count: usize) -> Result<Tree, AllocError>
         ensures { IfOk result (λ tree. tree ≡ no_lines) }
     {
-        growth_goes_on();
-        let rows = Vec::with_capacity(alloc, count)?;
-        let walk = Vec::with_capacity(alloc, count)?;
-        match known {
-            Some(tree) => Ok(Tree {
-                tables: copy_tables(alloc, &tree.tables)?,
-                known: Vec::from_slice(alloc, tree.walk.as_slice())?,
-                rows,
-                walk,
-            }),
-            None => Ok(Tree {
-                tables: Tables::new(alloc),
-                known: Vec::new(alloc),
-                rows,
-                walk,
-            }),
-        }
+        Ok(Tree {
+            tables: Tables::new(alloc),
+            rows: Vec::with_capacity(alloc, count)?,
+            walk: Vec::new(alloc),
+        })
     }
 
-    /// Forgets the known lines, and all that are not on the walk.
-    pub fn forget(&mut self, alloc: Global)
-        ensures { self.new.walk ≡ self.old.walk }
+    /// Returns a copy of the lines that are read. Its walk is empty.
+    ///
+    /// # Errors
+    ///
+    /// Memory ran out.
+    pub fn copied(&self, alloc: Global) -> Result<Tree, AllocError>
+        ensures { IfOk result (λ tree. tree ≡ record { all = self.now.all; walk = [] }) }
     {
-        self.known = Vec::new(alloc);
-        self.rows = Vec::new(alloc);
+        growth_goes_on();
+        Ok(Tree {
+            tables: copy_tables(alloc, &self.tables)?,
+            rows: Vec::from_slice(alloc, self.rows.as_slice())?,
+            walk: Vec::new(alloc),
+        })
+    }
+
+    /// Returns the lines that are read, read again, so that no bytes of the tables are unused. Its walk is empty.
+    ///
+    /// # Errors
+    ///
+    /// Memory ran out.
+    pub fn reread(&self, alloc: Global) -> Result<Tree, AllocError>
+        ensures { IfOk result (λ tree. tree ≡ record { all = self.now.all; walk = [] }) }
+    {
+        let mut tree = Tree::new(alloc, self.rows.len())?;
+        for number in 0..self.len() {
+            let Some(text) = self.text(number) else {
+                return Ok(tree);
+            };
+            match tree.read(alloc, text) {
+                Ok(()) => {}
+                Err(_) => return Err(AllocError),
+            }
+        }
+        Ok(tree)
     }
 
     /// Returns whether the tables are so large for lines of `size` bytes that more than half of their bytes are unused. A line
@@ -130,6 +154,16 @@ impl Tree {
         }
     }
 
+    /// Returns the lines that are read.
+    pub fn all(&self) -> Rows<'_, LineRow>
+        ensures { lines_shown result ≡ self.now.all }
+    {
+        Rows {
+            tables: &self.tables,
+            rows: self.rows.as_slice(),
+        }
+    }
+
     /// Returns the lines of the walk.
     pub fn walk(&self) -> Rows<'_, LineRow>
         ensures { lines_shown result ≡ self.now.walk }
@@ -140,7 +174,7 @@ impl Tree {
         }
     }
 
-    /// Reads a line and appends it to those that are read. A line that is known near its place is not read.
+    /// Reads a line and appends it to those that are read.
     ///
     /// # Errors
     ///
@@ -149,8 +183,7 @@ impl Tree {
         ensures { ReadsOne result self.old self.new line.now (outcome_of line.now) }
     {
         growth_goes_on();
-        let at = self.rows.len();
-        let row = row_of(alloc, &mut self.tables, self.known.as_slice(), at, line)?;
+        let row = read_row(alloc, &mut self.tables, line)?;
         self.rows.push(row)?;
         Ok(())
     }
@@ -180,5 +213,42 @@ impl Tree {
         };
         self.walk.push(*row)?;
         Ok(())
+    }
+
+    /// Makes the changes `changes` of the lines that are read at once. Returns the names that they define then, beside those of `known`, and
+    /// how many bytes they are.
+    ///
+    /// # Errors
+    ///
+    /// The first fault of the text that the lines are then, or want of memory. The lines then are as they were.
+    pub fn change(
+        &mut self,
+        alloc: Global,
+        known: &Index,
+        changes: &[LineChange],
+    ) -> Result<(Renewals, usize), ReadFault>
+        requires order { AreInOrder 0 changes.now (length self.old.all) }
+        requires short { AreShort (texts self.old.all) }
+        requires whole { AllByRecursion IsLogicalLine (changed changes.now (texts self.old.all)) }
+        requires ended { has_unended_inside (changed changes.now (texts self.old.all)) ≡ false }
+        ensures outcome { Changes result known.now self.new.all (changed changes.now (texts self.old.all)) }
+        ensures unchanged { OnErr result (self.new ≡ self.old) }
+        ensures walk { self.new.walk ≡ self.old.walk }
+    {
+        growth_goes_on();
+        let counts = self.tables.counts();
+        let pieces = pieces(alloc, self.rows.as_slice(), changes)?;
+        let changed = changed_lines(alloc, &mut self.tables, known, pieces.as_slice());
+        drop(pieces);
+        match changed {
+            Ok(ChangedLines { rows, names, size }) => {
+                self.rows = rows;
+                Ok((names, size))
+            }
+            Err(fault) => {
+                self.tables.cut_back(counts);
+                Err(fault)
+            }
+        }
     }
 }

@@ -15,7 +15,6 @@ ghost use Rattle.sudoers_tree.specs.Policy.{IsWalk, texts};
 use crate::index::Index;
 use crate::line::{Line, LineRow};
 use crate::place::Place;
-use crate::tree::Tree;
 use std::marker::Model;
 use sudoers_line::Kind;
 use sudoers_line_rows::{DefRow, MemberRow, Node, Rows};
@@ -23,7 +22,7 @@ use sudoers_line_rows::{DefRow, MemberRow, Node, Rows};
 /// Lines in the order of the walk with what they say, and the names that they define. Contracts see the list of the lines.
 #[derive(Drop)]
 pub struct Walk<'a> {
-    tree: &'a Tree,
+    lines: Rows<'a, LineRow>,
     index: &'a Index,
 }
 
@@ -31,7 +30,7 @@ impl<'a> Model for Walk<'a> {
     ghost use Rattle.std.specs.Prelude.{List, length, ◌≤◌, ◌*◌};
     ghost use Rattle.sudoers_text.specs.Line.{join};
     ghost use Rattle.sudoers_text.specs.Fault.{text_limit};
-    ghost use Rattle.sudoers_tree.specs.Line.{Line};
+    ghost use Rattle.sudoers_tree.specs.Line.{Line, lines_shown};
     ghost use Rattle.sudoers_tree.specs.Definition.{definitions};
     ghost use Rattle.sudoers_tree.specs.Load.{file_limit};
     ghost use Rattle.sudoers_tree.specs.Policy.{IsWalk, texts};
@@ -39,51 +38,50 @@ impl<'a> Model for Walk<'a> {
 
     ghost Value = { List Line };
 
-    ghost view = { λ walk. walk.tree.now.walk };
+    ghost view = { λ walk. lines_shown walk.lines };
 
-    ghost invariant = { λ walk. IsWalk walk.tree.now.walk × Indexes walk.index.now (definitions walk.tree.now.walk)
-        × (length (join (texts walk.tree.now.walk)) ≤ file_limit * text_limit) };
+    ghost invariant = { λ walk. IsWalk (lines_shown walk.lines) × Indexes walk.index.now (definitions (lines_shown walk.lines))
+        × (length (join (texts (lines_shown walk.lines))) ≤ file_limit * text_limit) };
 }
 
 impl<'a> Walk<'a> {
-    /// Returns the walk of `tree`. `index` has the names that its lines define.
-    pub(crate) fn of(tree: &'a Tree, index: &'a Index) -> Walk<'a>
-        requires walk { IsWalk tree.now.walk }
-        requires index { Indexes index.now (definitions tree.now.walk) }
-        requires within { length (join (texts tree.now.walk)) ≤ file_limit * text_limit }
-        ensures { result ≡ tree.now.walk }
+    /// Returns the walk of the lines `lines`. `index` has the names that they define.
+    pub(crate) fn of(lines: Rows<'a, LineRow>, index: &'a Index) -> Walk<'a>
+        requires walk { IsWalk (lines_shown lines) }
+        requires index { Indexes index.now (definitions (lines_shown lines)) }
+        requires within { length (join (texts (lines_shown lines))) ≤ file_limit * text_limit }
+        ensures { result ≡ lines_shown lines.entry }
     {
-        Walk { tree, index }
+        Walk { lines, index }
     }
 
     /// A law: the lines are a walk.
     pub fn is_walk(&self)
         ensures { IsWalk self.now }
     {
-        let _ = &self.tree;
+        let _ = &self.lines;
     }
 
     /// A law: the texts together are at most as long as the limit of a text times the limit of files.
     pub fn is_within_limit(&self)
         ensures { length (join (texts self.now)) ≤ file_limit * text_limit }
     {
-        let _ = &self.tree;
+        let _ = &self.lines;
     }
 
     /// Returns the lines with what they say.
     pub fn lines(&self) -> Rows<'a, LineRow>
         ensures { lines_shown result ≡ self.now }
     {
-        self.tree.walk()
+        self.lines
     }
 
     /// Returns the line with the number `i`, from 0.
     pub(crate) fn line(&self, i: usize) -> Option<Line<'a>>
         ensures { option_map line_shown result ≡ slice_get self.now i }
     {
-        let lines = self.tree.walk();
-        match lines.rows.get(i) {
-            Some(row) => Some(Line::of(lines.tables, row)),
+        match self.lines.rows.get(i) {
+            Some(row) => Some(Line::of(self.lines.tables, row)),
             None => None,
         }
     }

@@ -14,7 +14,7 @@ ghost use Rattle.sudoers_tree.specs.internal.Walking.{Comes, IsWalking, walked};
 
 use crate::fault::ReadFault;
 use crate::files::Files;
-use crate::index::Index;
+use crate::index::{Index, Renewals};
 use crate::kind::LineKind;
 use crate::lead::{Lead, lead_of};
 use crate::line::LineRow;
@@ -28,14 +28,15 @@ use sudoers_line_rows::Rows;
 /// How deep files may be nested below the first.
 const DEPTH_LIMIT: usize = 128;
 
-/// A walk over files. `spots` has the spot of each of its lines, `on` the numbers of its files in their order, and `index` the names that
-/// its lines define.
+/// A walk over files. `spots` has the spot of each of its lines, `on` the numbers of its files in their order, and `names` the names that
+/// its lines define, beside those of `known`.
 #[derive(Drop)]
 pub struct Walking {
     pub files: Files,
     pub spots: Vec<Spot>,
     pub on: Vec<usize>,
-    pub index: Index,
+    pub known: Index,
+    pub names: Renewals,
 }
 
 impl Walking {
@@ -49,11 +50,14 @@ impl Walking {
         ensures { IfOk result (λ walking. IsWalking walking × (walked walking ≡ nothing) × (walking.files.files ≡ files.files)) }
     {
         let count = files.make_room()?;
+        let known = Index::new(alloc);
+        let names = Renewals::new(alloc, &known)?;
         Ok(Walking {
             files,
             spots: Vec::with_capacity(alloc, count)?,
             on: Vec::new(alloc),
-            index: Index::new(alloc),
+            known,
+            names,
         })
     }
 
@@ -139,14 +143,17 @@ impl Walking {
         None
     }
 
-    /// Appends the line at `at` to the walk, and enters the names that it defines into the index.
+    /// Appends the line at `at` to the walk, and enters the names that it defines.
     fn take(&mut self, alloc: Global, at: Spot) -> Result<(), LoadFault>
         requires { IsWalking self.old }
         ensures kept { OnOk result ((self.new.files.files ≡ self.old.files.files) × IsWalking self.new) }
         ensures comes { (line : LineOf) → slice_get (lines_of self.old.files.files at.file) at.line ≡ Some line
             → Comes result self.old self.new (taken (name_of self.old.files.files at.file) at line (walked self.old)) }
     {
-        if let Err(fault) = self.files.pass(alloc, &mut self.index, at.file, at.line) {
+        if let Err(fault) = self
+            .files
+            .pass(alloc, &self.known, &mut self.names, at.file, at.line)
+        {
             return Err(match fault {
                 ReadFault::NoMemory => LoadFault::NoMemory,
                 fault => self.in_file(alloc, at.file, fault),

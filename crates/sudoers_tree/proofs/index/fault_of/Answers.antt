@@ -4,7 +4,7 @@ use Rattle.sudoers_line.specs.declared.node.Kind.{Kind}
 use Rattle.sudoers_tree.specs.declared.place.Place.{Place}
 use Rattle.sudoers_tree.specs.declared.fault.ReadFault.TheVariants.{Reserved, Duplicate, TooMany}
 use Rattle.sudoers_tree.specs.Fault.{is_some}
-use Rattle.sudoers_tree.specs.Index.{named, entry_fault}
+use Rattle.sudoers_tree.specs.Index.{named, entry_fault, renewed}
 use Rattle.sudoers_tree.specs.Policy.{alias_limit}
 use Rattle.sudoers_tree.proofs.index.fault_of.Goals as goal
 
@@ -17,4 +17,4 @@ reserved_first k es name is =
 pub returns-then-is_reserved-clause-is : goal.returns-then-is_reserved-clause-is
 returns-then-is_reserved-clause-is c =
     ap (λ name. Some (Reserved c.args.kind name)) c.in_ok-name.ensures
-    ∙ reserved_first c.args.kind c.args.names.now c.args.name.now (sym c.is_reserved.ensures ∙ c.if-is_reserved.true)
+    ∙ reserved_first c.args.kind (renewed c.args.known.now c.args.names.now) c.args.name.now (sym c.is_reserved.ensures ∙ c.if-is_reserved.true)

@@ -1,13 +1,15 @@
-use Rattle.std.proofs.Common.{◌≡◌, ◌∙◌, ℕ, ◌+◌, subst, List, [], ◌∷◌, ◌++◌, length, drop, map, sym, ap, arith}
+use Rattle.std.proofs.Common.{◌≡◌, ◌∙◌, ℕ, ◌+◌, ◌-◌, subst, List, [], ◌∷◌, ◌++◌, length, drop, map, sym, ap, arith}
 use Rattle.std.proofs.lemmas.List.{drop_all}
 use Rattle.sudoers_tree.specs.declared.line.LineRow.{LineRow}
 use Rattle.sudoers_tree.specs.declared.line_change.LineChange.{LineChange}
+use Rattle.std.specs.List.{All}
+use Rattle.sudoers_tree.specs.declared.pieces.Piece.TheVariants.{Old}
 use Rattle.sudoers_tree.specs.Changed.{AreInOrder, changed_from}
 use Rattle.sudoers_tree.specs.Line.{line_in}
 use Rattle.sudoers_tree.specs.Policy.{texts}
-use Rattle.sudoers_tree.specs.internal.Pieces.{piece_texts}
+use Rattle.sudoers_tree.specs.internal.Pieces.{piece_texts, AreKept, IsKept}
 use Rattle.sudoers_tree.proofs.ChangedLines.{no_change}
-use Rattle.sudoers_tree.proofs.PieceLines.{all_taken, change_appended, item_first, next_within, order_left, pieces_push, place_within, texts_from}
+use Rattle.sudoers_tree.proofs.PieceLines.{kept_part, kept_push, all_taken, change_appended, item_first, next_within, order_left, pieces_push, place_within, texts_from}
 use Rattle.sudoers_tree.proofs.pieces.pieces.Goals as goal
 
 pub append_change-requires-clause-within : goal.append_change-requires-clause-within
@@ -36,13 +38,14 @@ loop-change-preserved c =
       subst (λ k. AreInOrder k (drop (i + 1) changes) (length rows)) (sym c.next_place-from.ensures) order.1,
       λ t.
           ap (λ k. piece_texts t c.append_change.new.pieces.items ++ changed_from k (drop (i + 1) changes) (texts_from t rows k)) c.next_place-from.ensures
-          ∙ change_appended t rows n change (drop (i + 1) changes) c.loop-change.pieces.items c.append_change.new.pieces.items order (c.in_ok-append_change.ensures t)
+          ∙ change_appended t rows n change (drop (i + 1) changes) c.loop-change.pieces.items c.append_change.new.pieces.items order (c.in_ok-append_change.ensures.lines t)
           ∙ ap (λ cs. piece_texts t c.loop-change.pieces.items ++ changed_from n cs (texts_from t rows n)) (sym (item_first changes i change c.loop-change-test.true c.change-item.is))
           ∙ c.loop-change.invariant.1 t,
+      λ t kept. c.in_ok-append_change.ensures.kept t kept (c.loop-change.invariant.2 t kept),
     )
 
-pub returns : goal.returns
-returns c = λ t.
+pub returns-clause-lines : goal.returns-clause-lines
+returns-clause-lines c = λ t.
     let rows : List LineRow = c.args.rows.now in
     let n : ℕ = c.loop-change.from in
     let none : drop c.loop-change.change-index c.args.changes.now ≡ [] = drop_all c.loop-change.change-index c.args.changes.now (omega (arith, c.loop-change-test.false)) in
@@ -53,3 +56,11 @@ returns c = λ t.
     ∙ ap (λ ls. piece_texts t c.loop-change.pieces.items ++ ls) (sym (no_change n (texts_from t rows n)))
     ∙ ap (λ cs. piece_texts t c.loop-change.pieces.items ++ changed_from n cs (texts_from t rows n)) (sym none)
     ∙ c.loop-change.invariant.1 t
+
+pub returns-clause-kept : goal.returns-clause-kept
+returns-clause-kept c = λ t kept.
+    let rows : List LineRow = c.args.rows.now in
+    let n : ℕ = c.loop-change.from in
+    subst (AreKept t) (sym c.in_ok-push.ensures.items)
+    (kept_push t c.loop-change.pieces.items (Old c.stretch.result) (c.loop-change.invariant.2 t kept)
+    (subst (All (IsKept t)) (sym c.stretch.ensures) (kept_part t rows n (c.row_count-count.result - n) kept)))

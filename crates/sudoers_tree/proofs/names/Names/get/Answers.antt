@@ -1,9 +1,12 @@
-use Rattle.std.proofs.Common.{◌∙◌, ap}
-use Rattle.sudoers_tree.specs.Index.{named}
-use Rattle.sudoers_tree.proofs.Entries.{map_named}
+use Rattle.std.proofs.Common.{◌∙◌, sym, ap}
+use Rattle.std.specs.Prelude.{slice_get}
+use Rattle.sudoers_tree.proofs.NameLists.{place_is, no_place}
 use Rattle.sudoers_tree.proofs.names.Names.get.Goals as goal
 
-pub returns : goal.returns
-returns c =
-    c.copied.ensures ∙ c.get.ensures.value ∙ map_named (λ key. key.items) c.args.name.now c.self.inside.places.entries
-    ∙ ap (named c.args.name.now) c.self.view_is
+pub returns-in-Some : goal.returns-in-Some
+returns-in-Some c =
+    c.place_at.ensures ∙ ap (λ ps. slice_get ps c.in-Some.number) c.as_slice.ensures.value
+    ∙ place_is (λ k. k.items) c.self.inside.names.keys c.self.inside.places.items c.args.self.now c.self.invariant c.self.view_is c.args.name.now c.in-Some.number (sym c.number.ensures ∙ c.in-Some.is)
+
+pub returns-in-None : goal.returns-in-None
+returns-in-None c = no_place (λ k. k.items) c.self.inside.names.keys c.self.inside.places.items c.args.self.now c.self.invariant c.self.view_is c.args.name.now (sym c.number.ensures ∙ c.in-None.is)

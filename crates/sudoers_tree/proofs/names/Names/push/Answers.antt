@@ -1,19 +1,32 @@
-use Rattle.std.proofs.Common.{◌≡◌, ◌∙◌, ◌∷◌, [], ◌++◌, ap, map}
-use Rattle.std.proofs.lemmas.List.{map-append}
-use Rattle.indexmap.proofs.CallerLemmas.{insert_entry-new}
-use Rattle.sudoers_tree.specs.Index.{named}
-use Rattle.sudoers_tree.proofs.Entries.{map_named}
+use Rattle.std.proofs.Common.{◌≡◌, ◌∙◌, ◌∷◌, [], ◌++◌, false, if◌then◌else◌, is_ok, length, map, sym, ap, arith}
+use Rattle.std.specs.Prelude.{zip}
+use Rattle.std.specs.List.{list_any}
+use Rattle.std.specs.Str.{bytes_eq}
+use Rattle.std.proofs.lemmas.List.{length-append}
+use Rattle.sudoers_tree.proofs.NameLists.{pushed, is_absent}
 use Rattle.sudoers_tree.proofs.names.Names.push.Goals as goal
+
+pub invariant_of-self-2 : goal.invariant_of-self-2
+invariant_of-self-2 c =
+    let key = c.in_ok-from_slice.field-0 in
+    let keys = c.self.inside.names.keys in
+    let absent : list_any (λ k. bytes_eq key.items k.items) keys ≡ false =
+    ap (λ name. list_any (λ k. bytes_eq name k.items) keys) c.in_ok-from_slice.ensures.items ∙ is_absent (λ k. k.items) c.self.inside.names.keys c.self.inside.places.items c.args.self.now c.self.invariant c.self.view_is c.args.name.now c.requires in
+    let more : c.insert.new.self.keys ≡ keys ++ key ∷ [] = c.in_ok-insert.ensures.keys ∙ ap (λ b. if b then keys else keys ++ key ∷ []) absent in
+    let placed : c.push.new.self.items ≡ c.self.inside.places.items ++ c.args.place ∷ [] =
+    c.push.ensures.items ∙ ap (λ r. if is_ok r then c.reserve.new.self.items ++ c.args.place ∷ [] else c.reserve.new.self.items) c.unwrap.ensures
+    ∙ ap (λ ps. ps ++ c.args.place ∷ []) c.in_ok-reserve.ensures.items in
+    ap length more ∙ omega (arith, length-append keys (key ∷ []), c.self.invariant, length-append c.self.inside.places.items (c.args.place ∷ [])) ∙ sym (ap length placed)
 
 pub returns : goal.returns
 returns c =
     let key = c.in_ok-from_slice.field-0 in
-    let bytes : key.items ≡ c.args.name.now = c.in_ok-from_slice.ensures.items in
-    let none =
-    map_named (λ k. k.items) key.items c.self.inside.places.entries
-    ∙ ap (λ name. named name (map (λ e. (e.0.items, e.1)) c.self.inside.places.entries)) bytes
-    ∙ ap (named c.args.name.now) c.self.view_is ∙ c.requires in
-    ap (λ es. map (λ e. (e.0.items, e.1)) es) (c.in_ok-insert.ensures.entries ∙ insert_entry-new _ c.self.inside.places key c.args.place none)
-    ∙ map-append (λ e. (e.0.items, e.1)) c.self.inside.places.entries ((key, c.args.place) ∷ [])
-    ∙ ap (λ es. es ++ (key.items, c.args.place) ∷ []) c.self.view_is
-    ∙ ap (λ name. c.args.self.now ++ (name, c.args.place) ∷ []) bytes
+    let keys = c.self.inside.names.keys in
+    let absent : list_any (λ k. bytes_eq key.items k.items) keys ≡ false =
+    ap (λ name. list_any (λ k. bytes_eq name k.items) keys) c.in_ok-from_slice.ensures.items ∙ is_absent (λ k. k.items) c.self.inside.names.keys c.self.inside.places.items c.args.self.now c.self.invariant c.self.view_is c.args.name.now c.requires in
+    let more : c.insert.new.self.keys ≡ keys ++ key ∷ [] = c.in_ok-insert.ensures.keys ∙ ap (λ b. if b then keys else keys ++ key ∷ []) absent in
+    let placed : c.push.new.self.items ≡ c.self.inside.places.items ++ c.args.place ∷ [] =
+    c.push.ensures.items ∙ ap (λ r. if is_ok r then c.reserve.new.self.items ++ c.args.place ∷ [] else c.reserve.new.self.items) c.unwrap.ensures
+    ∙ ap (λ ps. ps ++ c.args.place ∷ []) c.in_ok-reserve.ensures.items in
+    ap (zip (map (λ k. k.items) c.insert.new.self.keys)) placed
+    ∙ pushed (λ k. k.items) c.self.inside.names.keys c.self.inside.places.items c.args.self.now c.self.invariant c.self.view_is c.insert.new.self.keys key c.args.place c.args.name.now more c.in_ok-from_slice.ensures.items

@@ -15,9 +15,8 @@ invariant_of-self-2 c =
     let row : LineRow = c.in-Some.row.now in
     let at : slice_get c.self.inside.rows.items c.args.at ≡ Some row = got c.self.inside.rows.items c.deref.result.now c.args.at row c.deref.ensures.value c.in-Some.ensures.lookup.3.0 c.in-Some.ensures.lookup.1 in (
       c.self.invariant.0,
-      c.self.invariant.1,
       All-same (Stands t) _ (c.self.inside.walk.items ++ row ∷ []) c.in_ok-push.ensures.items
-          (All-push (Stands t) c.self.inside.walk.items row c.self.invariant.2 (stands_at t c.self.inside.rows.items c.args.at row c.self.invariant.1 at)),
+          (All-push (Stands t) c.self.inside.walk.items row c.self.invariant.1 (stands_at t c.self.inside.rows.items c.args.at row c.self.invariant.0 at)),
     )
 
 pub returns-clause-walk : goal.returns-clause-walk

@@ -17,15 +17,14 @@ pub invariant_of-self : goal.invariant_of-self
 invariant_of-self c =
     let on = c.growth_goes_on.ensures.on in
     let grown = c.in_err-row.ensures.grown in
-    (all_on on _ _ grown _ c.self.invariant.0, all_on on _ _ grown _ c.self.invariant.1, all_on on _ _ grown _ c.self.invariant.2)
+    (all_on on _ _ grown _ c.self.invariant.0, all_on on _ _ grown _ c.self.invariant.1)
 
 pub invariant_of-self-in_err-push : goal.invariant_of-self-in_err-push
 invariant_of-self-in_err-push c =
     let on = c.growth_goes_on.ensures.on in
     let grown = c.in_ok-row.ensures.grown in (
-      all_on on _ _ grown _ c.self.invariant.0,
-      All-same (Stands c.row_of.new.tables) _ _ c.in_err-push.ensures.items (all_on on _ _ grown _ c.self.invariant.1),
-      all_on on _ _ grown _ c.self.invariant.2,
+      All-same (Stands c.read_row.new.tables) _ _ c.in_err-push.ensures.items (all_on on _ _ grown _ c.self.invariant.0),
+      all_on on _ _ grown _ c.self.invariant.1,
     )
 
 pub invariant_of-self-2 : goal.invariant_of-self-2
@@ -33,25 +32,24 @@ invariant_of-self-2 c =
     let on = c.growth_goes_on.ensures.on in
     let grown = c.in_ok-row.ensures.grown in
     let rows = c.self.inside.rows.items in
-    let stands = Stands c.row_of.new.tables in (
-      all_on on _ _ grown _ c.self.invariant.0,
+    let stands = Stands c.read_row.new.tables in (
       All-same stands _ (rows ++ c.in_ok-row.row ∷ []) c.in_ok-push.ensures.items
-          (All-push stands rows c.in_ok-row.row (all_on on _ _ grown rows c.self.invariant.1) c.in_ok-row.ensures.gives.0),
-      all_on on _ _ grown _ c.self.invariant.2,
+          (All-push stands rows c.in_ok-row.row (all_on on _ _ grown rows c.self.invariant.0) c.in_ok-row.ensures.gives.0),
+      all_on on _ _ grown _ c.self.invariant.1,
     )
 
 pub returns : goal.returns
 returns c =
     let old : Tables = c.self.inside.tables in
-    let new : Tables = c.row_of.new.tables in
+    let new : Tables = c.read_row.new.tables in
     let row = c.in_ok-row.row in
     let node : Node = node_in new row.node in
     let text = c.in_ok-row.ensures.gives.1 in
     let line : Line = record { text = c.args.line.now; node = node } in
     let before : map (line_in new) c.self.inside.rows.items ≡ c.args.self.now.all =
-    same_lines old new c.in_ok-row.ensures.grown c.self.inside.rows.items c.self.invariant.1 ∙ ap (λ (t : TreeLines). t.all) c.self.view_is in
+    same_lines old new c.in_ok-row.ensures.grown c.self.inside.rows.items c.self.invariant.0 ∙ ap (λ (t : TreeLines). t.all) c.self.view_is in
     let walk : map (line_in new) c.self.inside.walk.items ≡ c.args.self.now.walk =
-    same_lines old new c.in_ok-row.ensures.grown c.self.inside.walk.items c.self.invariant.2 ∙ ap (λ (t : TreeLines). t.walk) c.self.view_is in (
+    same_lines old new c.in_ok-row.ensures.grown c.self.inside.walk.items c.self.invariant.1 ∙ ap (λ (t : TreeLines). t.walk) c.self.view_is in (
       node,
       ap outcome_of (sym text) ∙ c.in_ok-row.ensures.gives.0.says,
       ap₂ tree_of
@@ -69,15 +67,15 @@ pub returns-in_err-row : goal.returns-in_err-row
 returns-in_err-row c =
     let fault : LineFault = c.in_err-row.field-0.0 in
     let same : c.from_residual.result ≡ Err fault = search rules in
-    let stays = kept c.self.inside.tables c.row_of.new.tables c.in_err-row.ensures.grown c.self.inside.rows.items c.self.inside.rows.items
-    c.self.inside.walk.items c.self.invariant.1 c.self.invariant.2 refl ∙ c.self.view_is in
-    let new = tree_of (map (line_in c.row_of.new.tables) c.self.inside.rows.items) (map (line_in c.row_of.new.tables) c.self.inside.walk.items) in
+    let stays = kept c.self.inside.tables c.read_row.new.tables c.in_err-row.ensures.grown c.self.inside.rows.items c.self.inside.rows.items
+    c.self.inside.walk.items c.self.invariant.0 c.self.invariant.1 refl ∙ c.self.view_is in
+    let new = tree_of (map (line_in c.read_row.new.tables) c.self.inside.rows.items) (map (line_in c.read_row.new.tables) c.self.inside.walk.items) in
     subst (λ r. ReadsOne r c.args.self.now new c.args.line.now (outcome_of c.args.line.now)) (sym same) (stays, c.in_err-row.ensures.gives)
 
 pub returns-in_err-push : goal.returns-in_err-push
 returns-in_err-push c =
     let same : c.from_residual-in_err-push.result ≡ Err NoMemory = search rules in
-    let stays = kept c.self.inside.tables c.row_of.new.tables c.in_ok-row.ensures.grown c.self.inside.rows.items c.push.new.self.items
-    c.self.inside.walk.items c.self.invariant.1 c.self.invariant.2 c.in_err-push.ensures.items ∙ c.self.view_is in
-    let new = tree_of (map (line_in c.row_of.new.tables) c.push.new.self.items) (map (line_in c.row_of.new.tables) c.self.inside.walk.items) in
+    let stays = kept c.self.inside.tables c.read_row.new.tables c.in_ok-row.ensures.grown c.self.inside.rows.items c.push.new.self.items
+    c.self.inside.walk.items c.self.invariant.0 c.self.invariant.1 c.in_err-push.ensures.items ∙ c.self.view_is in
+    let new = tree_of (map (line_in c.read_row.new.tables) c.push.new.self.items) (map (line_in c.read_row.new.tables) c.self.inside.walk.items) in
     subst (λ r. ReadsOne r c.args.self.now new c.args.line.now (outcome_of c.args.line.now)) (sym same) (stays, tt)

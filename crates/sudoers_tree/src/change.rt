@@ -1,0 +1,248 @@
+//! Reading the lines that come with changes.
+
+ghost use Rattle.std.specs.Prelude.{◌≡◌, ◌≤◌, [], ◌∷◌, ◌+◌, length, map, IfOk, IfSome, MatchResult, Ok, Err, false};
+ghost use Rattle.std.specs.List.{All, AllByRecursion};
+ghost use Rattle.sudoers_text.specs.Cut.{cut_of, CutGives};
+ghost use Rattle.sudoers_text.specs.Ended.{has_unended_inside};
+ghost use Rattle.sudoers_text.specs.Fault.{text_limit};
+ghost use Rattle.sudoers_text.specs.Line.{join};
+ghost use Rattle.sudoers_text.specs.Whole.{IsLogicalLine};
+ghost use Rattle.sudoers_line_rows.specs.Tables.{Grown};
+ghost use Rattle.sudoers_tree.specs.Files.{read_until};
+ghost use Rattle.sudoers_tree.specs.Line.{line_in};
+ghost use Rattle.sudoers_tree.specs.Policy.{texts};
+ghost use Rattle.sudoers_tree.specs.internal.Pieces.{piece_texts, texts_of, AreKept, ChangesLines, IsKept, IsKeptPiece, IsSize, IsSizeBehind, ReadsOn, lfs_in};
+ghost use Rattle.sudoers_tree.specs.internal.Tree.{Stands};
+
+use crate::changed::text_of;
+use crate::fault::{ReadFault, SyntaxFault};
+use crate::index::{Index, Renewals};
+use crate::line::LineRow;
+use crate::passing::enter_lines;
+use crate::pieces::Piece;
+use crate::position::lf_count;
+use crate::reading::fault_at;
+use crate::row::read_row;
+use std::alloc::{AllocError, Global};
+use sudoers_line::LineFault;
+use sudoers_line_reader::laws::outcome_is;
+use sudoers_line_rows::laws::growth_goes_on;
+use sudoers_line_rows::{Rows, Tables};
+use sudoers_text::laws::{
+    cut_is, line_alone_is_whole, lines_of_join, lines_stand_alone, one_list, whole_line_is,
+    whole_lines_of_join,
+};
+use sudoers_text::{LINE_LIMIT, TEXT_LIMIT, TextFault, cut};
+
+/// Lines after changes: their rows, the names that they define, and how many bytes they are.
+#[derive(Drop)]
+pub struct ChangedLines {
+    pub rows: Vec<LineRow>,
+    pub names: Renewals,
+    pub size: usize,
+}
+
+/// Returns the lines `pieces`, of which the new ones are read into `tables`. Their names are entered beside those of `known`.
+///
+/// # Errors
+///
+/// The first fault of the text that the lines are, or want of memory.
+pub fn changed_lines(
+    alloc: Global,
+    tables: &mut Tables,
+    known: &Index,
+    pieces: &[Piece<'_>],
+) -> Result<ChangedLines, ReadFault>
+    requires kept { AreKept tables.old pieces.now }
+    requires whole { AllByRecursion IsLogicalLine (piece_texts tables.old pieces.now) }
+    requires ended { has_unended_inside (piece_texts tables.old pieces.now) ≡ false }
+    ensures grown { Grown tables.old tables.new }
+    ensures stand { IfOk result (λ lines. All (Stands tables.new) lines.rows.items) }
+    ensures outcome { ChangesLines result known.now tables.new (piece_texts tables.old pieces.now) }
+{
+    growth_goes_on();
+    outcome_is();
+    lines_stand_alone();
+    let size = size_of(alloc, tables, pieces)?;
+    let mut rows = Vec::new(alloc);
+    let fault = read_pieces(alloc, tables, pieces, &mut rows)?;
+    let lines = Rows {
+        tables: &*tables,
+        rows: rows.as_slice(),
+    };
+    let names = enter_lines(alloc, known, &lines)?;
+    match fault {
+        Some(fault) => Err(fault.into()),
+        None => Ok(ChangedLines { rows, names, size }),
+    }
+}
+
+/// Returns how many bytes the lines `pieces` are.
+///
+/// # Errors
+///
+/// The fault of the cut of the text that they are, or want of memory.
+fn size_of(alloc: Global, tables: &Tables, pieces: &[Piece<'_>]) -> Result<usize, TextFault>
+    requires kept { AreKept tables.now pieces.now }
+    requires whole { AllByRecursion IsLogicalLine (piece_texts tables.now pieces.now) }
+    requires ended { has_unended_inside (piece_texts tables.now pieces.now) ≡ false }
+    ensures { MatchResult result
+        (λ size. (cut_of (join (piece_texts tables.now pieces.now)) ≡ Ok (piece_texts tables.now pieces.now)) × (size ≡ length (join (piece_texts tables.now pieces.now))))
+        (λ fault. CutGives (Err fault) (cut_of (join (piece_texts tables.now pieces.now)))) }
+{
+    lines_of_join();
+    line_alone_is_whole();
+    whole_line_is();
+    whole_lines_of_join();
+    cut_is();
+    one_list();
+    if let Some(size) = size_within(tables, pieces) {
+        return Ok(size);
+    }
+    // The lines are past a limit, and their cut has the fault.
+    let text = text_of(alloc, tables, pieces)?;
+    let bytes = text.as_slice();
+    let _ = cut(alloc, bytes)?;
+    Ok(bytes.len())
+}
+
+/// Returns how many bytes the lines `pieces` are. Returns nothing if they or one of them are past the limit.
+fn size_within(tables: &Tables, pieces: &[Piece<'_>]) -> Option<usize>
+    requires { AreKept tables.now pieces.now }
+    ensures { IfSome result (λ size. IsSize size (piece_texts tables.now pieces.now)) }
+{
+    let mut size = 0;
+    for piece in pieces {
+        size = piece_within(tables, piece, size)?;
+    }
+    Some(size)
+}
+
+/// Returns how many bytes the lines `piece` after `size` bytes come to. Returns nothing if they or one of them are past the limit.
+fn piece_within(tables: &Tables, piece: &Piece<'_>, size: usize) -> Option<usize>
+    requires fits { size ≤ text_limit }
+    requires kept { IsKeptPiece tables.now piece.now }
+    ensures { IfSome result (λ all. IsSizeBehind size all (texts_of tables.now piece.now)) }
+{
+    match piece {
+        Piece::Old(rows) => rows_within(tables, rows, size),
+        Piece::New(text) => {
+            if text.len() > LINE_LIMIT {
+                return None;
+            }
+            sum_within(size, text.len())
+        }
+    }
+}
+
+/// Returns how many bytes the lines of the rows `rows` after `size` bytes come to. Returns nothing if that is past the limit.
+fn rows_within(tables: &Tables, rows: &[LineRow], size: usize) -> Option<usize>
+    requires fits { size ≤ text_limit }
+    requires kept { All (IsKept tables.now) rows.now }
+    ensures { IfSome result (λ all. IsSizeBehind size all (texts (map (line_in tables.now) rows.now))) }
+{
+    let mut all = size;
+    for row in rows {
+        all = sum_within(all, tables.text(row.text).len())?;
+    }
+    Some(all)
+}
+
+/// Returns the sum of `size` and `more`. Returns nothing if it is past the limit of a text.
+fn sum_within(size: usize, more: usize) -> Option<usize>
+    requires { size ≤ text_limit }
+    ensures { IfSome result (λ all. (all ≡ size + more) × (all ≤ text_limit)) }
+{
+    if more > TEXT_LIMIT - size {
+        return None;
+    }
+    Some(size + more)
+}
+
+/// Reads the new lines of `pieces` into `tables`, up to the first that does not parse, and appends the rows of all lines before it to
+/// `rows`, which has none. Returns the fault of the line that does not parse, if there is one.
+fn read_pieces(
+    alloc: Global,
+    tables: &mut Tables,
+    pieces: &[Piece<'_>],
+    rows: &mut Vec<LineRow>,
+) -> Result<Option<SyntaxFault>, AllocError>
+    requires none { rows.old.items ≡ [] }
+    requires kept { AreKept tables.old pieces.now }
+    requires fits { length (join (piece_texts tables.old pieces.now)) ≤ text_limit }
+    ensures grown { Grown tables.old tables.new }
+    ensures stand { IfOk result (λ _. All (Stands tables.new) rows.new.items) }
+    ensures read { IfOk result (λ fault. (map (line_in tables.new) rows.new.items, fault) ≡ read_until [] (piece_texts tables.old pieces.now)) }
+{
+    growth_goes_on();
+    for piece in pieces {
+        if let Some(fault) = read_piece(alloc, tables, piece, rows)? {
+            return Ok(Some(fault));
+        }
+    }
+    Ok(None)
+}
+
+/// Reads the lines `piece` into `tables` if they are new, and appends their rows to `rows`. Returns the fault of the line, if it does not
+/// parse.
+fn read_piece(
+    alloc: Global,
+    tables: &mut Tables,
+    piece: &Piece<'_>,
+    rows: &mut Vec<LineRow>,
+) -> Result<Option<SyntaxFault>, AllocError>
+    requires stand { All (Stands tables.old) rows.old.items }
+    requires kept { IsKeptPiece tables.old piece.now }
+    requires fits { length (join (texts (map (line_in tables.old) rows.old.items))) + length (join (texts_of tables.old piece.now)) ≤ text_limit }
+    ensures grown { Grown tables.old tables.new }
+    ensures stand { IfOk result (λ _. All (Stands tables.new) rows.new.items) }
+    ensures read { IfOk result (λ fault. ReadsOn fault (map (line_in tables.old) rows.old.items) (map (line_in tables.new) rows.new.items) (texts_of tables.old piece.now)) }
+{
+    growth_goes_on();
+    match piece {
+        Piece::Old(old) => {
+            rows.extend_from_slice(old)?;
+            Ok(None)
+        }
+        Piece::New(text) => read_text(alloc, tables, text, rows),
+    }
+}
+
+/// Reads the line `text` into `tables` and appends its row to `rows`. Returns its fault, if it does not parse.
+fn read_text(
+    alloc: Global,
+    tables: &mut Tables,
+    text: &[u8],
+    rows: &mut Vec<LineRow>,
+) -> Result<Option<SyntaxFault>, AllocError>
+    requires stand { All (Stands tables.old) rows.old.items }
+    requires fits { length (join (texts (map (line_in tables.old) rows.old.items))) + length text.now ≤ text_limit }
+    ensures grown { Grown tables.old tables.new }
+    ensures stand { IfOk result (λ _. All (Stands tables.new) rows.new.items) }
+    ensures read { IfOk result (λ fault. ReadsOn fault (map (line_in tables.old) rows.old.items) (map (line_in tables.new) rows.new.items) (text.now ∷ [])) }
+{
+    growth_goes_on();
+    match read_row(alloc, tables, text) {
+        Ok(row) => {
+            rows.push(row)?;
+            Ok(None)
+        }
+        Err(LineFault::Syntax { at, why }) => {
+            let line = row_behind(tables, rows.as_slice());
+            Ok(Some(fault_at(line, text, at, why)))
+        }
+        Err(LineFault::NoMemory) => Err(AllocError),
+    }
+}
+
+/// Returns the physical line, from 1, that follows the lines of the rows `rows`.
+fn row_behind(tables: &Tables, rows: &[LineRow]) -> usize
+    requires { lfs_in (texts (map (line_in tables.now) rows.now)) ≤ text_limit }
+    ensures { result ≡ 1 + lfs_in (texts (map (line_in tables.now) rows.now)) }
+{
+    let mut row = 1;
+    for line in rows {
+        row += lf_count(tables.text(line.text));
+    }
+    row
+}
