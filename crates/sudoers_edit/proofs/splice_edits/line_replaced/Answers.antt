@@ -1,4 +1,4 @@
-use Rattle.std.proofs.Common.{◌≡◌, ◌∙◌, ◌≤◌, ◌<◌, List, ℕ, length, false, inr, sym, ap, subst, arith}
+use Rattle.std.proofs.Common.{◌≡◌, ◌∙◌, ◌≤◌, List, ℕ, length, false, inr, sym, ap, subst, arith}
 use Rattle.sudoers_text.specs.Ended.{has_unended_inside}
 use Rattle.sudoers_text.specs.Fault.{line_limit}
 use Rattle.sudoers_text.specs.Whole.{IsLogicalLine}
