@@ -10,9 +10,9 @@ use Rattle.sudoers_text.specs.Whole.{IsLogicalLine}
 use Rattle.sudoers_tree.specs.Line.{Line}
 use Rattle.sudoers_tree.specs.Policy.{texts}
 use Rattle.sudoers_tree.specs.Reading.{read_of}
-use Rattle.sudoers_tree.specs.Changed.{replaced, changed, changed_from, place_of, next_place, text_brought, AreInOrder, brought}
+use Rattle.sudoers_tree.specs.Changed.{changed, changed_from, place_of, next_place, text_brought, AreInOrder, brought}
 use Rattle.sudoers_tree.specs.declared.line_change.LineChange.{LineChange}
-use Rattle.sudoers_tree.specs.declared.line_change.LineChange.TheVariants.{Put, Swap, Take}
+use Rattle.sudoers_tree.specs.declared.line_change.LineChange.TheVariants.{Put, Take}
 use Rattle.sudoers_edit_script.specs.declared.edit.Edit.{Edit}
 use Rattle.sudoers_edit.specs.Editing.{Lines, run}
 use Rattle.sudoers_edit.specs.Landing.{policy_or_refusal, lines_or_refusal}
@@ -21,17 +21,7 @@ use Rattle.sudoers_edit.specs.internal.Leading.{LeadsTo, Leads, IsMade}
 use Rattle.sudoers_edit.specs.internal.Moving.{move_changes}
 use Rattle.sudoers_edit.proofs.ReadLemmas.{read_within}
 
--- what the laws say of one change
-abbrev pub PutLaw : Type 0
-PutLaw = (lines : Lines) (at : ℕ) (text : List ℕ) → at ≤ length lines → changed (Put at text ∷ []) lines ≡ insert lines at text
-
-abbrev pub TakeLaw : Type 0
-TakeLaw = (lines : Lines) (at : ℕ) → at < length lines → changed (Take at ∷ []) lines ≡ remove lines at
-
-abbrev pub SwapLaw : Type 0
-SwapLaw = (lines : Lines) (at : ℕ) (text : List ℕ) → at < length lines → changed (Swap at text ∷ []) lines ≡ replaced at text lines
-
--- and of the first of several
+-- what the laws say of changes
 abbrev pub NoneLaw : Type 0
 NoneLaw = (n : ℕ) (lines : Lines) → changed_from n [] lines ≡ lines
 
@@ -47,23 +37,6 @@ leads_by edit inverse lines new changes order whole is to = record {
   fits = record { order = order; whole = whole; ended = ap has_unended_inside is ∙ to.ended };
   to = subst (LeadsTo edit inverse lines) (sym is) to;
 }
-
--- ONE CHANGE
-
-pub put_leads : PutLaw → (edit : Edit) (inverse : List Edit) (lines : Lines) (at : ℕ) (text : List ℕ) → at ≤ length lines → IsLogicalLine text
-    → LeadsTo edit inverse lines (insert lines at text) → Leads edit inverse lines (Put at text ∷ [])
-put_leads law edit inverse lines at text within whole to =
-    leads_by edit inverse lines (insert lines at text) (Put at text ∷ []) (omega arith, within) (whole, tt) (law lines at text within) to
-
-pub take_leads : TakeLaw → (edit : Edit) (inverse : List Edit) (lines : Lines) (at : ℕ) → at < length lines
-    → LeadsTo edit inverse lines (remove lines at) → Leads edit inverse lines (Take at ∷ [])
-take_leads law edit inverse lines at within to =
-    leads_by edit inverse lines (remove lines at) (Take at ∷ []) (omega arith, omega (arith, within)) tt (law lines at within) to
-
-pub swap_leads : SwapLaw → (edit : Edit) (inverse : List Edit) (lines : Lines) (at : ℕ) (text : List ℕ) → at < length lines → IsLogicalLine text
-    → LeadsTo edit inverse lines (replaced at text lines) → Leads edit inverse lines (Swap at text ∷ [])
-swap_leads law edit inverse lines at text within whole to =
-    leads_by edit inverse lines (replaced at text lines) (Swap at text ∷ []) (omega arith, omega (arith, within)) (whole, tt) (law lines at text within) to
 
 -- A MOVE
 
@@ -149,9 +122,9 @@ move_leads_by none first edit inverse ls from to all inside within leads =
     elim (leb_tells (suc from) to) [
       | inl down ↦ by_down down.0 down.1
       | inr not_down ↦ elim (leb_tells (suc to) from) [
-          | inl up ↦ by_up not_down.0 up.0 up.1
-          | inr not_up ↦ by_none not_down.0 not_up.0 (omega (arith, not_down.1, not_up.1))
-        ]
+        | inl up ↦ by_up not_down.0 up.0 up.1
+        | inr not_up ↦ by_none not_down.0 not_up.0 (omega (arith, not_down.1, not_up.1))
+      ]
     ]
   where
     t : List ℕ

@@ -53,11 +53,13 @@ pub fn make_all(policy: &mut OneFile, edits: &[Edit]) -> Result<(), EditFault>
         (λ fault. (fault ≡ EditFault.NoMemory) ⊎ (run edits.now (texts policy.old) ≡ None)) }
     ensures unchanged { OnErr result (policy.new ≡ policy.old) }
 {
-    if let [edit] = edits {
-        let _ = make(policy, edit)?;
-        return Ok(());
+    match edits {
+        [] => {}
+        [edit] => {
+            let _ = make(policy, edit)?;
+        }
+        _ => *policy = after_all(policy, edits)?,
     }
-    *policy = after_all(policy, edits)?;
     Ok(())
 }
 

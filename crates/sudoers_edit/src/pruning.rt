@@ -39,6 +39,9 @@ pub fn pruned(policy: &mut OneFile) -> Result<Edits, EditFault>
     policy.is_policy();
     let alloc = policy.allocator();
     let removals = removals(alloc, policy)?;
+    if removals.is_empty() {
+        return Ok(Edits::new(alloc));
+    }
     let mut back = Vec::new(alloc);
     let mut after = policy.copied()?;
     for removal in removals.as_slice() {

@@ -103,12 +103,7 @@ pub fn member_added(
 }
 
 /// Plans a member taken out of the list of an alias.
-pub fn member_dropped(
-    policy: &OneFile,
-    kind: Kind,
-    name: &[u8],
-    at: u32,
-) -> Result<Plan, EditFault>
+pub fn member_dropped(policy: &OneFile, kind: Kind, name: &[u8], at: u32) -> Result<Plan, EditFault>
     ensures { Plans (Edit.DropMember kind name.now at) (texts policy.now) result }
 {
     is_known(policy);
