@@ -14,7 +14,7 @@ use Rattle.sudoers_edit.specs.Editing.{step, run}
 use Rattle.sudoers_tree.specs.Line.{Line}
 use Rattle.sudoers_edit.specs.OneLine.{is_one_line, IsAlone, IsSound}
 use Rattle.sudoers_tree.specs.Policy.{texts}
-use Rattle.sudoers_edit.specs.internal.Leading.{Leads}
+use Rattle.sudoers_edit.specs.internal.Leading.{LeadsTo}
 
 or-false : (x : Bool) → (x || false) ≡ x
 or-false true = refl
@@ -201,12 +201,9 @@ last_decides ls (suc n) t x l some is h =
 
 -- WHERE EDITS LEAD
 
-pub insert_leads : (ls : List (List ℕ)) (at : ℕ) (t text : List ℕ) → IsSound ls → at ≤ length ls → is_one_line t ≡ true → IsAlone t
-    → has_unended_inside (insert ls at t) ≡ false → text ≡ join (insert ls at t)
-    → Leads (Insert at t) (Delete at ∷ []) ls text
-insert_leads ls at t text sound within one alone ended is = record {
-  new = insert ls at t;
-  joined = is;
+pub insert_leads : (ls : List (List ℕ)) (at : ℕ) (t : List ℕ) → IsSound ls → at ≤ length ls → is_one_line t ≡ true → IsAlone t
+    → has_unended_inside (insert ls at t) ≡ false → LeadsTo (Insert at t) (Delete at ∷ []) ls (insert ls at t)
+insert_leads ls at t sound within one alone ended = record {
   each = λ policy read. each_insert ls at t sound.each alone;
   ended = ended;
   forth = step_insert ls at t within one;
@@ -214,11 +211,9 @@ insert_leads ls at t text sound within one alone ended is = record {
   back = λ policy read. back_insert ls at t sound within;
 }
 
-pub delete_leads : (ls : List (List ℕ)) (at : ℕ) (text : List ℕ) → IsSound ls → at < length ls → text ≡ join (remove ls at)
-    → Leads (Delete at) (Insert at (slice_index_or ls at []) ∷ []) ls text
-delete_leads ls at text sound within is = record {
-  new = remove ls at;
-  joined = is;
+pub delete_leads : (ls : List (List ℕ)) (at : ℕ) → IsSound ls → at < length ls
+    → LeadsTo (Delete at) (Insert at (slice_index_or ls at []) ∷ []) ls (remove ls at)
+delete_leads ls at sound within = record {
   each = λ policy read. each_remove ls at sound.each;
   ended = open_remove ls at sound.ended;
   forth = step_delete ls at within;
@@ -226,12 +221,9 @@ delete_leads ls at text sound within is = record {
   back = λ policy read. back_delete ls at sound within;
 }
 
-pub move_leads : (ls : List (List ℕ)) (from to : ℕ) (text : List ℕ) → IsSound ls → from < length ls → to < length ls
-    → has_unended_inside (moved from to ls) ≡ false → text ≡ join (moved from to ls)
-    → Leads (Move from to) (Move to from ∷ []) ls text
-move_leads ls from to text sound inside within ended is = record {
-  new = moved from to ls;
-  joined = is;
+pub move_leads : (ls : List (List ℕ)) (from to : ℕ) → IsSound ls → from < length ls → to < length ls
+    → has_unended_inside (moved from to ls) ≡ false → LeadsTo (Move from to) (Move to from ∷ []) ls (moved from to ls)
+move_leads ls from to sound inside within ended = record {
   each = λ policy read. each_insert (remove ls from) to (slice_index_or ls from []) (each_remove ls from sound.each) (each_at ls from inside sound.each);
   ended = ended;
   forth = step_move ls from to inside within;

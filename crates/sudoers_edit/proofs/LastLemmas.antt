@@ -1,6 +1,7 @@
 -- The last line, with LF and without.
-use Rattle.std.proofs.Common.{◌≡◌, ◌≢◌, ℕ, suc, ◌-◌, ◌<◌, ◌≤◌, Bool, true, false, List, [], ◌∷◌, ◌++◌, length, take, Option, Some, None, Ok, Err, refl, sym, ap, subst, ◌∙◌, arith, append_assoc, append-nil}
+use Rattle.std.proofs.Common.{◌≡◌, ◌≢◌, ℕ, zero, suc, ◌-◌, ◌<◌, ◌≤◌, Bool, true, false, List, [], ◌∷◌, ◌++◌, length, take, Option, Some, None, Result, Ok, Err, inl, inr, refl, sym, ap, subst, ◌∙◌, arith, append_assoc, append-nil}
 use Rattle.std.specs.Prelude.{slice_get}
+use Rattle.std.proofs.lemmas.Option.{slice_get_within}
 use Rattle.std.specs.Option.{option_map}
 use Rattle.std.proofs.Math.Seq.{take-append_seam}
 use Rattle.std.proofs.lemmas.Bool.{lt-ltb, le-ltb}
@@ -10,15 +11,19 @@ use Rattle.sudoers_text.specs.Ended.{ends_in_lf, has_unended_inside}
 use Rattle.sudoers_text.specs.Fault.{line_limit}
 use Rattle.sudoers_text.specs.Cut.{cut_of, StandAlone}
 use Rattle.sudoers_tree.specs.Policy.{texts}
+use Rattle.sudoers_tree.specs.Line.{Line}
+use Rattle.sudoers_tree.specs.Changed.{replaced}
+use Rattle.sudoers_edit_script.specs.declared.edit.Edit.{Edit}
+use Rattle.sudoers_edit.specs.declared.fault.EditFault.{EditFault}
 use Rattle.sudoers_edit_script.specs.declared.edit.Edit.TheVariants.{EndLine, OpenEnd}
 use Rattle.sudoers_edit.specs.declared.fault.EditFault.TheVariants.{EndAsIs, TooLarge}
-use Rattle.sudoers_edit.specs.Landing.{lines_or_refusal}
+use Rattle.sudoers_edit.specs.Landing.{lines_or_refusal, policy_or_refusal, where_policy}
 use Rattle.sudoers_edit.specs.LineEdits.{with_last, with_end, without_lf, is_last_too_long, ended_or_refusal}
-use Rattle.sudoers_edit.specs.Editing.{step}
-use Rattle.sudoers_edit.specs.OneLine.{IsAlone, IsSound}
+use Rattle.sudoers_edit.specs.Editing.{step, Refuses}
+use Rattle.sudoers_edit.specs.OneLine.{is_one_line, IsAlone, IsSound}
 use Rattle.sudoers_edit.specs.internal.LastLine.{StaysCut}
-use Rattle.sudoers_edit.specs.internal.Leading.{Leads}
-use Rattle.sudoers_edit.proofs.EditLemmas.{run_one, settled}
+use Rattle.sudoers_edit.specs.internal.Leading.{LeadsTo}
+use Rattle.sudoers_edit.proofs.EditLemmas.{run_one, settled, is_one}
 use Rattle.sudoers_edit_script.proofs.EndLemmas.{ended_parts}
 use Rattle.sudoers_edit.proofs.PolicyLemmas.{StandAloneLaw, CutLaw, read_cut}
 
@@ -185,15 +190,12 @@ open_lacks ls line is h =
 -- WHERE EDITS OF THE END LEAD
 
 -- these lines, with LF behind the last
-end_leads_parts : StaysCut → (front : List (List ℕ)) (line text : List ℕ) → IsSound (front ++ line ∷ []) → ends_in_lf line ≡ false
-    → length line < line_limit → text ≡ join (front ++ line ∷ []) ++ 10 ∷ []
-    → Leads EndLine (OpenEnd ∷ []) (front ++ line ∷ []) text
-end_leads_parts law front line text sound lacks short is =
+end_leads_parts : StaysCut → (front : List (List ℕ)) (line : List ℕ) → IsSound (front ++ line ∷ []) → ends_in_lf line ≡ false
+    → length line < line_limit → LeadsTo EndLine (OpenEnd ∷ []) (front ++ line ∷ []) (front ++ (line ++ 10 ∷ []) ∷ [])
+end_leads_parts law front line sound lacks short =
     let new : List (List ℕ) = front ++ (line ++ 10 ∷ []) ∷ [] in
     let alone = law.size line (last_alone front line sound.each) in
     record {
-      new = new;
-      joined = is ∙ join_more front line (10 ∷ []);
       each = λ policy read. law.behind front line policy sound.each sound.ended lacks read;
       ended = sym (ended_last front line (line ++ 10 ∷ [])) ∙ sound.ended;
       forth = step_changed with_end front line (line ++ 10 ∷ []) (with_end_lacks line lacks) (omega (arith, short, length-append line (10 ∷ [])));
@@ -204,15 +206,12 @@ end_leads_parts law front line text sound lacks short is =
     }
 
 -- these lines, without the LF of the last
-open_leads_parts : StaysCut → (front : List (List ℕ)) (line text : List ℕ) → IsSound (front ++ (line ++ 10 ∷ []) ∷ []) → line ≢ []
-    → text ≡ join (front ++ line ∷ [])
-    → Leads OpenEnd (EndLine ∷ []) (front ++ (line ++ 10 ∷ []) ∷ []) text
-open_leads_parts law front line text sound some is =
+open_leads_parts : StaysCut → (front : List (List ℕ)) (line : List ℕ) → IsSound (front ++ (line ++ 10 ∷ []) ∷ []) → line ≢ []
+    → LeadsTo OpenEnd (EndLine ∷ []) (front ++ (line ++ 10 ∷ []) ∷ []) (front ++ line ∷ [])
+open_leads_parts law front line sound some =
     let old : List (List ℕ) = front ++ (line ++ 10 ∷ []) ∷ [] in
     let alone = law.size (line ++ 10 ∷ []) (last_alone front (line ++ 10 ∷ []) sound.each) in
     record {
-      new = front ++ line ∷ [];
-      joined = is;
       each = λ policy read. (law.from front line policy sound.each sound.ended some read).0;
       ended = ended_last front line (line ++ 10 ∷ []) ∙ sound.ended;
       forth = step_changed without_lf front (line ++ 10 ∷ []) line (without_lf_more line some) (omega (arith, alone.1, length-append line (10 ∷ [])));
@@ -222,27 +221,94 @@ open_leads_parts law front line text sound some is =
           ∙ settled old sound);
     }
 
-pub end_leads : StaysCut → (ls : List (List ℕ)) (line text : List ℕ) → IsSound ls → slice_get ls (length ls - 1) ≡ Some line → ends_in_lf line ≡ false
-    → length line < line_limit → text ≡ join ls ++ 10 ∷ [] → Leads EndLine (OpenEnd ∷ []) ls text
-end_leads law ls line text sound at lacks short is =
+-- the last line replaced
+last_replaced : (front : List (List ℕ)) (line t : List ℕ) → replaced (length (front ++ line ∷ []) - 1) t (front ++ line ∷ []) ≡ front ++ t ∷ []
+last_replaced front line t =
+    ap (λ n. replaced n t (front ++ line ∷ [])) (omega (arith, length-append front (line ∷ []))) ∙ replaced_behind front
+  where
+    replaced_behind : (front : List (List ℕ)) → replaced (length front) t (front ++ line ∷ []) ≡ front ++ t ∷ []
+    replaced_behind [] = refl
+    replaced_behind (k ∷ front) = ap (λ (z : List (List ℕ)). k ∷ z) (replaced_behind front)
+
+-- a line without its last byte, which is LF
+body_of : (body : List ℕ) → take (length (body ++ 10 ∷ []) - 1) (body ++ 10 ∷ []) ≡ body
+body_of body =
+    ap (λ n. take n (body ++ 10 ∷ [])) (omega (arith, length-append body (10 ∷ []))) ∙ take-append_seam body (10 ∷ [])
+
+pub end_leads : StaysCut → (ls : List (List ℕ)) (line : List ℕ) → IsSound ls → slice_get ls (length ls - 1) ≡ Some line → ends_in_lf line ≡ false
+    → length line < line_limit → LeadsTo EndLine (OpenEnd ∷ []) ls (replaced (length ls - 1) (line ++ 10 ∷ []) ls)
+end_leads law ls line sound at lacks short =
     let p = last_parts ls line at in
-    subst (λ (z : List (List ℕ)). Leads EndLine (OpenEnd ∷ []) z text) (sym p.1)
-    (end_leads_parts law p.0 line text (subst IsSound p.1 sound) lacks short (is ∙ ap (λ (z : List (List ℕ)). join z ++ 10 ∷ []) p.1))
+    subst (λ (z : List (List ℕ)). LeadsTo EndLine (OpenEnd ∷ []) z (replaced (length z - 1) (line ++ 10 ∷ []) z)) (sym p.1)
+    (subst (LeadsTo EndLine (OpenEnd ∷ []) (p.0 ++ line ∷ [])) (sym (last_replaced p.0 line (line ++ 10 ∷ [])))
+    (end_leads_parts law p.0 line (subst IsSound p.1 sound) lacks short))
+
+pub open_leads : StaysCut → (ls : List (List ℕ)) (line : List ℕ) → IsSound ls → slice_get ls (length ls - 1) ≡ Some line → ends_in_lf line ≡ true
+    → 2 ≤ length line → LeadsTo OpenEnd (EndLine ∷ []) ls (replaced (length ls - 1) (take (length line - 1) line) ls)
+open_leads law ls line sound at ended long =
+    let p = last_parts ls line at in
+    let q = lf_parts line long ended in
+    let whole : ls ≡ p.0 ++ (q.0 ++ 10 ∷ []) ∷ [] = p.1 ∙ ap (λ (z : List ℕ). p.0 ++ z ∷ []) q.1 in
+    let body : take (length line - 1) line ≡ q.0 = ap (λ (z : List ℕ). take (length z - 1) z) q.1 ∙ body_of q.0 in
+    let new : replaced (length ls - 1) (take (length line - 1) line) ls ≡ p.0 ++ q.0 ∷ [] =
+    ap (λ (z : List (List ℕ)). replaced (length z - 1) (take (length line - 1) line) z) whole
+    ∙ last_replaced p.0 (q.0 ++ 10 ∷ []) (take (length line - 1) line) ∙ ap (λ (z : List ℕ). p.0 ++ z ∷ []) body in
+    subst (LeadsTo OpenEnd (EndLine ∷ []) ls) (sym new)
+    (subst (λ (z : List (List ℕ)). LeadsTo OpenEnd (EndLine ∷ []) z (p.0 ++ q.0 ∷ [])) (sym whole)
+    (open_leads_parts law p.0 q.0 (subst IsSound whole sound) q.2))
+
+-- THE WHOLE TEXT
+
+-- the text with LF behind it
+pub text_ended : (ls : List (List ℕ)) (line : List ℕ) → slice_get ls (length ls - 1) ≡ Some line
+    → join ls ++ 10 ∷ [] ≡ join (replaced (length ls - 1) (line ++ 10 ∷ []) ls)
+text_ended ls line at =
+    let p = last_parts ls line at in
+    ap (λ (z : List (List ℕ)). join z ++ 10 ∷ []) p.1 ∙ join_more p.0 line (10 ∷ [])
+    ∙ ap join (sym (last_replaced p.0 line (line ++ 10 ∷ [])))
+    ∙ ap (λ (z : List (List ℕ)). join (replaced (length z - 1) (line ++ 10 ∷ []) z)) (sym p.1)
 
 -- all bytes but the last of a text that ends in LF
 but_last : (front : List (List ℕ)) (body : List ℕ) → take (length (join (front ++ (body ++ 10 ∷ []) ∷ [])) - 1) (join (front ++ (body ++ 10 ∷ []) ∷ [])) ≡ join (front ++ body ∷ [])
 but_last front body =
-    let whole : List ℕ = join (front ++ body ∷ []) in
-    let size : length (whole ++ 10 ∷ []) - 1 ≡ length whole = omega (arith, length-append whole (10 ∷ [])) in
-    ap (λ (z : List ℕ). take (length z - 1) z) (sym (join_more front body (10 ∷ [])))
-    ∙ ap (λ n. take n (whole ++ 10 ∷ [])) size ∙ take-append_seam whole (10 ∷ [])
+    ap (λ (z : List ℕ). take (length z - 1) z) (sym (join_more front body (10 ∷ []))) ∙ body_of (join (front ++ body ∷ []))
 
-pub open_leads : StaysCut → (ls : List (List ℕ)) (line text : List ℕ) → IsSound ls → slice_get ls (length ls - 1) ≡ Some line → ends_in_lf line ≡ true
-    → 2 ≤ length line → text ≡ take (length (join ls) - 1) (join ls) → Leads OpenEnd (EndLine ∷ []) ls text
-open_leads law ls line text sound at ended long is =
+-- the text without the LF at its end
+pub text_opened : (ls : List (List ℕ)) (line : List ℕ) → slice_get ls (length ls - 1) ≡ Some line → ends_in_lf line ≡ true → 2 ≤ length line
+    → take (length (join ls) - 1) (join ls) ≡ join (replaced (length ls - 1) (take (length line - 1) line) ls)
+text_opened ls line at ended long =
     let p = last_parts ls line at in
     let q = lf_parts line long ended in
     let whole : ls ≡ p.0 ++ (q.0 ++ 10 ∷ []) ∷ [] = p.1 ∙ ap (λ (z : List ℕ). p.0 ++ z ∷ []) q.1 in
-    subst (λ (z : List (List ℕ)). Leads OpenEnd (EndLine ∷ []) z text) (sym whole)
-    (open_leads_parts law p.0 q.0 text (subst IsSound whole sound) q.2
-    (is ∙ ap (λ (z : List (List ℕ)). take (length (join z) - 1) (join z)) whole ∙ but_last p.0 q.0))
+    let body : take (length line - 1) line ≡ q.0 = ap (λ (z : List ℕ). take (length z - 1) z) q.1 ∙ body_of q.0 in
+    ap (λ (z : List (List ℕ)). take (length (join z) - 1) (join z)) whole ∙ but_last p.0 q.0
+    ∙ ap (λ (z : List ℕ). join (p.0 ++ z ∷ [])) (sym body)
+    ∙ ap join (sym (last_replaced p.0 (q.0 ++ 10 ∷ []) (take (length line - 1) line)))
+    ∙ ap (λ (z : List (List ℕ)). join (replaced (length z - 1) (take (length line - 1) line) z)) (sym whole)
+
+-- there is a last line
+pub last_within : (ls : List (List ℕ)) (line : List ℕ) → slice_get ls (length ls - 1) ≡ Some line → length ls - 1 < length ls
+last_within ls line at = slice_get_within ls (length ls - 1) line at
+
+-- lines of which the last is not one line are no policy
+pub unread : (edit : Edit) (inverse : List Edit) (ls : List (List ℕ)) (at : ℕ) (t text : List ℕ) → LeadsTo edit inverse ls (replaced at t ls) → at < length ls
+    → is_one_line t ≡ false → text ≡ join (replaced at t ls) → (policy : List Line) → policy_or_refusal text ≡ Ok policy → ⊥
+unread edit inverse ls at t text leads within open_ is policy told =
+    let each : StandAlone (replaced at t ls) = leads.each policy (sym (ap policy_or_refusal is) ∙ told) in
+    let one : is_one_line t ≡ true = is_one t (alone_there ls at each within) in
+    cc
+  where
+    alone_there : (ls : List (List ℕ)) (at : ℕ) → StandAlone (replaced at t ls) → at < length ls → IsAlone t
+    alone_there [] at each within = absurd (omega (arith, within))
+    alone_there (l ∷ ls) zero each within = each.0
+    alone_there (l ∷ ls) (suc at) each within = alone_there ls at each.1 (omega (arith, within))
+
+refused_where : (lines : List (List ℕ)) (fault : EditFault) (r : Result (List Line) EditFault) → r ≡ Err fault → where_policy lines r ≡ Err fault
+refused_where lines fault r is = rw is refl
+
+-- what refuses their text refuses the edit that leads to lines
+pub unread_refused : (edit : Edit) (inverse : List Edit) (ls new : List (List ℕ)) (text : List ℕ) (fault : EditFault) → LeadsTo edit inverse ls new → text ≡ join new
+    → Refuses fault (policy_or_refusal text) → Refuses fault (step edit ls)
+unread_refused edit inverse ls new text fault leads is (inl none) = inl none
+unread_refused edit inverse ls new text fault leads is (inr told) =
+    inr (leads.forth ∙ rw (leads.ended) (refused_where new fault (policy_or_refusal (join new)) (sym (ap policy_or_refusal is) ∙ told)))

@@ -11,12 +11,14 @@ mod MemoryLemmas
 mod MoreLemmas
 mod NamedLemmas
 mod PlaceLemmas
+mod PlanLemmas
 mod PolicyLemmas
 pub mod PruneExamples
 mod PruneLaw
 mod PruneLemmas
 mod PruneNumbers
 pub mod RenameExamples
+mod ReadLemmas
 mod RenameLemmas
 mod RenameSteps
 mod ReplaceLemmas

@@ -22,7 +22,7 @@ use Rattle.sudoers_edit.specs.declared.fault.EditFault.TheVariants.{NoAlias, Bad
 use Rattle.sudoers_edit.specs.Landing.{is_too_long, policy_or_refusal, policy_of}
 use Rattle.sudoers_edit.specs.Renaming.{put_at, renamed, no_way_back, if_lines, is_lines, is_taken, rename_once, if_restored, rename}
 use Rattle.sudoers_edit.specs.Editing.{Refuses, step}
-use Rattle.sudoers_edit.specs.internal.Leading.{IsLanded}
+use Rattle.sudoers_edit.specs.internal.Leading.{IsMade}
 use Rattle.sudoers_edit.proofs.EditLemmas.{run_one}
 
 -- THE SAME LINES
@@ -139,10 +139,10 @@ lines_are : (lines : List (List ℕ)) (r : Result (List (List ℕ)) EditFault) �
 lines_are lines (Ok others) is = ap (λ z. Ok z) (alike_same others lines is)
 lines_are lines (Err fault) is = absurd (cc)
 
-pub rename_lands : (k : Kind) (name fresh : List ℕ) (policy new : List Line) → read_of (join (texts policy)) ≡ Ok policy → read_of (join (texts new)) ≡ Ok new
+pub rename_made : (k : Kind) (name fresh : List ℕ) (policy new : List Line) → read_of (join (texts policy)) ≡ Ok policy → read_of (join (texts new)) ≡ Ok new
     → rename_once k name fresh policy ≡ Ok (texts new) → is_lines (texts policy) (rename_once k fresh name new) ≡ true
-    → IsLanded (Rename k name fresh) (texts policy) (record { policy = new; inverse = Rename k fresh name ∷ [] })
-rename_lands k name fresh policy new read again forth back =
+    → IsMade (Rename k name fresh) (Rename k fresh name ∷ []) (texts policy) (texts new)
+rename_made k name fresh policy new read again forth back =
     let old : rename_once k fresh name new ≡ Ok (texts policy) = lines_are (texts policy) (rename_once k fresh name new) back in
     let same : is_lines (texts new) (rename_once k name fresh policy) ≡ true = ap (is_lines (texts new)) forth ∙ alike_itself (texts new) in
     record {

@@ -19,7 +19,7 @@ use Rattle.sudoers_edit.specs.Renaming.{renamed, no_way_back, if_lines, is_lines
 use Rattle.sudoers_edit.specs.Editing.{Lines, run}
 use Rattle.sudoers_edit.proofs.BackLemmas.{def_of_policy}
 use Rattle.sudoers_edit.proofs.PolicyLemmas.{read_so}
-use Rattle.sudoers_edit.proofs.RenameLemmas.{alike_same, rename_step, rename_lands}
+use Rattle.sudoers_edit.proofs.RenameLemmas.{alike_same, rename_step, rename_made}
 use Rattle.sudoers_edit.proofs.SpliceSteps.{not_refused}
 use Rattle.sudoers_edit.proofs.StepLemmas.{Takes}
 
@@ -74,11 +74,11 @@ rename_takes k name fresh policy new read is =
     let forth : rename_once k name fresh policy ≡ Ok (texts after) = p.0 ∙ ap Ok (sym same) in
     let back : is_lines (texts policy) (rename_once k fresh name after) ≡ true =
     ap (λ (z : List Line). is_lines (texts policy) (rename_once k fresh name z)) (sym says) ∙ p.1 in
-    let lands = rename_lands k name fresh policy after read again forth back in
+    let made = rename_made k name fresh policy after read again forth back in
     record {
       after = after;
       lines_are = same;
       read = again;
-      back = ap (λ (z : Lines). run (Rename k fresh name ∷ []) z) (sym same) ∙ lands.back;
+      back = ap (λ (z : Lines). run (Rename k fresh name ∷ []) z) (sym same) ∙ made.back;
       numbered = λ n. (tt, tt);
     }

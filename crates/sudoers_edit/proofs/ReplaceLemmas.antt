@@ -10,7 +10,7 @@ use Rattle.sudoers_edit_script.specs.declared.edit.Edit.{Edit}
 use Rattle.sudoers_edit.specs.declared.fault.EditFault.TheVariants.{OpenLine}
 use Rattle.sudoers_tree.specs.Changed.{replaced}
 use Rattle.sudoers_edit.specs.Editing.{step}
-use Rattle.sudoers_edit.specs.internal.Leading.{Leads, Replaces}
+use Rattle.sudoers_edit.specs.internal.Leading.{LeadsTo, Replaces}
 use Rattle.sudoers_edit.proofs.EditLemmas.{ReadsLaw}
 use Rattle.sudoers_edit.proofs.PolicyLemmas.{read_so}
 use Rattle.sudoers_edit.proofs.ReplacedLemmas.{each_replaced}
@@ -22,14 +22,12 @@ pub left_open : (edit : Edit) (inverse : List Edit) (ls : List (List ℕ)) (at :
     → has_unended_inside (replaced at t ls) ≡ true → step edit ls ≡ Err OpenLine
 left_open edit inverse ls at t r short open_ = r.forth ∙ rw (le-ltb line_limit (length t) short, open_) refl
 
-pub replace_leads : AloneLaw → ReadsLaw → (edit : Edit) (inverse : List Edit) (ls : List (List ℕ)) (at : ℕ) (t text : List ℕ) → IsSound ls
-    → Replaces edit inverse ls at t → length t ≤ line_limit → has_unended_inside (replaced at t ls) ≡ false → text ≡ join (replaced at t ls)
-    → Leads edit inverse ls text
-replace_leads alone reads edit inverse ls at t text sound r short ended is =
+pub replace_leads : AloneLaw → ReadsLaw → (edit : Edit) (inverse : List Edit) (ls : List (List ℕ)) (at : ℕ) (t : List ℕ) → IsSound ls
+    → Replaces edit inverse ls at t → length t ≤ line_limit → has_unended_inside (replaced at t ls) ≡ false
+    → LeadsTo edit inverse ls (replaced at t ls)
+replace_leads alone reads edit inverse ls at t sound r short ended =
     let each = each_replaced ls at t sound.each (alone t r.said_is short) in
     record {
-      new = replaced at t ls;
-      joined = is;
       each = λ policy read. each;
       ended = ended;
       forth = r.forth ∙ rw (le-ltb line_limit (length t) short) refl;

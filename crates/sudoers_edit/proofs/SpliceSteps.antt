@@ -121,8 +121,8 @@ replaced_steps : Laws → (edit : Edit) (inverse : List Edit) (policy : List Lin
 replaced_steps l edit inverse policy n text new read r numbered told is =
     let p = not_refused (is_too_long text) TooLarge (lines_or_refusal (replaced n text (texts policy))) new told in
     let a = accepted (replaced n text (texts policy)) new p.1 in
-    leads_steps l edit inverse (texts policy) new (join (replaced n text (texts policy)))
-    (replace_leads l.whole l.reads edit inverse (texts policy) n text (join (replaced n text (texts policy))) (sound_of l.alone l.cuts policy read) r (ltb-false line_limit (length text) p.0) a.ended refl)
+    leads_steps l edit inverse (texts policy) new (replaced n text (texts policy))
+    (replace_leads l.whole l.reads edit inverse (texts policy) n text (sound_of l.alone l.cuts policy read) r (ltb-false line_limit (length text) p.0) a.ended)
     numbered is
 
 -- DEFINITIONS

@@ -9,6 +9,7 @@ use Rattle.sudoers_text.specs.Fault.{line_limit}
 use Rattle.sudoers_text.specs.Cut.{cut_of}
 use Rattle.sudoers_text.specs.declared.fault.TextFault.{TextFault}
 use Rattle.sudoers_tree.specs.Line.{Line}
+use Rattle.sudoers_tree.specs.Changed.{replaced}
 use Rattle.sudoers_tree.specs.Policy.{texts, IsPolicy}
 use Rattle.sudoers_tree.specs.Reading.{read_of}
 use Rattle.sudoers_edit_script.specs.Script.{IsNumbered, AreNumbered}
@@ -21,7 +22,7 @@ use Rattle.sudoers_edit.specs.LineEdits.{moved}
 use Rattle.sudoers_edit.specs.internal.LastLine.{StaysCut}
 use Rattle.sudoers_edit.specs.Landing.{lines_or_refusal, policy_or_refusal, where_policy}
 use Rattle.sudoers_edit.specs.Editing.{Lines, step, inv, run}
-use Rattle.sudoers_edit.specs.internal.Leading.{Leads, IsKnown}
+use Rattle.sudoers_edit.specs.internal.Leading.{LeadsTo, IsKnown}
 use Rattle.sudoers_edit.proofs.EditLemmas.{ReadsLaw, insert_leads, delete_leads, move_leads}
 use Rattle.sudoers_edit.proofs.LastLemmas.{no_end, end_as_is, end_too_long, open_short, open_lacks, end_leads, open_leads}
 use Rattle.sudoers_edit.proofs.PolicyLemmas.{StandAloneLaw, CutLaw, sound_of, alone_of, read_so}
@@ -87,16 +88,16 @@ accepted ls new e =
     record { policy = p.0; told = p.1; ended = p.2; same = p.3 }
 
 -- an edit that leads to lines and is accepted
-pub leads_steps : Laws → (edit : Edit) (inverse : List Edit) (ls new : Lines) (text : List ℕ) → Leads edit inverse ls text → (IsNumbered edit → AreNumbered (inv edit ls))
+pub leads_steps : Laws → (edit : Edit) (inverse : List Edit) (ls new to : Lines) → LeadsTo edit inverse ls to → (IsNumbered edit → AreNumbered (inv edit ls))
     → step edit ls ≡ Ok new → Steps edit ls new
-leads_steps l edit inverse ls new text leads numbered is =
-    let a = accepted leads.new new (sym leads.forth ∙ is) in
-    let same : texts a.policy ≡ leads.new = l.reads leads.new a.policy (leads.each a.policy a.told) leads.ended a.told in
+leads_steps l edit inverse ls new to leads numbered is =
+    let a = accepted to new (sym leads.forth ∙ is) in
+    let same : texts a.policy ≡ to = l.reads to a.policy (leads.each a.policy a.told) leads.ended a.told in
     record {
       after = a.policy;
       lines_are = same ∙ a.same;
-      read = ap (λ (z : Lines). read_of (join z)) same ∙ read_so (join leads.new) a.policy a.told;
-      back = ap (λ (z : Lines). run (inv edit ls) z) (sym a.same) ∙ ap (λ (es : List Edit). run es leads.new) (sym leads.inverse_is) ∙ leads.back a.policy a.told;
+      read = ap (λ (z : Lines). read_of (join z)) same ∙ read_so (join to) a.policy a.told;
+      back = ap (λ (z : Lines). run (inv edit ls) z) (sym a.same) ∙ ap (λ (es : List Edit). run es to) (sym leads.inverse_is) ∙ leads.back a.policy a.told;
       numbered = numbered;
     }
 
@@ -127,16 +128,16 @@ insert_takes l at t policy new read is =
     let ls : Lines = texts policy in
     let p = insert_parts (nat_lt (length ls) at) (is_one_line t) (lines_or_refusal (insert ls at t)) new is in
     let a = accepted (insert ls at t) new p.2 in
-    leads_steps l (Insert at t) (Delete at ∷ []) ls new (join (insert ls at t))
-    (insert_leads ls at t (join (insert ls at t)) (sound_of l.alone l.cuts policy read) (ltb-false (length ls) at p.0) p.1 (one_alone l t p.1) a.ended refl)
+    leads_steps l (Insert at t) (Delete at ∷ []) ls new (insert ls at t)
+    (insert_leads ls at t (sound_of l.alone l.cuts policy read) (ltb-false (length ls) at p.0) p.1 (one_alone l t p.1) a.ended)
     (λ n. (n, tt)) is
 
 pub delete_takes : Laws → (at : ℕ) → Takes (Delete at)
 delete_takes l at policy new read is =
     let ls : Lines = texts policy in
     let p = if_parts (nat_lt at (length ls)) NoLine (lines_or_refusal (remove ls at)) new is in
-    leads_steps l (Delete at) (Insert at (slice_index_or ls at []) ∷ []) ls new (join (remove ls at))
-    (delete_leads ls at (join (remove ls at)) (sound_of l.alone l.cuts policy read) (ltb-true at (length ls) p.0) refl)
+    leads_steps l (Delete at) (Insert at (slice_index_or ls at []) ∷ []) ls new (remove ls at)
+    (delete_leads ls at (sound_of l.alone l.cuts policy read) (ltb-true at (length ls) p.0))
     (λ n. (n, tt)) is
 
 pub move_takes : Laws → (from to : ℕ) → Takes (Move from to)
@@ -145,8 +146,8 @@ move_takes l from to policy new read is =
     let p = if_parts (nat_lt from (length ls) && nat_lt to (length ls)) NoLine (lines_or_refusal (moved from to ls)) new is in
     let both = and_parts (nat_lt from (length ls)) (nat_lt to (length ls)) p.0 in
     let a = accepted (moved from to ls) new p.1 in
-    leads_steps l (Move from to) (Move to from ∷ []) ls new (join (moved from to ls))
-    (move_leads ls from to (join (moved from to ls)) (sound_of l.alone l.cuts policy read) (ltb-true from (length ls) both.0) (ltb-true to (length ls) both.1) a.ended refl)
+    leads_steps l (Move from to) (Move to from ∷ []) ls new (moved from to ls)
+    (move_leads ls from to (sound_of l.alone l.cuts policy read) (ltb-true from (length ls) both.0) (ltb-true to (length ls) both.1) a.ended)
     (λ n. ((n.1, n.0), tt)) is
 
 -- THE END OF THE LAST LINE
@@ -162,8 +163,8 @@ end_takes l policy new read is = by (slice_get (texts policy) (length (texts pol
         elim (leb_tells line_limit (length line)) [
           | inl more ↦ clash TooLarge new (step EndLine (texts policy)) (end_too_long (texts policy) line here h more.1) is
           | inr less ↦
-              leads_steps l EndLine (OpenEnd ∷ []) (texts policy) new (join (texts policy) ++ 10 ∷ [])
-              (end_leads l.stays (texts policy) line (join (texts policy) ++ 10 ∷ []) sound here h less.1 refl) (λ n. (tt, tt)) is
+              leads_steps l EndLine (OpenEnd ∷ []) (texts policy) new (replaced (length (texts policy) - 1) (line ++ 10 ∷ []) (texts policy))
+              (end_leads l.stays (texts policy) line sound here h less.1) (λ n. (tt, tt)) is
         ]
 
     by_end : (line : List ℕ) → slice_get (texts policy) (length (texts policy) - 1) ≡ Some line → (b : Bool) → ends_in_lf line ≡ b → Steps EndLine (texts policy) new
@@ -182,8 +183,8 @@ open_takes l policy new read is = by (slice_get (texts policy) (length (texts po
 
     long : (line : List ℕ) → slice_get (texts policy) (length (texts policy) - 1) ≡ Some line → 2 ≤ length line → (b : Bool) → ends_in_lf line ≡ b → Steps OpenEnd (texts policy) new
     long line here size true h =
-        leads_steps l OpenEnd (EndLine ∷ []) (texts policy) new (take (length (join (texts policy)) - 1) (join (texts policy)))
-        (open_leads l.stays (texts policy) line (take (length (join (texts policy)) - 1) (join (texts policy))) sound here h size refl) (λ n. (tt, tt)) is
+        leads_steps l OpenEnd (EndLine ∷ []) (texts policy) new (replaced (length (texts policy) - 1) (take (length line - 1) line) (texts policy))
+        (open_leads l.stays (texts policy) line sound here h size) (λ n. (tt, tt)) is
     long line here size false h = clash EndAsIs new (step OpenEnd (texts policy)) (open_lacks (texts policy) line here h) is
 
     by : (o : Option (List ℕ)) → slice_get (texts policy) (length (texts policy) - 1) ≡ o → Steps OpenEnd (texts policy) new

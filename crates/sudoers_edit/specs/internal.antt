@@ -1,5 +1,6 @@
 -- Devices of the proofs. No contract of an exported function cites them.
 pub mod LastLine
 pub mod Leading
+pub mod Moving
 pub mod PruneOrder
-pub mod Reread
+pub mod ReadFaults

@@ -2,18 +2,12 @@
 ghost use Rattle.std.specs.Prelude.{◌≡◌, ◌⊎◌, ◌<◌, ◌∷◌, [], ◌++◌, length, reverse, Some, None, Ok, Err, IfOk, IfErr, OnOk, OnErr, MatchResult, true, false, List, ℕ, take};
 ghost use Rattle.std.specs.List.{flat_map};
 ghost use Rattle.sudoers_tree.specs.Policy.{texts};
-ghost use Rattle.sudoers_edit.specs.Editing.{run};
-ghost use Rattle.sudoers_edit.specs.internal.Leading.{Lands};
 
 use crate::fault::EditFault;
-use crate::landing::{Landed, copied};
-use crate::line_edits::{end_closed, end_opened, line_deleted, line_inserted, line_moved};
-use crate::pruning::pruned;
-use crate::renaming::alias_renamed;
-use crate::splice_edits::{def_added, def_dropped, member_added, member_dropped};
+use crate::making::{make, make_all};
 use std::alloc::{AllocError, Global};
 use std::marker::Model;
-use sudoers_edit_script::{Edit, Edits, Text};
+use sudoers_edit_script::{Edit, Edits};
 use sudoers_tree::OneFile;
 use sudoers_tree::laws::read_is;
 
@@ -99,12 +93,15 @@ impl Editor {
         ensures memory { IfErr result TellsMemoryAlone }
     {
         read_is();
-        let landed = landed(&self.policy, edit)?;
-        let edit = edit.copied(self.policy.allocator())?;
+        let copy = edit.copied(self.policy.allocator())?;
         self.journal.reserve(1)?;
-        self.policy = landed.policy;
-        let inverse = landed.inverse;
-        self.journal.push(Entry { edit, inverse }).unwrap();
+        let inverse = make(&mut self.policy, edit)?;
+        self.journal
+            .push(Entry {
+                edit: copy,
+                inverse,
+            })
+            .unwrap();
         Ok(())
     }
 
@@ -127,8 +124,7 @@ impl Editor {
         let Some(entry) = self.journal.last() else {
             return Ok(false);
         };
-        let policy = after_all(&self.policy, entry.inverse.as_slice())?;
-        put(&mut self.policy, policy);
+        make_all(&mut self.policy, entry.inverse.as_slice())?;
         let _ = self.journal.pop();
         Ok(true)
     }
@@ -174,56 +170,6 @@ impl Editor {
         ensures accepted { IfOk result (λ edits. run_all 0 edits self.now.lines ≡ Ok (first_of self.now)) }
     {
         inverses_of(self.policy.allocator(), self.journal.as_slice())
-    }
-}
-
-/// Puts a policy in the place of another.
-fn put(place: &mut OneFile, policy: OneFile)
-    ensures { place.new ≡ policy }
-{
-    *place = policy;
-}
-
-/// The policy to which edits lead, one after another.
-fn after_all(policy: &OneFile, edits: &[Edit]) -> Result<OneFile, EditFault>
-    ensures { MatchResult result (λ new. run edits.now (texts policy.now) ≡ Some (texts new))
-        (λ fault. (fault ≡ EditFault.NoMemory) ⊎ (run edits.now (texts policy.now) ≡ None)) }
-{
-    let Some((first, rest)) = edits.split_first() else {
-        return copied(policy);
-    };
-    let mut after = landed(policy, first)?.policy;
-    for edit in rest {
-        after = landed(&after, edit)?.policy;
-    }
-    Ok(after)
-}
-
-/// What comes of an edit.
-fn landed(policy: &OneFile, edit: &Edit) -> Result<Landed, EditFault>
-    ensures { Lands edit.now (texts policy.now) result }
-{
-    match edit {
-        Edit::Insert { at, text } => line_inserted(policy, *at, text.as_slice()),
-        Edit::Delete { at } => line_deleted(policy, *at),
-        Edit::Move { from, to } => line_moved(policy, *from, *to),
-        Edit::AddMember {
-            kind,
-            name,
-            at,
-            splice,
-        } => member_added(policy, *kind, name.as_slice(), *at, splice.as_slice()),
-        Edit::DropMember { kind, name, at } => {
-            member_dropped(policy, *kind, name.as_slice(), *at)
-        }
-        Edit::AddDef { line, at, splice } => def_added(policy, *line, *at, splice.as_slice()),
-        Edit::DropDef { line, at } => def_dropped(policy, *line, *at),
-        Edit::Rename { kind, name, fresh } => {
-            alias_renamed(policy, *kind, name.as_slice(), fresh.as_slice())
-        }
-        Edit::EndLine => end_closed(policy),
-        Edit::OpenEnd => end_opened(policy),
-        Edit::Prune => pruned(policy),
     }
 }
 

@@ -1,6 +1,7 @@
 //! Why an edit is refused.
 
 use std::alloc::{AllocError, AllocFailed};
+use sudoers_text::TextFault;
 use sudoers_tree::ReadFault;
 use thiserror::Error;
 
@@ -72,13 +73,14 @@ impl<T: Drop> From<AllocFailed<T>> for EditFault {
 
 impl From<ReadFault> for EditFault {
     ghost use Rattle.std.specs.Prelude.{◌≡◌};
-    ghost use Rattle.sudoers_edit.specs.internal.Reread.{edit_of_read};
+    ghost use Rattle.sudoers_edit.specs.internal.ReadFaults.{edit_of_read};
 
     ghost from_gives = { λ fault e. e ≡ edit_of_read fault };
 
     fn from(fault: ReadFault) -> EditFault {
         match fault {
             ReadFault::NoMemory => EditFault::NoMemory,
+            ReadFault::Text(TextFault::TooLarge) => EditFault::TooLarge,
             fault => EditFault::NotPolicy(fault),
         }
     }

@@ -12,8 +12,8 @@ ghost use Rattle.sudoers_edit_script.specs.Script.{writing};
 ghost use Rattle.sudoers_edit_script.specs.ScriptReading.{reading};
 ghost use Rattle.sudoers_edit_script.specs.declared.edit.Edit.{Edit as AnEdit};
 
-use crate::landing::reads_lines;
 use crate::line_edits::stays_cut;
+use crate::plan::reads_lines;
 use sudoers_edit_script::Edit;
 use sudoers_edit_script::laws::read_is_spelling;
 use sudoers_line::laws::definitions_ascend;

@@ -4,14 +4,14 @@
 mod alike;
 mod editor;
 mod fault;
-mod landing;
 pub mod laws;
 mod line_edits;
+mod making;
 mod name_places;
 mod one_more;
+mod plan;
 mod pruning;
 mod renaming;
-mod reread;
 mod splice;
 mod splice_edits;
 

@@ -2,27 +2,29 @@
 ghost use Rattle.std.specs.Prelude.{◌≡◌, ◌-◌, ◌<◌, ◌≤◌, length, insert, slice_get, true, List, ℕ, IfOk};
 ghost use Rattle.std.specs.Option.{option_copied};
 ghost use Rattle.sudoers_text.specs.Ended.{has_unended_inside};
+ghost use Rattle.sudoers_text.specs.Whole.{IsLogicalLine};
 ghost use Rattle.sudoers_tree.specs.Policy.{texts};
 ghost use Rattle.sudoers_edit.specs.OneLine.{is_one_line, IsAlone};
 ghost use Rattle.sudoers_edit.specs.LineEdits.{moved};
 ghost use Rattle.sudoers_edit.specs.internal.LastLine.{StaysCut};
-ghost use Rattle.sudoers_edit.specs.internal.Leading.{Lands};
+ghost use Rattle.sudoers_edit.specs.internal.Moving.{move_changes as the_move_changes};
+ghost use Rattle.sudoers_edit.specs.internal.Leading.{Plans};
 
 use crate::fault::EditFault;
-use crate::landing::{Landed, is_sound, land};
-use crate::reread::text_moved;
+use crate::plan::{Plan, is_sound, refusal};
 use std::alloc::{AllocError, Global};
 use sudoers_edit_script::{Edit, Edits, Text};
 use sudoers_text::laws::{
-    lf_behind_last_line, lf_from_last_line, line_alone_size, lines_stand_alone,
+    lf_behind_last_line, lf_from_last_line, line_alone_is_whole, line_alone_size,
+    lines_stand_alone, whole_line_is,
 };
 use sudoers_text::{LINE_LIMIT, TextFault, cut, ends_in_lf};
-use sudoers_tree::laws::policy_is_cut;
-use sudoers_tree::{OneFile, text_with, text_without};
+use sudoers_tree::laws::{changed_by_first, lines_are_whole, policy_is_cut};
+use sudoers_tree::{LineChange, OneFile};
 
-/// A line put in.
-pub fn line_inserted(policy: &OneFile, at: u32, text: &[u8]) -> Result<Landed, EditFault>
-    ensures { Lands (Edit.Insert at text.now) (texts policy.now) result }
+/// Plans a line put in.
+pub fn line_inserted(policy: &OneFile, at: u32, text: &[u8]) -> Result<Plan, EditFault>
+    ensures { Plans (Edit.Insert at text.now) (texts policy.now) result }
 {
     let alloc = policy.allocator();
     let place = at as usize;
@@ -35,15 +37,15 @@ pub fn line_inserted(policy: &OneFile, at: u32, text: &[u8]) -> Result<Landed, E
     if leaves_unended(policy, place, text) {
         return Err(EditFault::OpenLine);
     }
-    let whole = text_with(alloc, &policy.lines(), place, text)?;
+    let text = Text::from_slice(alloc, text)?;
     let inverse = Edits::one(alloc, Edit::Delete { at })?;
     is_sound(policy);
-    land(policy, whole.as_slice(), inverse)
+    Ok(Plan::put(alloc, place, text, inverse)?)
 }
 
-/// A line taken out.
-pub fn line_deleted(policy: &OneFile, at: u32) -> Result<Landed, EditFault>
-    ensures { Lands (Edit.Delete at) (texts policy.now) result }
+/// Plans a line taken out.
+pub fn line_deleted(policy: &OneFile, at: u32) -> Result<Plan, EditFault>
+    ensures { Plans (Edit.Delete at) (texts policy.now) result }
 {
     let alloc = policy.allocator();
     let place = at as usize;
@@ -51,35 +53,60 @@ pub fn line_deleted(policy: &OneFile, at: u32) -> Result<Landed, EditFault>
         return Err(EditFault::NoLine);
     };
     let text = Text::from_slice(alloc, line)?;
-    let whole = text_without(alloc, &policy.lines(), place)?;
     let inverse = Edits::one(alloc, Edit::Insert { at, text })?;
     is_sound(policy);
-    land(policy, whole.as_slice(), inverse)
+    Ok(Plan::take(alloc, place, inverse)?)
 }
 
-/// A line that stands elsewhere.
-pub fn line_moved(policy: &OneFile, from: u32, to: u32) -> Result<Landed, EditFault>
-    ensures { Lands (Edit.Move from to) (texts policy.now) result }
+/// Plans a line that stands elsewhere.
+pub fn line_moved(policy: &OneFile, from: u32, to: u32) -> Result<Plan, EditFault>
+    ensures { Plans (Edit.Move from to) (texts policy.now) result }
 {
     let alloc = policy.allocator();
     let (place, target) = (from as usize, to as usize);
-    let count = policy.len();
-    if place >= count || target >= count {
+    let Some(line) = policy.line(place) else {
+        return Err(EditFault::NoLine);
+    };
+    if target >= policy.len() {
         return Err(EditFault::NoLine);
     }
     if move_leaves_unended(policy, place, target) {
         return Err(EditFault::OpenLine);
     }
-    let whole = text_moved(alloc, &policy.lines(), place, target)?;
+    let text = Text::from_slice(alloc, line)?;
+    let changes = move_changes(alloc, from, to, text)?;
     let back = Edit::Move { from: to, to: from };
     let inverse = Edits::one(alloc, back)?;
     is_sound(policy);
-    land(policy, whole.as_slice(), inverse)
+    lines_are_whole(policy);
+    changed_by_first();
+    Ok(Plan { changes, inverse })
 }
 
-/// LF put behind the last line.
-pub fn end_closed(policy: &OneFile) -> Result<Landed, EditFault>
-    ensures { Lands Edit.EndLine (texts policy.now) result }
+/// Returns the changes that take out the line `from`, which is `text`, and put it where it stands at `to`.
+fn move_changes(
+    alloc: Global,
+    from: u32,
+    to: u32,
+    text: Text,
+) -> Result<Vec<LineChange>, AllocError>
+    ensures { IfOk result (λ changes. changes.items ≡ the_move_changes from to text) }
+{
+    let (from, to) = (from as usize, to as usize);
+    let mut changes = Vec::with_capacity(alloc, 2)?;
+    if from < to {
+        changes.push(LineChange::Take { at: from })?;
+        changes.push(LineChange::Put { at: to + 1, text })?;
+    } else if to < from {
+        changes.push(LineChange::Put { at: to, text })?;
+        changes.push(LineChange::Take { at: from })?;
+    }
+    Ok(changes)
+}
+
+/// Plans LF behind the last line.
+pub fn end_closed(policy: &OneFile) -> Result<Plan, EditFault>
+    ensures { Plans Edit.EndLine (texts policy.now) result }
 {
     let alloc = policy.allocator();
     let Some(last) = last_line(policy) else {
@@ -91,17 +118,22 @@ pub fn end_closed(policy: &OneFile) -> Result<Landed, EditFault>
     if last.len() >= LINE_LIMIT {
         return Err(EditFault::TooLarge);
     }
-    let mut whole = policy.text()?;
-    whole.push(b'\n')?;
-    let inverse = Edits::one(alloc, Edit::OpenEnd)?;
     is_sound(policy);
     stays_cut();
-    land(policy, whole.as_slice(), inverse)
+    let mut text = Vec::from_slice(alloc, last)?;
+    text.push(b'\n')?;
+    if !is_one_line(alloc, text.as_slice())? {
+        let mut whole = policy.text()?;
+        whole.push(b'\n')?;
+        return Err(refusal(alloc, whole.as_slice()));
+    }
+    let inverse = Edits::one(alloc, Edit::OpenEnd)?;
+    Ok(Plan::swap(alloc, last_place(policy), Text::from_vec(text), inverse)?)
 }
 
-/// The LF at the end of the last line taken away.
-pub fn end_opened(policy: &OneFile) -> Result<Landed, EditFault>
-    ensures { Lands Edit.OpenEnd (texts policy.now) result }
+/// Plans that the last line lacks the LF at its end.
+pub fn end_opened(policy: &OneFile) -> Result<Plan, EditFault>
+    ensures { Plans Edit.OpenEnd (texts policy.now) result }
 {
     let alloc = policy.allocator();
     let Some(last) = last_line(policy) else {
@@ -110,12 +142,16 @@ pub fn end_opened(policy: &OneFile) -> Result<Landed, EditFault>
     if last.len() < 2 || !ends_in_lf(last) {
         return Err(EditFault::EndAsIs);
     }
-    let mut whole = policy.text()?;
-    let _ = whole.pop();
-    let inverse = Edits::one(alloc, Edit::EndLine)?;
     is_sound(policy);
     stays_cut();
-    land(policy, whole.as_slice(), inverse)
+    let text = Text::from_slice(alloc, &last[..last.len() - 1])?;
+    if !is_one_line(alloc, text.as_slice())? {
+        let mut whole = policy.text()?;
+        let _ = whole.pop();
+        return Err(refusal(alloc, whole.as_slice()));
+    }
+    let inverse = Edits::one(alloc, Edit::EndLine)?;
+    Ok(Plan::swap(alloc, last_place(policy), text, inverse)?)
 }
 
 /// Returns whether a line without LF would stand before another once the text stands at a place.
@@ -154,11 +190,18 @@ fn move_leaves_unended(policy: &OneFile, from: usize, to: usize) -> bool
     }
 }
 
-/// Returns the last line, where there is one.
+/// Returns the last line, if there is one.
 fn last_line(policy: &OneFile) -> Option<&[u8]>
     ensures { option_copied result ≡ slice_get (texts policy.now) (length (texts policy.now) - 1) }
 {
-    policy.line(policy.len().saturating_sub(1))
+    policy.line(last_place(policy))
+}
+
+/// Returns the number of the last line.
+fn last_place(policy: &OneFile) -> usize
+    ensures { result ≡ length (texts policy.now) - 1 }
+{
+    policy.len().saturating_sub(1)
 }
 
 /// A law: the lines of a policy stay its lines where LF is put behind the last or taken from it, if that is a policy.
@@ -176,8 +219,11 @@ pub fn stays_cut()
 fn is_one_line(alloc: Global, text: &[u8]) -> Result<bool, AllocError>
     ensures is { IfOk result (λ is. is ≡ is_one_line text.now) }
     ensures alone { IfOk result (λ is. is ≡ true → IsAlone text.now) }
+    ensures whole { IfOk result (λ is. is ≡ true → IsLogicalLine text.now) }
 {
     lines_stand_alone();
+    line_alone_is_whole();
+    whole_line_is();
     match cut(alloc, text) {
         Ok(lines) => Ok(lines.len() == 1),
         Err(TextFault::NoMemory) => Err(AllocError),

@@ -1,5 +1,5 @@
 //! Prune.
-ghost use Rattle.std.specs.Prelude.{◌≡◌, ◌≤◌, ◌<◌, ◌^◌, ◌++◌, length, ℕ, IfOk, OnOk};
+ghost use Rattle.std.specs.Prelude.{◌≡◌, ◌≤◌, ◌<◌, ◌^◌, ◌++◌, length, ℕ, IfOk, OnOk, OnErr};
 ghost use Rattle.std.specs.List.{All};
 ghost use Rattle.sudoers_line.specs.declared.node.Kind.{Kind as AKind};
 ghost use Rattle.sudoers_text.specs.Fault.{text_limit};
@@ -7,13 +7,13 @@ ghost use Rattle.sudoers_line_rows.specs.View.{node_shown};
 ghost use Rattle.sudoers_tree.specs.declared.place.Place.{Place as APlace};
 ghost use Rattle.sudoers_tree.specs.Definition.{Definition, definitions, definitions_in};
 ghost use Rattle.sudoers_tree.specs.Policy.{texts, alias_limit};
-ghost use Rattle.sudoers_edit.specs.internal.Leading.{Lands};
+ghost use Rattle.sudoers_edit.specs.internal.Leading.{Makes};
 ghost use Rattle.sudoers_edit.specs.Pruning.{edit_of, removals as the_removals};
 ghost use Rattle.sudoers_edit.specs.internal.PruneOrder.{front_count, removals_at};
 
 use crate::fault::EditFault;
-use crate::landing::{Landed, copied, is_sound};
 use crate::line_edits::line_deleted;
+use crate::plan::{carry_out, is_sound};
 use crate::splice_edits::def_dropped;
 use std::alloc::{AllocError, Global};
 use sudoers_check::find_unused;
@@ -30,34 +30,36 @@ pub enum Removal {
     Def { line: u32, at: u32 },
 }
 
-/// All definitions of aliases that are unused taken out, one after another, each from what the one before left.
-pub fn pruned(policy: &OneFile) -> Result<Landed, EditFault>
-    ensures { Lands Edit.Prune (texts policy.now) result }
+/// Takes out all definitions of aliases that are unused, one after another, each from what the one before left. Returns the edits
+/// that put them in again.
+pub fn pruned(policy: &mut OneFile) -> Result<Edits, EditFault>
+    ensures made { Makes Edit.Prune (texts policy.old) (texts policy.new) result }
+    ensures unchanged { OnErr result (policy.new ≡ policy.old) }
 {
     policy.is_policy();
     let alloc = policy.allocator();
     let removals = removals(alloc, policy)?;
+    if removals.is_empty() {
+        return Ok(Edits::new(alloc));
+    }
     let mut back = Vec::new(alloc);
-    let mut after = copied(policy)?;
+    let mut after = policy.copied()?;
     for removal in removals.as_slice() {
-        let landed = removed(&after, *removal)?;
-        append_edits(&mut back, landed.inverse)?;
-        after = landed.policy;
+        let inverse = removed(&mut after, *removal)?;
+        append_edits(&mut back, inverse)?;
     }
     back.reverse();
-    Ok(Landed {
-        policy: after,
-        inverse: Edits::from_vec(back),
-    })
+    *policy = after;
+    Ok(Edits::from_vec(back))
 }
 
-/// Returns the policy without what is taken out.
-fn removed(policy: &OneFile, removal: Removal) -> Result<Landed, EditFault>
-    ensures { Lands (edit_of removal) (texts policy.now) result }
+/// Takes one of them out.
+fn removed(policy: &mut OneFile, removal: Removal) -> Result<Edits, EditFault>
+    ensures { Makes (edit_of removal) (texts policy.old) (texts policy.new) result }
 {
     match removal {
-        Removal::Line { at } => line_deleted(policy, at),
-        Removal::Def { line, at } => def_dropped(policy, line, at),
+        Removal::Line { at } => carry_out(line_deleted(policy, at), policy),
+        Removal::Def { line, at } => carry_out(def_dropped(policy, line, at), policy),
     }
 }
 

@@ -1,5 +1,5 @@
 //! An alias given another name, where it is defined and where it is mentioned.
-ghost use Rattle.std.specs.Prelude.{◌≡◌, ◌∷◌, [], take, drop, Ok, IfOk, MatchResult};
+ghost use Rattle.std.specs.Prelude.{◌≡◌, ◌∷◌, [], take, drop, Ok, IfOk, OnErr, MatchResult};
 ghost use Rattle.std.specs.List.{list_any};
 ghost use Rattle.std.specs.Str.{bytes_eq};
 ghost use Rattle.sudoers_text.specs.Line.{join};
@@ -8,26 +8,26 @@ ghost use Rattle.sudoers_tree.specs.Policy.{texts};
 ghost use Rattle.sudoers_edit.specs.Alike.{are_alike as alike_lists};
 ghost use Rattle.sudoers_edit.specs.Editing.{Refuses};
 ghost use Rattle.sudoers_edit.specs.Landing.{is_too_long, policy_or_refusal};
-ghost use Rattle.sudoers_edit.specs.internal.Leading.{Lands};
+ghost use Rattle.sudoers_edit.specs.internal.Leading.{Makes};
 ghost use Rattle.sudoers_edit.specs.Renaming.{put_at, renamed_line, renamed, no_way_back as the_fault, if_lines, is_lines, is_taken as taken, rename_once};
 
 use crate::fault::EditFault;
-use crate::landing::Landed;
 use crate::name_places::name_starts;
-use crate::reread::reread;
+use crate::plan::read_policy;
 use std::alloc::{AllocError, Global};
 use sudoers_edit_script::{Edit, Edits, Text};
 use sudoers_text::{LINE_LIMIT, is_name, is_reserved};
 use sudoers_tree::{Kind, Line, LineRow, OneFile, ReadFault, Rows, Why};
 
-/// An alias given another name.
+/// Gives an alias another name. Returns the edit that gives the old name back.
 pub fn alias_renamed(
-    policy: &OneFile,
+    policy: &mut OneFile,
     kind: Kind,
     name: &[u8],
     fresh: &[u8],
-) -> Result<Landed, EditFault>
-    ensures { Lands (Edit.Rename kind name.now fresh.now) (texts policy.now) result }
+) -> Result<Edits, EditFault>
+    ensures made { Makes (Edit.Rename kind name.now fresh.now) (texts policy.old) (texts policy.new) result }
+    ensures unchanged { OnErr result (policy.new ≡ policy.old) }
 {
     policy.is_policy();
     let inverse = rename_back(policy.allocator(), kind, name, fresh)?;
@@ -36,10 +36,8 @@ pub fn alias_renamed(
     if !is_restored(policy, &new, kind, name, fresh)? {
         return Err(no_way_back());
     }
-    Ok(Landed {
-        policy: new,
-        inverse,
-    })
+    *policy = new;
+    Ok(inverse)
 }
 
 fn rename_back(alloc: Global, kind: Kind, name: &[u8], fresh: &[u8]) -> Result<Edits, AllocError>
@@ -104,7 +102,7 @@ fn renamed_once(
     if is_one_too_long(lines.as_slice()) {
         return Err(EditFault::TooLarge);
     }
-    policy_of_lines(policy, lines.as_slice())
+    policy_of_lines(policy.allocator(), lines.as_slice())
 }
 
 /// Returns whether the name is defined or mentioned in the kind.
@@ -117,13 +115,13 @@ fn is_taken(policy: &OneFile, kind: Kind, fresh: &[u8]) -> Result<bool, AllocErr
     Ok(!policy.mentions(kind, fresh)?.is_empty())
 }
 
-/// Returns the policy that the changed lines of a policy are, if the lines that are read are these.
-fn policy_of_lines(policy: &OneFile, lines: &[Text]) -> Result<OneFile, EditFault>
+/// Returns the policy that the lines are, if the lines that are read are these.
+fn policy_of_lines(alloc: Global, lines: &[Text]) -> Result<OneFile, EditFault>
     ensures { MatchResult result (λ new. if_lines lines.now (policy_or_refusal (join lines.now)) ≡ Ok (texts new))
         (λ fault. Refuses fault (if_lines lines.now (policy_or_refusal (join lines.now)))) }
 {
-    let text = joined(policy.allocator(), lines)?;
-    let new = reread(policy, text.as_slice())?;
+    let text = joined(alloc, lines)?;
+    let new = read_policy(alloc, text.as_slice())?;
     if !are_lines(&new.lines(), lines) {
         return Err(no_way_back());
     }

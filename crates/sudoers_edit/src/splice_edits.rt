@@ -6,7 +6,7 @@ ghost use Rattle.sudoers_edit_script.specs.declared.edit.Edit.{Edit as AnEdit};
 ghost use Rattle.sudoers_edit.specs.Editing.{Refuses};
 ghost use Rattle.sudoers_edit.specs.Landing.{changed_or_refusal};
 ghost use Rattle.sudoers_tree.specs.Changed.{replaced};
-ghost use Rattle.sudoers_edit.specs.internal.Leading.{Lands, Replaces, PutIn, CutOut, IsKnown, IsDefAt};
+ghost use Rattle.sudoers_edit.specs.internal.Leading.{Plans, Replaces, PutIn, CutOut, IsKnown, IsDefAt};
 ghost use Rattle.sudoers_edit.specs.SpliceEdits.{Lines, put_in as with_more, cut_out as with_less, with_defs, with_def, defs_of};
 ghost use Rattle.sudoers_line_rows.specs.View.{def_shown, defs_shown};
 ghost use Rattle.sudoers_tree.specs.Line.{Line as LineOf, line_shown};
@@ -16,20 +16,20 @@ ghost use Rattle.sudoers_tree.specs.Definition.{place_of};
 ghost use Rattle.sudoers_edit.specs.declared.fault.EditFault.{EditFault as Refusal};
 
 use crate::fault::EditFault;
-use crate::landing::{Landed, is_sound, land, reads_lines};
 use crate::one_more::{Among, OneMore};
+use crate::plan::{Plan, is_sound, reads_lines};
 use crate::splice::{line_with, line_without, place_to_add, place_to_drop};
 use std::alloc::{AllocError, Global};
 use sudoers_edit_script::{Edit, Edits, Text};
 use sudoers_line::laws::definitions_ascend;
-use sudoers_text::laws::{line_alone_is_whole, line_alone_size};
+use sudoers_text::laws::{line_alone_is_whole, line_alone_size, whole_line_is};
 use sudoers_text::{LINE_LIMIT, ends_in_lf};
 use sudoers_tree::laws::lines_are_said;
-use sudoers_tree::{Def, DefRow, Kind, Line, Node, OneFile, Place, Rows, read_line, text_replaced};
+use sudoers_tree::{Def, DefRow, Kind, Line, Node, OneFile, Place, Rows, read_line};
 
-/// A definition put into a line.
-pub fn def_added(policy: &OneFile, line: u32, at: u32, splice: &[u8]) -> Result<Landed, EditFault>
-    ensures { Lands (Edit.AddDef line at splice.now) (texts policy.now) result }
+/// Plans a definition put into a line.
+pub fn def_added(policy: &OneFile, line: u32, at: u32, splice: &[u8]) -> Result<Plan, EditFault>
+    ensures { Plans (Edit.AddDef line at splice.now) (texts policy.now) result }
 {
     is_known(policy);
     let alloc = policy.allocator();
@@ -46,12 +46,12 @@ pub fn def_added(policy: &OneFile, line: u32, at: u32, splice: &[u8]) -> Result<
         Err(fault) => return Err(fault),
     };
     let inverse = Edits::one(alloc, Edit::DropDef { line, at })?;
-    line_replaced(policy, line as usize, text.as_slice(), inverse)
+    line_replaced(policy, line as usize, text, inverse)
 }
 
-/// A definition taken out of a line.
-pub fn def_dropped(policy: &OneFile, line: u32, at: u32) -> Result<Landed, EditFault>
-    ensures { Lands (Edit.DropDef line at) (texts policy.now) result }
+/// Plans a definition taken out of a line.
+pub fn def_dropped(policy: &OneFile, line: u32, at: u32) -> Result<Plan, EditFault>
+    ensures { Plans (Edit.DropDef line at) (texts policy.now) result }
 {
     is_known(policy);
     let alloc = policy.allocator();
@@ -69,18 +69,18 @@ pub fn def_dropped(policy: &OneFile, line: u32, at: u32) -> Result<Landed, EditF
     };
     let splice = Text::from_slice(alloc, &old.text[from..to])?;
     let inverse = Edits::one(alloc, Edit::AddDef { line, at, splice })?;
-    line_replaced(policy, line as usize, text.as_slice(), inverse)
+    line_replaced(policy, line as usize, text, inverse)
 }
 
-/// A member put into the list of an alias.
+/// Plans a member put into the list of an alias.
 pub fn member_added(
     policy: &OneFile,
     kind: Kind,
     name: &[u8],
     at: u32,
     splice: &[u8],
-) -> Result<Landed, EditFault>
-    ensures { Lands (Edit.AddMember kind name.now at splice.now) (texts policy.now) result }
+) -> Result<Plan, EditFault>
+    ensures { Plans (Edit.AddMember kind name.now at splice.now) (texts policy.now) result }
 {
     is_known(policy);
     let alloc = policy.allocator();
@@ -99,17 +99,12 @@ pub fn member_added(
     };
     let name = Text::from_slice(alloc, name)?;
     let inverse = Edits::one(alloc, Edit::DropMember { kind, name, at })?;
-    line_replaced(policy, place.line, text.as_slice(), inverse)
+    line_replaced(policy, place.line, text, inverse)
 }
 
-/// A member taken out of the list of an alias.
-pub fn member_dropped(
-    policy: &OneFile,
-    kind: Kind,
-    name: &[u8],
-    at: u32,
-) -> Result<Landed, EditFault>
-    ensures { Lands (Edit.DropMember kind name.now at) (texts policy.now) result }
+/// Plans a member taken out of the list of an alias.
+pub fn member_dropped(policy: &OneFile, kind: Kind, name: &[u8], at: u32) -> Result<Plan, EditFault>
+    ensures { Plans (Edit.DropMember kind name.now at) (texts policy.now) result }
 {
     is_known(policy);
     let alloc = policy.allocator();
@@ -127,7 +122,7 @@ pub fn member_dropped(
         Err(fault) => return Err(fault),
     };
     let inverse = member_again(alloc, kind, name, at, &old.text[from..to])?;
-    line_replaced(policy, place.line, text.as_slice(), inverse)
+    line_replaced(policy, place.line, text, inverse)
 }
 
 /// Returns the edit that puts a member in again.
@@ -260,28 +255,28 @@ fn cut_out(
     Ok(text)
 }
 
-/// A line changed that reads as it should.
+/// Plans a line changed that reads as it should.
 fn line_replaced(
     policy: &OneFile,
     at: usize,
-    text: &[u8],
+    text: Vec<u8>,
     inverse: Edits,
-) -> Result<Landed, EditFault>
+) -> Result<Plan, EditFault>
     requires { at < length policy.now }
-    ensures { (edit : AnEdit) → Replaces edit inverse (texts policy.now) at text.now → Lands edit (texts policy.now) result }
+    ensures { (edit : AnEdit) → Replaces edit inverse (texts policy.now) at text.items → Plans edit (texts policy.now) result }
 {
-    let alloc = policy.allocator();
     is_sound(policy);
     reads_lines();
     line_alone_is_whole();
+    whole_line_is();
     if text.len() > LINE_LIMIT {
         return Err(EditFault::TooLarge);
     }
-    if leaves_open(policy, at, text) {
+    if leaves_open(policy, at, text.as_slice()) {
         return Err(EditFault::OpenLine);
     }
-    let whole = text_replaced(alloc, &policy.lines(), at, text)?;
-    land(policy, whole.as_slice(), inverse)
+    let text = Text::from_vec(text);
+    Ok(Plan::swap(policy.allocator(), at, text, inverse)?)
 }
 
 /// Returns whether a line without LF would stand before another once the text stands in the place of a line.

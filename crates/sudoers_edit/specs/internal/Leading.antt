@@ -3,15 +3,16 @@ use Rattle.std.specs.Prelude.{◌≡◌, ◌<◌, ◌≤◌, ◌+◌, ℕ, true,
 use Rattle.sudoers_text.specs.Line.{join}
 use Rattle.sudoers_text.specs.Ended.{has_unended_inside}
 use Rattle.sudoers_text.specs.Cut.{StandAlone}
-use Rattle.sudoers_text.specs.Whole.{is_logical_line}
+use Rattle.sudoers_text.specs.Whole.{is_logical_line, IsLogicalLine}
 use Rattle.sudoers_tree.specs.Reading.{read_of}
 use Rattle.sudoers_tree.specs.Line.{Line}
 use Rattle.sudoers_tree.specs.Policy.{texts}
 use Rattle.sudoers_edit_script.specs.declared.edit.Edit.{Edit}
 use Rattle.sudoers_edit.specs.declared.fault.EditFault.{EditFault}
-use Rattle.sudoers_edit.specs.declared.landing.Landed.{Landed}
+use Rattle.sudoers_edit.specs.declared.plan.Plan.{Plan}
 use Rattle.sudoers_edit.specs.Landing.{policy_or_refusal, lines_or_refusal, changed_or_refusal}
-use Rattle.sudoers_tree.specs.Changed.{replaced}
+use Rattle.sudoers_tree.specs.Changed.{replaced, changed, AreInOrder, brought}
+use Rattle.sudoers_tree.specs.declared.line_change.LineChange.{LineChange}
 use Rattle.sudoers_edit.specs.declared.one_more.Among.{Among}
 use Rattle.std.specs.List.{AllByRecursion}
 use Rattle.sudoers_text.specs.Fault.{line_limit}
@@ -26,16 +27,25 @@ use Rattle.sudoers_tree.specs.Definition.{place_of}
 use Rattle.sudoers_tree.specs.Single.{said}
 use Rattle.sudoers_edit.specs.Editing.{Refuses, step, inv, run}
 
--- The text is that of lines to which the edit leads, if they are those of a policy; then they stand alone, and its inverse leads
--- back.
-pub record Leads (edit : Edit) (inverse : List Edit) (lines : List (List ℕ)) (text : List ℕ) : Type 0 where
-  pub new : List (List ℕ)
-  pub joined : text ≡ join new
+-- The edit leads to these lines, if they are those of a policy; then they stand alone, and its inverse leads back.
+pub record LeadsTo (edit : Edit) (inverse : List Edit) (lines new : List (List ℕ)) : Type 0 where
   pub each : (policy : List Line) → policy_or_refusal (join new) ≡ Ok policy → StandAlone new
   pub ended : has_unended_inside new ≡ false
   pub forth : step edit lines ≡ lines_or_refusal new
   pub inverse_is : inverse ≡ inv edit lines
   pub back : (policy : List Line) → policy_or_refusal (join new) ≡ Ok policy → run inverse new ≡ Some lines
+
+-- The changes of the lines can be made: they are in order, each text that they bring is one logical line, and no line without LF
+-- stands before another then.
+pub record Fits (changes : List LineChange) (lines : List (List ℕ)) : Type 0 where
+  pub order : AreInOrder 0 changes (length lines)
+  pub whole : AllByRecursion IsLogicalLine (brought changes)
+  pub ended : has_unended_inside (changed changes lines) ≡ false
+
+-- The changes can be made, and make the lines to which the edit leads.
+pub record Leads (edit : Edit) (inverse : List Edit) (lines : List (List ℕ)) (changes : List LineChange) : Type 0 where
+  pub fits : Fits changes lines
+  pub to : LeadsTo edit inverse lines (changed changes lines)
 
 -- The edit puts this text in the place of a line, which says something, if the lines are those of a policy then; and its inverse
 -- leads back.
@@ -80,13 +90,18 @@ pub record IsDefAt (k : Kind) (name : List ℕ) (policy : List Line) (place : Pl
   pub makes : defs_of line.node ≡ Some defs
   pub stands : slice_get defs place.def ≡ Some d
 
--- The edit has led to this policy, and these edits lead back.
-pub record IsLanded (edit : Edit) (lines : List (List ℕ)) (landed : Landed) : Type 0 where
-  pub forth : step edit lines ≡ Ok (texts landed.policy)
-  pub inverse_is : landed.inverse ≡ inv edit lines
-  pub back : run landed.inverse (texts landed.policy) ≡ Some lines
+-- what is planned for an edit: its changes, or its refusal
+abbrev pub Plans : Edit → List (List ℕ) → Result Plan EditFault → Type 0
+Plans edit lines (Ok plan) = Leads edit plan.inverse lines plan.changes.items
+Plans edit lines (Err fault) = Refuses fault (step edit lines)
 
--- what comes of an edit: the policy to which it leads, or its refusal
-abbrev pub Lands : Edit → List (List ℕ) → Result Landed EditFault → Type 0
-Lands edit lines (Ok landed) = IsLanded edit lines landed
-Lands edit lines (Err fault) = Refuses fault (step edit lines)
+-- The edit has led to the new lines, and these edits lead back.
+pub record IsMade (edit : Edit) (inverse : List Edit) (old new : List (List ℕ)) : Type 0 where
+  pub forth : step edit old ≡ Ok new
+  pub inverse_is : inverse ≡ inv edit old
+  pub back : run inverse new ≡ Some old
+
+-- what comes of an edit: the edits that take it back, or its refusal
+abbrev pub Makes : Edit → List (List ℕ) → List (List ℕ) → Result (List Edit) EditFault → Type 0
+Makes edit old new (Ok inverse) = IsMade edit inverse old new
+Makes edit old new (Err fault) = Refuses fault (step edit old)

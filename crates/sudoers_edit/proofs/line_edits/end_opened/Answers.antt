@@ -1,12 +1,13 @@
-use Rattle.std.proofs.Common.{◌≡◌, ◌∙◌, ◌-◌, List, ℕ, length, take, true, Some, None, ap, sym, subst, inr}
+use Rattle.std.proofs.Common.{◌≡◌, ◌∙◌, ◌-◌, ◌<◌, ◌∷◌, [], List, ℕ, length, take, false, Some, None, ap, sym, subst, inr}
 use Rattle.std.specs.Prelude.{slice_get}
 use Rattle.sudoers_text.specs.Line.{join}
-use Rattle.sudoers_text.specs.Ended.{ends_in_lf}
-use Rattle.sudoers_tree.specs.Line.{Line}
+use Rattle.sudoers_text.specs.Whole.{IsLogicalLine}
+use Rattle.sudoers_tree.specs.Changed.{replaced}
 use Rattle.sudoers_tree.specs.Policy.{texts}
-use Rattle.sudoers_edit_script.specs.declared.edit.Edit.TheVariants.{OpenEnd}
-use Rattle.sudoers_edit.specs.internal.Leading.{Leads}
-use Rattle.sudoers_edit.proofs.LastLemmas.{no_end, open_short, open_lacks, open_leads}
+use Rattle.sudoers_edit_script.specs.declared.edit.Edit.TheVariants.{EndLine, OpenEnd}
+use Rattle.sudoers_edit.specs.OneLine.{is_one_line}
+use Rattle.sudoers_edit.specs.internal.Leading.{LeadsTo}
+use Rattle.sudoers_edit.proofs.LastLemmas.{no_end, open_short, open_lacks, open_leads, text_opened, last_within, unread, unread_refused}
 use Rattle.sudoers_edit.proofs.line_edits.end_opened.Goals as goal
 use Rattle.sudoers_edit.proofs.line_edits.end_opened.Goals.{then-last-lt2-via-then-last-lt2, then-last-lt2-via-else-last-lt2+then-not-ends_in_lf}
 
@@ -26,17 +27,44 @@ returns-then-last-lt2 c =
       | then-last-lt2-via-else-last-lt2+then-not-ends_in_lf w ↦ open_lacks ls line here (sym w.ends_in_lf.ensures ∙ w.if-not-ends_in_lf.true)
     ])
 
-pub returns : goal.returns
-returns c =
-    let policy : List Line = c.args.policy.now in
-    let ls : List (List ℕ) = texts policy in
+pub refusal-requires : goal.refusal-requires
+refusal-requires c =
+    let ls : List (List ℕ) = texts c.args.policy.now in
+    let line : List ℕ = c.in-Some.last.now in
+    let new : List ℕ = take (length line - 1) line in
+    let here : slice_get ls (length ls - 1) ≡ Some line = sym c.in-Some.ensures in
+    let leads = open_leads c.stays_cut.ensures ls line c.is_sound.ensures here (sym c.ends_in_lf.ensures ∙ c.if-not-ends_in_lf.false) c.if-last-lt2.false in
+    let open_ : is_one_line new ≡ false = ap is_one_line (sym (c.as_slice.ensures ∙ c.in_ok-text.ensures)) ∙ sym c.in_ok-is_one_line.ensures.is ∙ c.if-not-branch.true in
+    let whole : c.as_slice-then-not-branch.result.now ≡ join (replaced (length ls - 1) (take (length line - 1) line) ls) =
+    c.as_slice-then-not-branch.ensures.value ∙ c.pop.ensures.rest ∙ ap (λ n. take (n - 1) c.in_ok-whole.whole.items) c.in_ok-whole.whole.ok.0
+    ∙ ap (λ (t : List ℕ). take (length t - 1) t) c.in_ok-whole.ensures
+    ∙ text_opened ls line here (sym c.ends_in_lf.ensures ∙ c.if-not-ends_in_lf.false) c.if-last-lt2.false in
+    unread OpenEnd (EndLine ∷ []) ls (length ls - 1) new c.as_slice-then-not-branch.result.now leads (last_within ls line here) open_ whole
+
+pub returns-then-not-branch : goal.returns-then-not-branch
+returns-then-not-branch c =
+    let ls : List (List ℕ) = texts c.args.policy.now in
     let line : List ℕ = c.in-Some.last.now in
     let here : slice_get ls (length ls - 1) ≡ Some line = sym c.in-Some.ensures in
-    let has : ends_in_lf line ≡ true = sym c.ends_in_lf.ensures ∙ c.if-not-ends_in_lf.false in
-    let whole : c.as_slice.result.now ≡ take (length (join ls) - 1) (join ls) =
-    c.as_slice.ensures.value ∙ c.pop.ensures.rest ∙ ap (λ n. take (n - 1) c.in_ok-whole.whole.items) c.in_ok-whole.whole.ok.0
-    ∙ ap (λ (t : List ℕ). take (length t - 1) t) c.in_ok-whole.ensures in
-    let leads = open_leads c.stays_cut.ensures ls line c.as_slice.result.now c.is_sound.ensures here has c.if-last-lt2.false whole in
-    let told : Leads OpenEnd c.in_ok-inverse.inverse ls c.as_slice.result.now =
-    subst (λ i. Leads OpenEnd i ls c.as_slice.result.now) (sym c.in_ok-inverse.ensures) leads in
-    c.land.ensures OpenEnd ls told
+    let leads = open_leads c.stays_cut.ensures ls line c.is_sound.ensures here (sym c.ends_in_lf.ensures ∙ c.if-not-ends_in_lf.false) c.if-last-lt2.false in
+    let whole : c.as_slice-then-not-branch.result.now ≡ join (replaced (length ls - 1) (take (length line - 1) line) ls) =
+    c.as_slice-then-not-branch.ensures.value ∙ c.pop.ensures.rest ∙ ap (λ n. take (n - 1) c.in_ok-whole.whole.items) c.in_ok-whole.whole.ok.0
+    ∙ ap (λ (t : List ℕ). take (length t - 1) t) c.in_ok-whole.ensures
+    ∙ text_opened ls line here (sym c.ends_in_lf.ensures ∙ c.if-not-ends_in_lf.false) c.if-last-lt2.false in
+    unread_refused OpenEnd (EndLine ∷ []) ls (replaced (length ls - 1) (take (length line - 1) line) ls) c.as_slice-then-not-branch.result.now c.refusal.result leads
+    whole c.refusal.ensures
+
+pub returns : goal.returns
+returns c =
+    let ls : List (List ℕ) = texts c.args.policy.now in
+    let line : List ℕ = c.in-Some.last.now in
+    let new : List ℕ = take (length line - 1) line in
+    let here : slice_get ls (length ls - 1) ≡ Some line = sym c.in-Some.ensures in
+    let leads = open_leads c.stays_cut.ensures ls line c.is_sound.ensures here (sym c.ends_in_lf.ensures ∙ c.if-not-ends_in_lf.false) c.if-last-lt2.false in
+    let put : c.in_ok-text.text ≡ new = c.in_ok-text.ensures in
+    let one : IsLogicalLine c.in_ok-text.text = subst IsLogicalLine c.as_slice.ensures (c.in_ok-is_one_line.ensures.whole c.if-not-branch.false) in
+    let there : LeadsTo OpenEnd c.in_ok-inverse.inverse ls (replaced (length ls - 1) new ls) =
+    subst (λ i. LeadsTo OpenEnd i ls (replaced (length ls - 1) new ls)) (sym c.in_ok-inverse.ensures) leads in
+    c.in_ok-swap.ensures OpenEnd ls (subst (λ n. n < length ls) (sym c.last_place.ensures) (last_within ls line here)) one
+    (subst (λ n. LeadsTo OpenEnd c.in_ok-inverse.inverse ls (replaced n c.in_ok-text.text ls)) (sym c.last_place.ensures)
+    (subst (λ t. LeadsTo OpenEnd c.in_ok-inverse.inverse ls (replaced (length ls - 1) t ls)) (sym put) there))

@@ -60,5 +60,4 @@ returns c =
     ∙ (c.in-Ok-place_to_add.ensures (λ from. put_in among.Definitions at from n s line policy)).0
     ∙ c.in-Ok-put_in.ensures.outcome n policy) in
     c.line_replaced.ensures (AddDef n at s)
-    (subst (λ i. Replaces (AddDef n at s) i (texts policy) n c.as_slice.result.now) (sym c.in_ok-inverse.ensures)
-    (subst (λ t. Replaces (AddDef n at s) (DropDef n at ∷ []) (texts policy) n t) (sym c.as_slice.ensures.value) leads))
+    (subst (λ i. Replaces (AddDef n at s) i (texts policy) n c.in-Ok-put_in.text.items) (sym c.in_ok-inverse.ensures) leads)

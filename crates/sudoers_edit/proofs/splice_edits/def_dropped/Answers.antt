@@ -69,5 +69,4 @@ returns c =
     c.in-Ok-cut_out.ensures.cut owned
     (drop_found n at policy line defs c.in-Ok.ensures.outcome ∙ place.0 ∙ c.in-Ok-cut_out.ensures.outcome n policy) in
     c.line_replaced.ensures (DropDef n at)
-    (subst (λ i. Replaces (DropDef n at) i (texts policy) n c.as_slice.result.now) (sym c.in_ok-inverse.ensures)
-    (subst (λ t. Replaces (DropDef n at) (AddDef n at s ∷ []) (texts policy) n t) (sym c.as_slice.ensures.value) leads))
+    (subst (λ i. Replaces (DropDef n at) i (texts policy) n c.in-Ok-cut_out.text.items) (sym c.in_ok-inverse.ensures) leads)

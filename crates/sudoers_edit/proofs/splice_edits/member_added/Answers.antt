@@ -71,5 +71,4 @@ returns c =
     ∙ (c.in-Ok-place_to_add.ensures next).0 ∙ c.in-Ok-put_in.ensures.outcome place.line policy) in
     let inverse : DropMember k name at ∷ [] ≡ c.in_ok-inverse.inverse = ap (λ z. DropMember k z at ∷ []) (sym c.in_ok-name.ensures) ∙ sym c.in_ok-inverse.ensures in
     c.line_replaced.ensures (AddMember k name at s)
-    (subst (λ i. Replaces (AddMember k name at s) i (texts policy) place.line c.as_slice.result.now) inverse
-    (subst (λ t. Replaces (AddMember k name at s) (DropMember k name at ∷ []) (texts policy) place.line t) (sym c.as_slice.ensures.value) leads))
+    (subst (λ i. Replaces (AddMember k name at s) i (texts policy) place.line c.in-Ok-put_in.text.items) inverse leads)

@@ -86,5 +86,4 @@ returns c =
     let owned : AddMember k name at s ∷ [] ≡ c.in_ok-inverse.inverse =
     sym c.in_ok-inverse.ensures in
     c.line_replaced.ensures (DropMember k name at)
-    (subst (λ i. Replaces (DropMember k name at) i (texts policy) place.line c.as_slice.result.now) owned
-    (subst (λ t. Replaces (DropMember k name at) (AddMember k name at s ∷ []) (texts policy) place.line t) (sym c.as_slice.ensures.value) leads))
+    (subst (λ i. Replaces (DropMember k name at) i (texts policy) place.line c.in-Ok-cut_out.text.items) owned leads)

@@ -4,7 +4,7 @@ use Rattle.std.proofs.lemmas.List.{drop_more}
 use Rattle.sudoers_edit_script.specs.declared.edit.Edit.{Edit}
 use Rattle.sudoers_tree.specs.Policy.{texts}
 use Rattle.sudoers_edit.specs.Editing.{step, run}
-use Rattle.sudoers_edit.proofs.editor.after_all.Goals as goal
+use Rattle.sudoers_edit.proofs.making.after_all.Goals as goal
 
 -- the edits that are left, from what the next one leads to
 one_more : (es : List Edit) (i : ℕ) (e : Edit) (lines new : List (List ℕ)) → i < length es → e ≡ get_or es i e → step e lines ≡ Ok new
@@ -16,6 +16,6 @@ one_more es i e lines new within is leads =
 
 pub loop-edit-preserved : goal.loop-edit-preserved
 loop-edit-preserved c =
-    one_more c.in-Some.rest.now c.loop-edit.edit-index c.edit-item.result (texts c.loop-edit.after) (texts c.in_ok-after-2.field-0.policy)
-    c.loop-edit-test.true c.edit-item.is c.in_ok-after-2.ensures.forth
+    one_more c.args.edits.now c.loop-edit.edit-index c.edit-item.result (texts c.loop-edit.after) (texts c.make.new.policy)
+    c.loop-edit-test.true c.edit-item.is c.in_ok-make.ensures.made.forth
     ∙ c.loop-edit.invariant
