@@ -25,7 +25,7 @@ pub mod Outcomes
 pub mod OneOutcome
 pub mod AtPlaces
 pub mod ReadText
-pub mod ChangedText
+pub mod WholeLines
 pub mod ChangedLines
 pub mod NameLists
 pub mod PieceLines

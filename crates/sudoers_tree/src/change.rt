@@ -14,7 +14,6 @@ ghost use Rattle.sudoers_tree.specs.Policy.{texts};
 ghost use Rattle.sudoers_tree.specs.internal.Pieces.{piece_texts, texts_of, AreKept, ChangesLines, IsKept, IsKeptPiece, IsSize, IsSizeBehind, ReadsOn, lfs_in};
 ghost use Rattle.sudoers_tree.specs.internal.Tree.{Stands};
 
-use crate::changed::text_of;
 use crate::fault::{ReadFault, SyntaxFault};
 use crate::index::{Index, Renewals};
 use crate::line::LineRow;
@@ -23,6 +22,7 @@ use crate::pieces::Piece;
 use crate::position::lf_count;
 use crate::reading::fault_at;
 use crate::row::read_row;
+use crate::texts::text_of;
 use std::alloc::{AllocError, Global};
 use sudoers_line::LineFault;
 use sudoers_line_reader::laws::outcome_is;

@@ -2,7 +2,6 @@
 #![tactic(auto)]
 
 mod change;
-mod changed;
 mod fault;
 mod files;
 mod index;
@@ -26,11 +25,11 @@ mod renewal;
 mod row;
 mod single;
 mod targets;
+mod texts;
 mod tree;
 mod walk;
 mod walking;
 
-pub use changed::{append_texts, text_replaced, text_with, text_without};
 pub use fault::{ReadFault, SyntaxFault};
 pub use index::ALIAS_LIMIT;
 pub use kind::LineKind;
@@ -55,4 +54,5 @@ pub use sudoers_line_rows::{
     TagRow, alias_members, list_aliases,
 };
 pub use targets::{base_of, is_base};
+pub use texts::append_texts;
 pub use walk::Walk;

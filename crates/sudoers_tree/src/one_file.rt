@@ -21,7 +21,6 @@ ghost use Rattle.sudoers_tree.specs.Reading.{read_behind, read_of, ReadGives};
 ghost use Rattle.sudoers_tree.specs.Index.{ReadsAll};
 ghost use Rattle.sudoers_tree.specs.internal.Tree.{no_lines};
 
-use crate::changed::append_texts;
 use crate::fault::ReadFault;
 use crate::index::Index;
 use crate::kind::LineKind;
@@ -32,6 +31,7 @@ use crate::mention::append_mentions;
 use crate::passing::enter_lines;
 use crate::place::{Place, Span};
 use crate::reading::read_lines;
+use crate::texts::append_texts;
 use crate::tree::Tree;
 use crate::walk::Walk;
 use std::alloc::{AllocError, Global};

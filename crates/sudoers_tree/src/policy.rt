@@ -10,7 +10,6 @@ ghost use Rattle.sudoers_tree.specs.Line.{Line as LineOf, line_shown, lines_show
 ghost use Rattle.sudoers_tree.specs.Load.{HasSpot, load_of, one_file};
 ghost use Rattle.sudoers_tree.specs.Policy.{texts};
 
-use crate::changed::append_texts;
 use crate::files::Files;
 use crate::index::Index;
 use crate::laws::{loaded_is_walk, loaded_is_within, loaded_lines_stand};
@@ -18,6 +17,7 @@ use crate::line::{Line, LineRow};
 use crate::load::{FILE_LIMIT, NamedFile, first_repeated, read_files};
 use crate::load_fault::LoadFault;
 use crate::place::Spot;
+use crate::texts::append_texts;
 use crate::walk::Walk;
 use crate::walking::Walking;
 use std::alloc::{AllocError, Global};

@@ -1,6 +1,6 @@
 use Rattle.sudoers_tree.specs.Policy.{texts}
 use Rattle.sudoers_text.specs.Line.{join}
-use Rattle.sudoers_tree.proofs.ChangedText.{whole_alone}
+use Rattle.sudoers_tree.proofs.WholeLines.{whole_alone}
 use Rattle.sudoers_tree.proofs.laws.lines_are_whole.Goals as goal
 
 pub returns : goal.returns

@@ -1,4 +1,4 @@
-use Rattle.sudoers_tree.proofs.ChangedText.{whole_alone}
+use Rattle.sudoers_tree.proofs.WholeLines.{whole_alone}
 use Rattle.sudoers_tree.proofs.WholeFiles.{loaded_whole}
 use Rattle.sudoers_tree.proofs.laws.loaded_lines_are_whole.Goals as goal
 

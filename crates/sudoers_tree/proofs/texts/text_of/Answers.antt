@@ -4,7 +4,7 @@ use Rattle.sudoers_tree.specs.declared.pieces.Piece.{Piece}
 use Rattle.sudoers_tree.specs.internal.Pieces.{piece_texts, texts_of}
 use Rattle.sudoers_tree.proofs.Joined.{join_append}
 use Rattle.sudoers_tree.proofs.PieceLines.{no_piece, piece_first}
-use Rattle.sudoers_tree.proofs.changed.text_of.Goals as goal
+use Rattle.sudoers_tree.proofs.texts.text_of.Goals as goal
 
 pub loop-piece-preserved : goal.loop-piece-preserved
 loop-piece-preserved c =
