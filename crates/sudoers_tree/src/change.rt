@@ -64,7 +64,7 @@ pub fn changed_lines(
     outcome_is();
     lines_stand_alone();
     let size = size_of(alloc, tables, pieces)?;
-    let mut rows = Vec::new(alloc);
+    let mut rows = Vec::with_capacity(alloc, line_count(pieces))?;
     let fault = read_pieces(alloc, tables, pieces, &mut rows)?;
     let lines = Rows {
         tables: &*tables,
@@ -75,6 +75,19 @@ pub fn changed_lines(
         Some(fault) => Err(fault.into()),
         None => Ok(ChangedLines { rows, names, size }),
     }
+}
+
+/// Returns how many lines the pieces `pieces` have.
+fn line_count(pieces: &[Piece<'_>]) -> usize {
+    let mut count: usize = 0;
+    for piece in pieces {
+        let more = match piece {
+            Piece::Old(rows) => rows.len(),
+            Piece::New(_) => 1,
+        };
+        count = count.saturating_add(more);
+    }
+    count
 }
 
 /// Returns how many bytes the lines `pieces` are.

@@ -13,6 +13,6 @@ pub use leads::{lead_of_line, lead_of_node, may_lead_somewhere};
 pub use lines::reading_of_line;
 pub use loads::{file_text, load_files, load_text, walk_spots};
 pub use policies::{
-    definition_of, insert_line, mentions_of, policy_text, read_policy, reread_policy,
+    change_lines, definition_of, insert_line, mentions_of, policy_text, read_policy,
 };
 pub use texts::{line_tokens, word_value};

@@ -5,6 +5,8 @@ ghost use Rattle.sudoers_text.specs.Ended.{has_unended_inside};
 ghost use Rattle.sudoers_text.specs.Line.{join};
 ghost use Rattle.sudoers_text.specs.Whole.{IsLogicalLine};
 ghost use Rattle.sudoers_tree.specs.declared.fault.ReadFault.TheVariants as ReadFault;
+ghost use Rattle.std.specs.List.{AllByRecursion};
+ghost use Rattle.sudoers_tree.specs.Changed.{changed, AreInOrder, brought};
 ghost use Rattle.sudoers_tree.specs.Definition.{place_of};
 ghost use Rattle.sudoers_tree.specs.Fault.{IsFaultOf};
 ghost use Rattle.sudoers_tree.specs.Mention.{mentions};
@@ -12,7 +14,7 @@ ghost use Rattle.sudoers_tree.specs.Policy.{texts};
 ghost use Rattle.sudoers_tree.specs.Reading.{read_of, ReadGives};
 
 use std::alloc::{AllocError, Global};
-use sudoers_tree::{Kind, OneFile, Place, ReadFault, Span};
+use sudoers_tree::{Kind, LineChange, OneFile, Place, ReadFault, Span};
 
 /// Returns the policy that `text` is.
 ///
@@ -25,15 +27,19 @@ pub fn read_policy(alloc: Global, text: &[u8]) -> Result<OneFile, ReadFault>
     OneFile::read(alloc, text)
 }
 
-/// Returns the policy that `text` is, with what `policy` knows of its lines.
+/// Makes the changes `changes` of the lines of `policy` at once.
 ///
 /// # Errors
 ///
-/// The first fault of the text, or memory ran out.
-pub fn reread_policy(policy: &OneFile, text: &[u8]) -> Result<OneFile, ReadFault>
-    ensures { ReadGives result (read_of text.now) }
+/// The first fault of the changed text, or memory ran out. The policy is then as it was.
+pub fn change_lines(policy: &mut OneFile, changes: &[LineChange]) -> Result<(), ReadFault>
+    requires order { AreInOrder 0 changes.now (length policy.old) }
+    requires lines { AllByRecursion IsLogicalLine (brought changes.now) }
+    requires ended { has_unended_inside (changed changes.now (texts policy.old)) ≡ false }
+    ensures lines { OnOk result (texts policy.new ≡ changed changes.now (texts policy.old)) }
+    ensures unchanged { OnErr result (policy.new ≡ policy.old) }
 {
-    policy.reread(text)
+    policy.changed(changes)
 }
 
 /// Returns the text of `policy`.
