@@ -3,7 +3,6 @@
 use Rattle.std.proofs.Common.{inl, inr, ℕ, ◌+◌, Bool, true, false, not, ◌&&◌, ◌||◌, List, [], ◌∷◌, length, insert, remove, Option, Some, None, Result, Ok, Err, IfErr, sym, subst, ◌==◌, if◌then◌else◌}
 use Rattle.std.specs.Prelude.{slice_get, nat_lt, nat_le}
 use Rattle.std.specs.List.{list_all, list_any}
-use Rattle.std.specs.Str.{bytes_eq}
 use Rattle.sudoers_text.specs.Line.{join}
 use Rattle.sudoers_text.specs.Ended.{has_unended_inside}
 use Rattle.sudoers_text.specs.Fault.{text_limit}
@@ -31,7 +30,6 @@ use Rattle.sudoers_edit.specs.declared.one_more.Among.TheVariants as among
 use Rattle.sudoers_edit.specs.declared.pruning.Removal.{Removal}
 use Rattle.sudoers_edit.specs.declared.pruning.Removal.TheVariants as removal
 use Rattle.sudoers_edit.specs.OneLine.{is_one_line}
-use Rattle.sudoers_edit.specs.Alike.{are_alike}
 use Rattle.sudoers_edit.specs.Landing.{refuse_if, or_refuse, by_read, policy_or_refusal, where_policy, lines_or_refusal, is_too_long, changed_or_refusal, policy_of}
 use Rattle.sudoers_edit.specs.LineEdits.{with_line, without_line, moved, with_move, with_last, with_end, without_lf, is_last_too_long, ended_or_refusal}
 use Rattle.sudoers_edit.specs.Splice.{Extent, member_extents, def_extents, seam, owned_stop, line_without, line_with}

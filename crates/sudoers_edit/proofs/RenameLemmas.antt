@@ -27,7 +27,7 @@ use Rattle.sudoers_edit.proofs.EditLemmas.{run_one}
 
 -- THE SAME LINES
 
-pub alike_same : (xs ys : List (List ℕ)) → are_alike bytes_eq xs ys ≡ true → xs ≡ ys
+alike_same : (xs ys : List (List ℕ)) → are_alike bytes_eq xs ys ≡ true → xs ≡ ys
 alike_same [] [] h = refl
 alike_same [] (y ∷ ys) h = absurd (cc)
 alike_same (x ∷ xs) [] h = absurd (cc)
@@ -35,7 +35,7 @@ alike_same (x ∷ xs) (y ∷ ys) h =
     let parts = and_parts (bytes_eq x y) (are_alike bytes_eq xs ys) h in
     ap₂ (λ z zs. z ∷ zs) ((bytes_eq-Decides x y).0 parts.0) (alike_same xs ys parts.1)
 
-pub alike_itself : (xs : List (List ℕ)) → are_alike bytes_eq xs xs ≡ true
+alike_itself : (xs : List (List ℕ)) → are_alike bytes_eq xs xs ≡ true
 alike_itself [] = refl
 alike_itself (x ∷ xs) = rw ((bytes_eq-Decides x x).1 refl, alike_itself xs) refl
 

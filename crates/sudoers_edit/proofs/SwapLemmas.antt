@@ -1,8 +1,8 @@
 -- The changes that give an alias another name: what they make of the lines, and what they bring.
-use Rattle.std.proofs.Common.{◌≡◌, ◌∙◌, ℕ, zero, suc, ◌+◌, ◌-◌, ◌≤◌, ◌<◌, Bool, true, false, not, ◌&&◌, ◌||◌, List, [], ◌∷◌, ◌++◌, length, take, drop, Ok, Err, refl, sym, ap, subst, arith}
+use Rattle.std.proofs.Common.{◌≡◌, ◌∙◌, ℕ, zero, suc, ◌+◌, ◌-◌, ◌≤◌, ◌<◌, Bool, true, false, not, ◌&&◌, ◌||◌, List, [], ◌∷◌, ◌++◌, length, take, drop, Err, refl, sym, ap, subst, arith}
 use Rattle.std.proofs.lemmas.Bool.{lt-ltb, le-ltb, and_parts}
 use Rattle.std.specs.List.{list_all, list_any, AllByRecursion}
-use Rattle.std.specs.Prelude.{nat_lt, option_to_list}
+use Rattle.std.specs.Prelude.{option_to_list}
 use Rattle.sudoers_text.specs.Cut.{StandAlone}
 use Rattle.sudoers_text.specs.Ended.{ends_in_lf, has_unended_inside}
 use Rattle.sudoers_text.specs.Fault.{line_limit}

@@ -130,17 +130,18 @@ fn with_other_name(
     line_alone_is_whole();
     whole_line_is();
     changed_by_first();
-    let changes = swaps(policy, kind, name, fresh)?;
-    if is_one_too_long(changes.as_slice()) {
+    let swaps = swaps(policy, kind, name, fresh)?;
+    let changes = swaps.as_slice();
+    if is_one_too_long(changes) {
         return Err(EditFault::TooLarge);
     }
-    if !are_logical_lines(changes.as_slice()) {
+    if !are_logical_lines(changes) {
         return Err(no_way_back());
     }
-    if is_one_open(changes.as_slice(), policy.len().saturating_sub(1)) {
+    if is_one_open(changes, policy.len().saturating_sub(1)) {
         return Err(EditFault::OpenLine);
     }
-    changed_copy(policy, changes.as_slice())
+    changed_copy(policy, changes)
 }
 
 /// Returns a copy of the policy with changes.
@@ -154,7 +155,7 @@ fn changed_copy(policy: &OneFile, changes: &[LineChange]) -> Result<OneFile, Edi
     Ok(new)
 }
 
-/// Makes a change of each line in which the name stands: the line with another name for the alias.
+/// Returns the changes of the lines in which the name stands, in their order. Each puts another name in its place.
 fn swaps(
     policy: &OneFile,
     kind: Kind,
