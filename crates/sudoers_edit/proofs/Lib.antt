@@ -25,6 +25,7 @@ mod ReplaceLemmas
 mod ReplacedLemmas
 mod SeamLemmas
 mod StartLemmas
+mod SwapLemmas
 mod SpliceLemmas
 mod SpliceSteps
 mod StepLemmas

@@ -2,11 +2,11 @@
 -- such fault.
 use Rattle.std.proofs.Common.{inl, inr, ℕ, ◌+◌, Bool, true, false, not, ◌&&◌, ◌||◌, List, [], ◌∷◌, length, insert, remove, Option, Some, None, Result, Ok, Err, IfErr, sym, subst, ◌==◌, if◌then◌else◌}
 use Rattle.std.specs.Prelude.{slice_get, nat_lt, nat_le}
-use Rattle.std.specs.List.{list_any}
-use Rattle.std.specs.Str.{bytes_eq}
+use Rattle.std.specs.List.{list_all, list_any}
 use Rattle.sudoers_text.specs.Line.{join}
 use Rattle.sudoers_text.specs.Ended.{has_unended_inside}
 use Rattle.sudoers_text.specs.Fault.{text_limit}
+use Rattle.sudoers_text.specs.Whole.{is_logical_line}
 use Rattle.sudoers_text.specs.Word.{is_name, is_reserved}
 use Rattle.sudoers_text.specs.declared.fault.TextFault.TheVariants as text
 use Rattle.sudoers_line.specs.Node.{Def}
@@ -30,7 +30,6 @@ use Rattle.sudoers_edit.specs.declared.one_more.Among.TheVariants as among
 use Rattle.sudoers_edit.specs.declared.pruning.Removal.{Removal}
 use Rattle.sudoers_edit.specs.declared.pruning.Removal.TheVariants as removal
 use Rattle.sudoers_edit.specs.OneLine.{is_one_line}
-use Rattle.sudoers_edit.specs.Alike.{are_alike}
 use Rattle.sudoers_edit.specs.Landing.{refuse_if, or_refuse, by_read, policy_or_refusal, where_policy, lines_or_refusal, is_too_long, changed_or_refusal, policy_of}
 use Rattle.sudoers_edit.specs.LineEdits.{with_line, without_line, moved, with_move, with_last, with_end, without_lf, is_last_too_long, ended_or_refusal}
 use Rattle.sudoers_edit.specs.Splice.{Extent, member_extents, def_extents, seam, owned_stop, line_without, line_with}
@@ -195,15 +194,14 @@ drop_member_plain law k name at policy =
 
 -- NAMES
 
-same_lines_plain : (lines : Lines) (r : Result (List Line) EditFault) → IsPlain r → IsPlain (if_lines lines r)
-same_lines_plain lines (Ok policy) p = if_plain (are_alike bytes_eq (texts policy) lines) (Ok lines) (Err no_way_back) tt tt
-same_lines_plain lines (Err fault) p = p
+renamed_plain : OutcomeLaw → (lines : Lines) → IsPlain (if_lines lines)
+renamed_plain law lines = if_plain (list_all is_logical_line lines) (lines_or_refusal lines) (Err no_way_back) (lines_plain law lines) tt
 
 rename_once_plain : OutcomeLaw → (k : Kind) (name fresh : List ℕ) (policy : List Line) → IsPlain (rename_once k name fresh policy)
 unfolding rename_once
 rename_once_plain law k name fresh policy =
     let lines : Lines = renamed k name fresh policy in
-    let last : Result Lines EditFault = if_lines lines (policy_or_refusal (join lines)) in
+    let last : Result Lines EditFault = if_lines lines in
     let long : Result Lines EditFault = refuse_if (list_any is_too_long lines) TooLarge last in
     let taken : Result Lines EditFault = refuse_if (is_taken k fresh policy) NameTaken long in
     let bad : Result Lines EditFault = refuse_if (not (is_name fresh) || is_reserved fresh) BadName taken in
@@ -211,7 +209,7 @@ rename_once_plain law k name fresh policy =
     (if_plain (not (is_name fresh) || is_reserved fresh) (Err BadName) taken tt
     (if_plain (is_taken k fresh policy) (Err NameTaken) long tt
     (if_plain (list_any is_too_long lines) (Err TooLarge) last tt
-    (same_lines_plain lines (policy_or_refusal (join lines)) (policy_plain law (join lines))))))
+    (renamed_plain law lines))))
 
 restored_plain : (k : Kind) (name fresh : List ℕ) (lines : Lines) (r : Result Lines EditFault) → IsPlain r → IsPlain (if_restored k name fresh lines r)
 restored_plain k name fresh lines (Ok new) p = if_plain (is_lines lines (rename_once k fresh name (policy_of new))) (Ok new) (Err no_way_back) tt tt

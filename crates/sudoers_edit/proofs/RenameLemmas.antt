@@ -5,7 +5,6 @@ use Rattle.std.proofs.lemmas.Slice.Eq.{bytes_eq-Decides}
 use Rattle.std.proofs.lemmas.Bool.{and_parts}
 use Rattle.std.proofs.lemmas.Bool.Decides.{leb_tells}
 use Rattle.std.specs.Prelude.{min}
-use Rattle.std.specs.List.{list_any}
 use Rattle.std.specs.Str.{bytes_eq}
 use Rattle.sudoers_text.specs.Line.{join}
 use Rattle.sudoers_text.specs.Word.{is_name, is_reserved}
@@ -18,16 +17,17 @@ use Rattle.sudoers_tree.specs.Reading.{read_of}
 use Rattle.sudoers_edit.specs.Alike.{are_alike}
 use Rattle.sudoers_edit_script.specs.declared.edit.Edit.TheVariants.{Rename}
 use Rattle.sudoers_edit.specs.declared.fault.EditFault.{EditFault}
-use Rattle.sudoers_edit.specs.declared.fault.EditFault.TheVariants.{NoAlias, BadName, NameTaken, TooLarge}
-use Rattle.sudoers_edit.specs.Landing.{is_too_long, policy_or_refusal, policy_of}
-use Rattle.sudoers_edit.specs.Renaming.{put_at, renamed, no_way_back, if_lines, is_lines, is_taken, rename_once, if_restored, rename}
+use Rattle.sudoers_edit.specs.declared.fault.EditFault.TheVariants.{NoAlias, BadName, NameTaken}
+use Rattle.sudoers_edit.specs.Landing.{policy_of}
+use Rattle.sudoers_edit.specs.Renaming.{put_at, renamed, no_way_back, is_lines, is_taken, rename_once, if_restored, rename}
 use Rattle.sudoers_edit.specs.Editing.{Refuses, step}
 use Rattle.sudoers_edit.specs.internal.Leading.{IsMade}
+use Rattle.sudoers_edit.specs.internal.Swaps.{if_short}
 use Rattle.sudoers_edit.proofs.EditLemmas.{run_one}
 
 -- THE SAME LINES
 
-pub alike_same : (xs ys : List (List ℕ)) → are_alike bytes_eq xs ys ≡ true → xs ≡ ys
+alike_same : (xs ys : List (List ℕ)) → are_alike bytes_eq xs ys ≡ true → xs ≡ ys
 alike_same [] [] h = refl
 alike_same [] (y ∷ ys) h = absurd (cc)
 alike_same (x ∷ xs) [] h = absurd (cc)
@@ -35,7 +35,7 @@ alike_same (x ∷ xs) (y ∷ ys) h =
     let parts = and_parts (bytes_eq x y) (are_alike bytes_eq xs ys) h in
     ap₂ (λ z zs. z ∷ zs) ((bytes_eq-Decides x y).0 parts.0) (alike_same xs ys parts.1)
 
-pub alike_itself : (xs : List (List ℕ)) → are_alike bytes_eq xs xs ≡ true
+alike_itself : (xs : List (List ℕ)) → are_alike bytes_eq xs xs ≡ true
 alike_itself [] = refl
 alike_itself (x ∷ xs) = rw ((bytes_eq-Decides x x).1 refl, alike_itself xs) refl
 
@@ -95,17 +95,10 @@ pub name_taken : (k : Kind) (name fresh : List ℕ) (policy : List Line) → is_
 unfolding rename_once
 name_taken k name fresh policy some good taken = rw (some, good, taken) refl
 
-pub line_too_long : (k : Kind) (name fresh : List ℕ) (policy : List Line) → is_some (place_of k name policy) ≡ true
-    → (not (is_name fresh) || is_reserved fresh) ≡ false → is_taken k fresh policy ≡ false → list_any is_too_long (renamed k name fresh policy) ≡ true
-    → rename_once k name fresh policy ≡ Err TooLarge
+pub renamed_if_free : (k : Kind) (name fresh : List ℕ) (policy : List Line) → is_some (place_of k name policy) ≡ true
+    → (not (is_name fresh) || is_reserved fresh) ≡ false → is_taken k fresh policy ≡ false → rename_once k name fresh policy ≡ if_short (renamed k name fresh policy)
 unfolding rename_once
-line_too_long k name fresh policy some good free long = rw (some, good, free, long) refl
-
-pub renamed_by_lines : (k : Kind) (name fresh : List ℕ) (policy : List Line) → is_some (place_of k name policy) ≡ true
-    → (not (is_name fresh) || is_reserved fresh) ≡ false → is_taken k fresh policy ≡ false → list_any is_too_long (renamed k name fresh policy) ≡ false
-    → rename_once k name fresh policy ≡ if_lines (renamed k name fresh policy) (policy_or_refusal (join (renamed k name fresh policy)))
-unfolding rename_once
-renamed_by_lines k name fresh policy some good free short = rw (some, good, free, short) refl
+renamed_if_free k name fresh policy some good free = rw (some, good, free) refl
 
 -- AND BACK
 
@@ -150,8 +143,3 @@ rename_made k name fresh policy new read again forth back =
       inverse_is = refl;
       back = run_one (Rename k fresh name) (texts new) (texts policy) (restored k fresh name new policy again read old same);
     }
-
--- lines that are read as they are
-pub lines_read : (lines : List (List ℕ)) (policy : List Line) → policy_or_refusal (join lines) ≡ Ok policy → are_alike bytes_eq (texts policy) lines ≡ true
-    → if_lines lines (policy_or_refusal (join lines)) ≡ Ok (texts policy)
-lines_read lines policy read same = rw (read, same) (ap (λ z. Ok z) (sym (alike_same (texts policy) lines same)))

@@ -1,8 +1,11 @@
 -- A renaming that is accepted leads to a policy, and the old name, given back, leads back.
-use Rattle.std.proofs.Common.{◌≡◌, ◌∙◌, ℕ, Bool, true, false, not, ◌||◌, List, [], ◌∷◌, Result, Ok, Err, refl, sym, ap, if◌then◌else◌}
-use Rattle.std.specs.List.{list_any}
-use Rattle.std.specs.Str.{bytes_eq}
+use Rattle.std.proofs.Common.{◌≡◌, ◌∙◌, ℕ, length, arith, Bool, true, false, not, ◌||◌, List, [], ◌∷◌, Result, Ok, Err, refl, sym, ap, if◌then◌else◌}
+use Rattle.std.proofs.lemmas.Bool.{and_parts, ltb-false}
+use Rattle.std.specs.List.{list_all, list_any}
 use Rattle.sudoers_text.specs.Line.{join}
+use Rattle.sudoers_text.specs.Cut.{StandAlone}
+use Rattle.sudoers_text.specs.Fault.{line_limit}
+use Rattle.sudoers_text.specs.Whole.{is_logical_line}
 use Rattle.sudoers_text.specs.Word.{is_name, is_reserved}
 use Rattle.sudoers_line.specs.declared.node.Kind.{Kind}
 use Rattle.sudoers_tree.specs.Line.{Line}
@@ -13,42 +16,53 @@ use Rattle.sudoers_tree.specs.Reading.{read_of}
 use Rattle.sudoers_edit_script.specs.declared.edit.Edit.TheVariants.{Rename}
 use Rattle.sudoers_edit.specs.declared.fault.EditFault.{EditFault}
 use Rattle.sudoers_edit.specs.declared.fault.EditFault.TheVariants.{NoAlias, BadName, NameTaken, TooLarge}
-use Rattle.sudoers_edit.specs.Alike.{are_alike}
-use Rattle.sudoers_edit.specs.Landing.{refuse_if, is_too_long, policy_or_refusal, policy_of}
+use Rattle.sudoers_edit.specs.Landing.{refuse_if, is_too_long, lines_or_refusal, policy_or_refusal, policy_of}
 use Rattle.sudoers_edit.specs.Renaming.{renamed, no_way_back, if_lines, is_lines, is_taken, rename_once, if_restored}
 use Rattle.sudoers_edit.specs.Editing.{Lines, run}
 use Rattle.sudoers_edit.proofs.BackLemmas.{def_of_policy}
 use Rattle.sudoers_edit.proofs.PolicyLemmas.{read_so}
-use Rattle.sudoers_edit.proofs.RenameLemmas.{alike_same, rename_step, rename_made}
+use Rattle.sudoers_edit.proofs.RenameLemmas.{rename_step, rename_made}
 use Rattle.sudoers_edit.proofs.SpliceSteps.{not_refused}
-use Rattle.sudoers_edit.proofs.StepLemmas.{Takes}
+use Rattle.sudoers_edit.proofs.StepLemmas.{Laws, Takes, accepted}
 
--- lines that were read as they are
-lines_so : (lines : Lines) (r : Result (List Line) EditFault) (new : Lines) → if_lines lines r ≡ Ok new → (after : List Line) × (r ≡ Ok after) × (texts after ≡ lines) × (lines ≡ new)
-lines_so lines (Err f) new e = absurd (cc)
-lines_so lines (Ok after) new e = by (are_alike bytes_eq (texts after) lines) refl e
+-- each is the one line of itself
+all_alone : Laws → (lines : Lines) → list_any is_too_long lines ≡ false → list_all is_logical_line lines ≡ true → StandAlone lines
+all_alone l [] short whole = tt
+all_alone l (line ∷ lines) short whole =
+    let a = or_parts (is_too_long line) (list_any is_too_long lines) short in
+    let b = and_parts (is_logical_line line) (list_all is_logical_line lines) whole in
+    (l.whole line b.0 (omega (arith, ltb-false line_limit (length line) a.0)), all_alone l lines a.1 b.1)
   where
-    by : (b : Bool) → are_alike bytes_eq (texts after) lines ≡ b → (if b then Ok lines else Err no_way_back) ≡ Ok new
-        → (policy : List Line) × ((let r : Result (List Line) EditFault = Ok after in r) ≡ Ok policy) × (texts policy ≡ lines) × (lines ≡ new)
-    by true same is = (after, refl, alike_same (texts after) lines same, cc)
-    by false same is = absurd (cc)
+    or_parts : (a b : Bool) → (a || b) ≡ false → (a ≡ false) × (b ≡ false)
+    or_parts true b h = absurd (cc)
+    or_parts false b h = (refl, h)
+
+-- lines that are read as they are
+lines_so : Laws → (lines new : Lines) → list_any is_too_long lines ≡ false → if_lines lines ≡ Ok new
+    → (after : List Line) × (policy_or_refusal (join new) ≡ Ok after) × (texts after ≡ new)
+lines_so l lines new short e = by (list_all is_logical_line lines) refl e
+  where
+    by : (b : Bool) → list_all is_logical_line lines ≡ b → (if b then lines_or_refusal lines else Err no_way_back) ≡ Ok new
+        → (after : List Line) × (policy_or_refusal (join new) ≡ Ok after) × (texts after ≡ new)
+    by true whole is =
+        let a = accepted lines new is in
+        (a.policy, ap (λ (z : Lines). policy_or_refusal (join z)) (sym a.same) ∙ a.told, l.reads lines a.policy (all_alone l lines short whole) a.ended a.told ∙ a.same)
+    by false whole is = absurd (cc)
 
 -- what a renaming gives is read as a policy
-once_read : (k : Kind) (name fresh : List ℕ) (policy : List Line) (new : Lines) → rename_once k name fresh policy ≡ Ok new
+once_read : Laws → (k : Kind) (name fresh : List ℕ) (policy : List Line) (new : Lines) → rename_once k name fresh policy ≡ Ok new
     → (after : List Line) × (policy_or_refusal (join new) ≡ Ok after) × (texts after ≡ new)
 unfolding rename_once
-once_read k name fresh policy new e =
+once_read l k name fresh policy new e =
     let lines : Lines = renamed k name fresh policy in
-    let last : Result Lines EditFault = if_lines lines (policy_or_refusal (join lines)) in
-    let long : Result Lines EditFault = refuse_if (list_any is_too_long lines) TooLarge last in
+    let long : Result Lines EditFault = refuse_if (list_any is_too_long lines) TooLarge (if_lines lines) in
     let taken : Result Lines EditFault = refuse_if (is_taken k fresh policy) NameTaken long in
     let bad : Result Lines EditFault = refuse_if (not (is_name fresh) || is_reserved fresh) BadName taken in
     let a = not_refused (not (is_some (place_of k name policy))) NoAlias bad new e in
     let b = not_refused (not (is_name fresh) || is_reserved fresh) BadName taken new a.1 in
     let c = not_refused (is_taken k fresh policy) NameTaken long new b.1 in
-    let d = not_refused (list_any is_too_long lines) TooLarge last new c.1 in
-    let f = lines_so lines (policy_or_refusal (join lines)) new d.1 in
-    (f.0, ap (λ (z : Lines). policy_or_refusal (join z)) (sym f.3) ∙ f.1, f.2 ∙ f.3)
+    let d = not_refused (list_any is_too_long lines) TooLarge (if_lines lines) new c.1 in
+    lines_so l lines new d.0 d.1
 
 -- and the old name leads back
 restored_so : (k : Kind) (name fresh : List ℕ) (lines : Lines) (r : Result Lines EditFault) (new : Lines) → if_restored k name fresh lines r ≡ Ok new
@@ -63,10 +77,10 @@ restored_so k name fresh lines (Ok there) new e = by (is_lines lines (rename_onc
         (is, ap (λ (z : Lines). is_lines lines (rename_once k fresh name (policy_of z))) (sym same) ∙ back)
     by false back is = absurd (cc)
 
-pub rename_takes : (k : Kind) (name fresh : List ℕ) → Takes (Rename k name fresh)
-rename_takes k name fresh policy new read is =
+pub rename_takes : Laws → (k : Kind) (name fresh : List ℕ) → Takes (Rename k name fresh)
+rename_takes l k name fresh policy new read is =
     let p = restored_so k name fresh (texts policy) (rename_once k name fresh policy) new (sym (rename_step k name fresh policy read) ∙ is) in
-    let q = once_read k name fresh policy new p.0 in
+    let q = once_read l k name fresh policy new p.0 in
     let after : List Line = q.0 in
     let same : texts after ≡ new = q.2 in
     let again : read_of (join (texts after)) ≡ Ok after = ap (λ (z : Lines). read_of (join z)) same ∙ read_so (join new) after q.1 in

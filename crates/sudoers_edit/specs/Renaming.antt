@@ -1,8 +1,8 @@
 -- An alias given another name, where it is defined and where it is mentioned.
 use Rattle.std.specs.Prelude.{ℕ, ◌+◌, ◌-◌, Bool, false, not, ◌&&◌, ◌||◌, nat_lt, if◌then◌else◌, List, [], ◌∷◌, ◌++◌, length, take, drop, map, Result, Ok, Err}
-use Rattle.std.specs.List.{flat_map, list_any}
+use Rattle.std.specs.List.{flat_map, list_all, list_any}
 use Rattle.std.specs.Str.{bytes_eq}
-use Rattle.sudoers_text.specs.Line.{join}
+use Rattle.sudoers_text.specs.Whole.{is_logical_line}
 use Rattle.sudoers_text.specs.Word.{is_name, is_reserved}
 use Rattle.sudoers_line.specs.declared.fault.Why.TheVariants.{UnexpectedToken}
 use Rattle.sudoers_line.specs.Node.{Def, Member, Node}
@@ -17,7 +17,7 @@ use Rattle.sudoers_tree.specs.Fault.{is_some}
 use Rattle.sudoers_tree.specs.Mention.{members_in, mentions, span_of}
 use Rattle.sudoers_tree.specs.Policy.{texts}
 use Rattle.sudoers_edit.specs.Alike.{are_alike}
-use Rattle.sudoers_edit.specs.Landing.{refuse_if, is_too_long, policy_or_refusal, policy_of}
+use Rattle.sudoers_edit.specs.Landing.{refuse_if, is_too_long, lines_or_refusal, policy_of}
 use Rattle.sudoers_edit.specs.declared.fault.EditFault.{EditFault}
 use Rattle.sudoers_edit.specs.declared.fault.EditFault.TheVariants.{NoAlias, BadName, NameTaken, TooLarge, NotPolicy}
 
@@ -66,10 +66,9 @@ renamed k name fresh policy = map (renamed_line k name fresh) policy
 abbrev pub no_way_back : EditFault
 no_way_back = NotPolicy (Syntax 1 1 UnexpectedToken)
 
--- these lines, where they are those of the policy that was read
-abbrev pub if_lines : List (List ℕ) → Result (List Line) EditFault → Result (List (List ℕ)) EditFault
-if_lines lines (Ok policy) = if are_alike bytes_eq (texts policy) lines then Ok lines else Err no_way_back
-if_lines lines (Err fault) = Err fault
+-- the renamed lines, if each is one logical line and together they are a policy
+abbrev pub if_lines : List (List ℕ) → Result (List (List ℕ)) EditFault
+if_lines lines = if list_all is_logical_line lines then lines_or_refusal lines else Err no_way_back
 
 abbrev pub is_taken : Kind → List ℕ → List Line → Bool
 is_taken k fresh policy = is_some (place_of k fresh policy) || nat_lt 0 (length (mentions k fresh policy))
@@ -81,7 +80,7 @@ rename_once k name fresh policy =
     refuse_if (not (is_name fresh) || is_reserved fresh) BadName (
     refuse_if (is_taken k fresh policy) NameTaken (
     refuse_if (list_any is_too_long (renamed k name fresh policy)) TooLarge (
-    if_lines (renamed k name fresh policy) (policy_or_refusal (join (renamed k name fresh policy)))))))
+    if_lines (renamed k name fresh policy)))))
 
 abbrev pub is_lines : List (List ℕ) → Result (List (List ℕ)) EditFault → Bool
 is_lines lines (Ok others) = are_alike bytes_eq others lines

@@ -4,3 +4,4 @@ pub mod Leading
 pub mod Moving
 pub mod PruneOrder
 pub mod ReadFaults
+pub mod Swaps

@@ -83,7 +83,7 @@ pub fn carry_out(plan: Result<Plan, EditFault>, policy: &mut OneFile) -> Result<
 }
 
 /// Returns the policy that a text is.
-pub fn read_policy(alloc: Global, text: &[u8]) -> Result<OneFile, EditFault>
+fn read_policy(alloc: Global, text: &[u8]) -> Result<OneFile, EditFault>
     ensures { MatchResult result (λ policy. policy_or_refusal text.now ≡ Ok policy)
         (λ fault. Refuses fault (policy_or_refusal text.now)) }
 {

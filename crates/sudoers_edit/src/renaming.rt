@@ -1,23 +1,27 @@
 //! An alias given another name, where it is defined and where it is mentioned.
-ghost use Rattle.std.specs.Prelude.{◌≡◌, ◌∷◌, [], take, drop, Ok, IfOk, OnErr, MatchResult};
-ghost use Rattle.std.specs.List.{list_any};
+ghost use Rattle.std.specs.Prelude.{◌≡◌, ◌∷◌, ◌++◌, [], take, drop, Ok, IfOk, OnOk, OnErr, MatchResult};
+ghost use Rattle.std.specs.List.{list_all, list_any};
 ghost use Rattle.std.specs.Str.{bytes_eq};
-ghost use Rattle.sudoers_text.specs.Line.{join};
+ghost use Rattle.sudoers_text.specs.Whole.{is_logical_line as is_whole};
+ghost use Rattle.sudoers_tree.specs.Changed.{changed, brought};
 ghost use Rattle.sudoers_tree.specs.Line.{line_shown, lines_shown};
 ghost use Rattle.sudoers_tree.specs.Policy.{texts};
 ghost use Rattle.sudoers_edit.specs.Alike.{are_alike as alike_lists};
 ghost use Rattle.sudoers_edit.specs.Editing.{Refuses};
-ghost use Rattle.sudoers_edit.specs.Landing.{is_too_long, policy_or_refusal};
-ghost use Rattle.sudoers_edit.specs.internal.Leading.{Makes};
-ghost use Rattle.sudoers_edit.specs.Renaming.{put_at, renamed_line, renamed, no_way_back as the_fault, if_lines, is_lines, is_taken as taken, rename_once};
+ghost use Rattle.sudoers_edit.specs.Landing.{is_too_long, lines_or_refusal};
+ghost use Rattle.sudoers_edit.specs.internal.Leading.{Fits, Makes};
+ghost use Rattle.sudoers_edit.specs.internal.Swaps.{swap_of, swaps_from, is_open, if_short};
+ghost use Rattle.sudoers_edit.specs.Renaming.{put_at, renamed, no_way_back as the_fault, is_lines, is_taken as taken, rename_once};
 
 use crate::fault::EditFault;
 use crate::name_places::name_starts;
-use crate::plan::read_policy;
+use crate::plan::is_sound;
 use std::alloc::{AllocError, Global};
 use sudoers_edit_script::{Edit, Edits, Text};
-use sudoers_text::{LINE_LIMIT, is_name, is_reserved};
-use sudoers_tree::{Kind, Line, LineRow, OneFile, ReadFault, Rows, Why};
+use sudoers_text::laws::{line_alone_is_whole, line_alone_size, whole_line_is};
+use sudoers_text::{LINE_LIMIT, ends_in_lf, is_logical_line, is_name, is_reserved};
+use sudoers_tree::laws::changed_by_first;
+use sudoers_tree::{Kind, Line, LineChange, LineRow, OneFile, ReadFault, Rows, Why};
 
 /// Gives an alias another name. Returns the edit that gives the old name back.
 pub fn alias_renamed(
@@ -98,11 +102,7 @@ fn renamed_once(
     if is_taken(policy, kind, fresh)? {
         return Err(EditFault::NameTaken);
     }
-    let lines = renamed_lines(policy, kind, name, fresh)?;
-    if is_one_too_long(lines.as_slice()) {
-        return Err(EditFault::TooLarge);
-    }
-    policy_of_lines(policy.allocator(), lines.as_slice())
+    with_other_name(policy, kind, name, fresh)
 }
 
 /// Returns whether the name is defined or mentioned in the kind.
@@ -115,50 +115,86 @@ fn is_taken(policy: &OneFile, kind: Kind, fresh: &[u8]) -> Result<bool, AllocErr
     Ok(!policy.mentions(kind, fresh)?.is_empty())
 }
 
-/// Returns the policy that the lines are, if the lines that are read are these.
-fn policy_of_lines(alloc: Global, lines: &[Text]) -> Result<OneFile, EditFault>
-    ensures { MatchResult result (λ new. if_lines lines.now (policy_or_refusal (join lines.now)) ≡ Ok (texts new))
-        (λ fault. Refuses fault (if_lines lines.now (policy_or_refusal (join lines.now)))) }
-{
-    let text = joined(alloc, lines)?;
-    let new = read_policy(alloc, text.as_slice())?;
-    if !are_lines(&new.lines(), lines) {
-        return Err(no_way_back());
-    }
-    Ok(new)
-}
-
-/// Returns the lines of a policy with another name for an alias.
-fn renamed_lines(
+/// Returns a copy of the policy in which an alias has another name, whether or not that name is free.
+fn with_other_name(
     policy: &OneFile,
     kind: Kind,
     name: &[u8],
     fresh: &[u8],
-) -> Result<Vec<Text>, AllocError>
-    ensures { IfOk result (λ lines. lines.items ≡ renamed kind name.now fresh.now policy.now) }
+) -> Result<OneFile, EditFault>
+    ensures { MatchResult result (λ new. if_short (renamed kind name.now fresh.now policy.now) ≡ Ok (texts new))
+        (λ fault. Refuses fault (if_short (renamed kind name.now fresh.now policy.now))) }
+{
+    is_sound(policy);
+    line_alone_size();
+    line_alone_is_whole();
+    whole_line_is();
+    changed_by_first();
+    let swaps = swaps(policy, kind, name, fresh)?;
+    let changes = swaps.as_slice();
+    if is_one_too_long(changes) {
+        return Err(EditFault::TooLarge);
+    }
+    if !are_logical_lines(changes) {
+        return Err(no_way_back());
+    }
+    if is_one_open(changes, policy.len().saturating_sub(1)) {
+        return Err(EditFault::OpenLine);
+    }
+    changed_copy(policy, changes)
+}
+
+/// Returns a copy of the policy with changes.
+fn changed_copy(policy: &OneFile, changes: &[LineChange]) -> Result<OneFile, EditFault>
+    requires { Fits changes.now (texts policy.now) }
+    ensures { MatchResult result (λ new. lines_or_refusal (changed changes.now (texts policy.now)) ≡ Ok (texts new))
+        (λ fault. Refuses fault (lines_or_refusal (changed changes.now (texts policy.now)))) }
+{
+    let mut new = policy.copied()?;
+    new.changed(changes)?;
+    Ok(new)
+}
+
+/// Returns the changes of the lines in which the name stands, in their order. Each puts another name in its place.
+fn swaps(
+    policy: &OneFile,
+    kind: Kind,
+    name: &[u8],
+    fresh: &[u8],
+) -> Result<Vec<LineChange>, AllocError>
+    ensures { IfOk result (λ changes. changes.items ≡ swaps_from 0 kind name.now fresh.now policy.now) }
 {
     let alloc = policy.allocator();
     let lines = policy.lines();
-    let mut texts = Vec::with_capacity(alloc, lines.rows.len())?;
-    for row in lines.rows {
+    let mut changes = Vec::new(alloc);
+    for (at, row) in lines.rows.iter().enumerate() {
         let line = Line::of(lines.tables, row);
-        texts.push(line_renamed(alloc, &line, kind, name, fresh)?)?;
+        append_swap(alloc, at, &line, kind, name, fresh, &mut changes)?;
     }
-    Ok(texts)
+    Ok(changes)
 }
 
-fn line_renamed(
+/// Adds the change of a line, if the name stands in it.
+fn append_swap(
     alloc: Global,
+    at: usize,
     line: &Line<'_>,
     kind: Kind,
     name: &[u8],
     fresh: &[u8],
-) -> Result<Text, AllocError>
-    ensures { IfOk result (λ text. text ≡ renamed_line kind name.now fresh.now (line_shown line.now)) }
+    changes: &mut Vec<LineChange>,
+) -> Result<(), AllocError>
+    ensures { OnOk result (changes.new.items ≡ changes.old.items ++ swap_of at kind name.now fresh.now (line_shown line.now)) }
 {
     let starts = name_starts(alloc, kind, name, &line.node)?;
-    let text = with_others(alloc, line.text, starts.as_slice(), name.len(), fresh)?;
-    Ok(Text::from_vec(text))
+    if !starts.is_empty() {
+        let text = with_others(alloc, line.text, starts.as_slice(), name.len(), fresh)?;
+        changes.push(LineChange::Swap {
+            at,
+            text: Text::from_vec(text),
+        })?;
+    }
+    Ok(())
 }
 
 /// Returns the line with other bytes where at these places so many stand.
@@ -198,46 +234,47 @@ fn behind(bytes: &[u8], size: usize) -> &[u8]
     behind
 }
 
-/// Returns whether a line is past the limit.
-fn is_one_too_long(lines: &[Text]) -> bool
-    ensures { result ≡ list_any is_too_long lines.now }
+/// Returns whether a line that the changes bring is past the limit.
+fn is_one_too_long(changes: &[LineChange]) -> bool
+    ensures { result ≡ list_any is_too_long (brought changes.now) }
 {
-    for line in lines {
-        if line.len() > LINE_LIMIT {
+    for change in changes {
+        if let LineChange::Put { text, .. } | LineChange::Swap { text, .. } = change
+            && text.len() > LINE_LIMIT
+        {
             return true;
         }
     }
     false
 }
 
-/// Returns the text of lines.
-fn joined(alloc: Global, lines: &[Text]) -> Result<Vec<u8>, AllocError>
-    ensures { IfOk result (λ text. text.items ≡ join lines.now) }
+/// Returns whether each line that the changes bring is one logical line.
+fn are_logical_lines(changes: &[LineChange]) -> bool
+    ensures { result ≡ list_all is_whole (brought changes.now) }
 {
-    let mut text = Vec::new(alloc);
-    for line in lines {
-        text.extend_from_slice(line.as_slice())?;
-    }
-    Ok(text)
-}
-
-/// Returns whether the lines have these texts.
-fn are_lines(lines: &Rows<'_, LineRow>, others: &[Text]) -> bool
-    ensures { result ≡ alike_lists bytes_eq (texts (lines_shown lines.now)) others.now }
-{
-    let mut rest = lines.rows;
-    let mut left = others;
-    while let Some((row, behind)) = rest.split_first() {
-        let Some((other, after)) = left.split_first() else {
-            return false;
-        };
-        if lines.tables.text(row.text) != other.as_slice() {
+    for change in changes {
+        if let LineChange::Put { text, .. } | LineChange::Swap { text, .. } = change
+            && !is_logical_line(text.as_slice())
+        {
             return false;
         }
-        rest = behind;
-        left = after;
     }
-    left.is_empty()
+    true
+}
+
+/// Returns whether a change brings a line without LF before the line `last`.
+fn is_one_open(changes: &[LineChange], last: usize) -> bool
+    ensures { result ≡ list_any (is_open last) changes.now }
+{
+    for change in changes {
+        if let LineChange::Swap { at, text } = change
+            && *at < last
+            && !ends_in_lf(text.as_slice())
+        {
+            return true;
+        }
+    }
+    false
 }
 
 /// Returns whether the lines of one list have the texts of the other's.

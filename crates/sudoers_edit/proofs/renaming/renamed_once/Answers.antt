@@ -1,7 +1,5 @@
 use Rattle.std.proofs.Common.{◌≡◌, ◌∙◌, Bool, true, false, not, ◌||◌, Option, Some, None, Result, Ok, List, ℕ, MatchResult, inr, ap, sym, refl, subst}
-use Rattle.std.specs.List.{list_any}
 use Rattle.std.specs.Option.{is_some as is_there}
-use Rattle.sudoers_text.specs.Line.{join}
 use Rattle.sudoers_text.specs.Word.{is_name, is_reserved}
 use Rattle.sudoers_tree.specs.declared.place.Place.{Place}
 use Rattle.sudoers_tree.specs.Definition.{place_of}
@@ -9,9 +7,7 @@ use Rattle.sudoers_tree.specs.Fault.{is_some}
 use Rattle.sudoers_tree.specs.Policy.{texts}
 use Rattle.sudoers_edit.specs.declared.fault.EditFault.{EditFault}
 use Rattle.sudoers_edit.specs.Editing.{Refuses}
-use Rattle.sudoers_edit.specs.Landing.{is_too_long, policy_or_refusal}
-use Rattle.sudoers_edit.specs.Renaming.{if_lines}
-use Rattle.sudoers_edit.proofs.RenameLemmas.{no_alias, bad_name, name_taken, line_too_long, renamed_by_lines}
+use Rattle.sudoers_edit.proofs.RenameLemmas.{no_alias, bad_name, name_taken, renamed_if_free}
 use Rattle.sudoers_edit.proofs.renaming.renamed_once.Goals as goal
 use Rattle.sudoers_edit.proofs.renaming.renamed_once.Goals.{then-not-is_name-via-then-not-is_name, then-not-is_name-via-else-not-is_name+then-is_reserved}
 
@@ -53,23 +49,10 @@ returns-then-branch c =
     let good = free (is_name fresh) (is_reserved fresh) (sym c.is_name.ensures ∙ c.if-not-is_name.false) (sym c.is_reserved.ensures ∙ c.if-is_reserved.false) in
     inr (name_taken c.args.kind c.args.name.now fresh c.args.policy.now some good (sym c.in_ok-is_taken.ensures ∙ c.if-branch.true))
 
-pub returns-then-is_one_too_long : goal.returns-then-is_one_too_long
-returns-then-is_one_too_long c =
-    let some = defined c.definition.result (place_of c.args.kind c.args.name.now c.args.policy.now) true c.definition.ensures c.if-is_none.ensures in
-    let fresh : List ℕ = c.args.fresh.now in
-    let good = free (is_name fresh) (is_reserved fresh) (sym c.is_name.ensures ∙ c.if-not-is_name.false) (sym c.is_reserved.ensures ∙ c.if-is_reserved.false) in
-    let lines = c.as_slice.ensures.value ∙ c.in_ok-lines.ensures in
-    inr (line_too_long c.args.kind c.args.name.now fresh c.args.policy.now some good (sym c.in_ok-is_taken.ensures ∙ c.if-branch.false)
-    (ap (list_any is_too_long) (sym lines) ∙ sym c.is_one_too_long.ensures ∙ c.if-is_one_too_long.true))
-
 pub returns : goal.returns
 returns c =
     let some = defined c.definition.result (place_of c.args.kind c.args.name.now c.args.policy.now) true c.definition.ensures c.if-is_none.ensures in
     let fresh : List ℕ = c.args.fresh.now in
     let good = free (is_name fresh) (is_reserved fresh) (sym c.is_name.ensures ∙ c.if-not-is_name.false) (sym c.is_reserved.ensures ∙ c.if-is_reserved.false) in
-    let lines = c.as_slice.ensures.value ∙ c.in_ok-lines.ensures in
-    let again = c.as_slice-2.ensures.value ∙ c.in_ok-lines.ensures in
-    let short = ap (list_any is_too_long) (sym lines) ∙ sym c.is_one_too_long.ensures ∙ c.if-is_one_too_long.false in
-    let is = renamed_by_lines c.args.kind c.args.name.now fresh c.args.policy.now some good (sym c.in_ok-is_taken.ensures ∙ c.if-branch.false) short in
-    let same = ap (λ (ls : List (List ℕ)). if_lines ls (policy_or_refusal (join ls))) again ∙ sym is in
-    subst (λ (r : Result (List (List ℕ)) EditFault). MatchResult c.policy_of_lines.result (λ new. r ≡ Ok (texts new)) (λ fault. Refuses fault r)) same c.policy_of_lines.ensures
+    let is = renamed_if_free c.args.kind c.args.name.now fresh c.args.policy.now some good (sym c.in_ok-is_taken.ensures ∙ c.if-branch.false) in
+    subst (λ (r : Result (List (List ℕ)) EditFault). MatchResult c.with_other_name.result (λ new. r ≡ Ok (texts new)) (λ fault. Refuses fault r)) (sym is) c.with_other_name.ensures
