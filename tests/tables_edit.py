@@ -161,9 +161,7 @@ POLICY_CALLS = {
     "insert": (b"w", "number and line", drawn_change),
     "remove": (b"o", "number", drawn_change),
     "replace": (b"i", "number and line", drawn_change),
-    "text-with": (b"W", "number and line", drawn_bytes),
-    "text-without": (b"O", "number", drawn_bytes),
-    "text-replaced": (b"I", "number and line", drawn_bytes),
+    "changed": (b"c", "changes", drawn_change),
     "text-after": (b"A", "bytes", drawn_bytes),
 }
 EDITOR_CALLS = {
@@ -186,6 +184,18 @@ CALLS = {
     "text": (b"t", TEXT_CALLS),
 }
 
+# The changes of a call `changed`, with ` / ` between two: the byte of each, and what follows its name.
+CHANGES = {"put": (b"p", "number and line"), "swap": (b"s", "number and line"), "take": (b"t", "number")}
+
+
+def change_of(row):
+    """A change of lines, as the program reads it."""
+    word, _, rest = row.partition(" ")
+    if word not in CHANGES:
+        raise NoRow(f"{word}: no change of lines")
+    byte, form = CHANGES[word]
+    return call(byte, body_of(form, rest))
+
 
 def body_of(form, rest):
     """The body of a call, of the words after its name."""
@@ -198,6 +208,8 @@ def body_of(form, rest):
     if form == "number and line":
         at, _, line = rest.partition(" ")
         return number(at) + text_of(line)
+    if form == "changes":
+        return b"".join(change_of(row) for row in rest.split(" / ")) if rest else b""
     if form == "name":
         kind, _, name = rest.partition(" ")
         return named(kind, text_of(name))

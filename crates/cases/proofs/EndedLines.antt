@@ -1,11 +1,16 @@
 -- Lines of which none without LF stands before another.
-use Rattle.std.proofs.Common.{◌≡◌, ℕ, zero, suc, ◌<◌, false, true, not, List, [], ◌∷◌, length, insert, remove, Option, Some, refl, ap, ◌∙◌, unwrap_or, arith}
-use Rattle.std.proofs.lemmas.Bool.{or_parts}
+use Rattle.std.proofs.Common.{◌≡◌, ℕ, zero, suc, ◌+◌, ◌<◌, Bool, false, true, not, ◌==◌, if◌then◌else◌, List, [], ◌∷◌, ◌++◌, length, insert, remove, drop, get_or, Option, Some, IfSome, refl, sym, ap, ◌∙◌, unwrap_or, arith}
+use Rattle.std.proofs.lemmas.Bool.{or_parts, not-false}
+use Rattle.std.proofs.lemmas.List.{drop_more}
+use Rattle.std.specs.List.{AllByRecursion}
 use Rattle.std.specs.Prelude.{slice_get}
 use Rattle.std.specs.Option.{option_map}
 use Rattle.sudoers_text.specs.Ended.{ends_in_lf, has_unended_inside}
+use Rattle.sudoers_text.specs.Whole.{IsLogicalLine}
 use Rattle.sudoers_tree.specs.Line.{Line}
-use Rattle.sudoers_tree.specs.Changed.{replaced}
+use Rattle.sudoers_tree.specs.Changed.{replaced, changed, changed_from, brought, text_brought, puts_at, left_of}
+use Rattle.sudoers_tree.specs.declared.line_change.LineChange.{LineChange}
+use Rattle.sudoers_tree.specs.declared.line_change.LineChange.TheVariants.{Put, Swap, Take}
 use Rattle.sudoers_tree.specs.Policy.{texts}
 
 tail : (k : List ℕ) (ks : List (List ℕ)) → has_unended_inside (k ∷ ks) ≡ false → has_unended_inside ks ≡ false
@@ -68,3 +73,82 @@ in_place (k ∷ []) (suc n) line ended lf = refl
 in_place (k ∷ j ∷ js) (suc n) line ended lf =
     front k.text j.text (texts js) (replaced n line (texts (j ∷ js))) ended
     (in_place (j ∷ js) n line (tail k.text (texts (j ∷ js)) ended) lf)
+
+-- ---- several changes at once
+
+abbrev pub AreEnded : List (List ℕ) → Type 0
+AreEnded lines = AllByRecursion (λ line. ends_in_lf line ≡ true) lines
+
+append_ended : (ks js : List (List ℕ)) → AreEnded ks → AreEnded js → AreEnded (ks ++ js)
+append_ended [] js kept more = more
+append_ended (k ∷ ks) js kept more = (kept.0, append_ended ks js kept.1 more)
+
+none_unended : (ks : List (List ℕ)) → AreEnded ks → has_unended_inside ks ≡ false
+none_unended [] ended = refl
+none_unended (k ∷ []) ended = refl
+none_unended (k ∷ j ∷ js) ended = rw ended.0 (none_unended (j ∷ js) ended.1)
+
+-- lines of which the last ends in LF, and none without LF stands before another
+pub all_ended : (lines : List Line) (n : ℕ) (last : List ℕ) → has_unended_inside (texts lines) ≡ false → length lines ≡ suc n
+    → option_map (λ (l : Line). l.text) (slice_get lines n) ≡ Some last → ends_in_lf last ≡ true → AreEnded (texts lines)
+all_ended [] n last ended many is lf = absurd (omega (arith, many))
+all_ended (k ∷ []) zero last ended many is lf = (ap (λ (o : Option (List ℕ)). ends_in_lf (unwrap_or o [])) is ∙ lf, tt)
+all_ended (k ∷ []) (suc n) last ended many is lf = absurd (omega (arith, many))
+all_ended (k ∷ j ∷ js) zero last ended many is lf = absurd (omega (arith, many))
+all_ended (k ∷ j ∷ js) (suc n) last ended many is lf = (
+  not-false (ends_in_lf k.text) (or_parts _ _ ended).0,
+  all_ended (j ∷ js) n last (or_parts _ _ ended).1 (omega (arith, many)) is lf,
+)
+
+one_of_two : (b : Bool) (ks js : List (List ℕ)) → AreEnded ks → AreEnded js → AreEnded (if b then ks else js)
+one_of_two true ks js here there = here
+one_of_two false ks js here there = there
+
+puts_ended : (n : ℕ) (changes : List LineChange) → AreEnded (brought changes) → AreEnded (puts_at n changes)
+puts_ended n [] ended = tt
+puts_ended n (Put at text ∷ changes) ended =
+    let rest : AreEnded (puts_at n changes) = puts_ended n changes ended.1 in
+    one_of_two (at == n) (text ∷ puts_at n changes) (puts_at n changes) (ended.0, rest) rest
+puts_ended n (Swap at text ∷ changes) ended = puts_ended n changes ended.1
+puts_ended n (Take at ∷ changes) ended = puts_ended n changes ended
+
+left_ended : (n : ℕ) (changes : List LineChange) (line : List ℕ) → AreEnded (brought changes) → ends_in_lf line ≡ true → AreEnded (left_of n changes line)
+left_ended n [] line ended lf = (lf, tt)
+left_ended n (Put at text ∷ changes) line ended lf = left_ended n changes line ended.1 lf
+left_ended n (Swap at text ∷ changes) line ended lf =
+    one_of_two (at == n) (text ∷ []) (left_of n changes line) (ended.0, tt) (left_ended n changes line ended.1 lf)
+left_ended n (Take at ∷ changes) line ended lf =
+    one_of_two (at == n) [] (left_of n changes line) tt (left_ended n changes line ended lf)
+
+changed_ended : (n : ℕ) (changes : List LineChange) (lines : List (List ℕ)) → AreEnded (brought changes) → AreEnded lines
+    → AreEnded (changed_from n changes lines)
+changed_ended n changes [] new old = puts_ended n changes new
+changed_ended n changes (line ∷ lines) new old =
+    append_ended (puts_at n changes) (left_of n changes line ++ changed_from (n + 1) changes lines) (puts_ended n changes new)
+    (append_ended (left_of n changes line) (changed_from (n + 1) changes lines) (left_ended n changes line new old.0)
+    (changed_ended (n + 1) changes lines new old.1))
+
+-- lines that all end in LF, changed by changes that bring such lines
+pub together : (changes : List LineChange) (lines : List (List ℕ)) → AreEnded (brought changes) → AreEnded lines
+    → has_unended_inside (changed changes lines) ≡ false
+together changes lines new old = none_unended (changed changes lines) (changed_ended 0 changes lines new old)
+
+-- the changes from the one with this number on
+pub change_first : (changes : List LineChange) (i : ℕ) (change : LineChange) → i < length changes → change ≡ get_or changes i change
+    → drop i changes ≡ change ∷ drop (i + 1) changes
+change_first changes i change less is = drop_more changes i change less ∙ ap (λ c. c ∷ drop (i + 1) changes) (sym is)
+
+-- what a change brings, before what the others bring
+pub whole_first : (change : LineChange) (changes : List LineChange)
+    → IfSome (text_brought change) (λ text. IsLogicalLine text × (ends_in_lf text ≡ true))
+    → AllByRecursion IsLogicalLine (brought changes) → AllByRecursion IsLogicalLine (brought (change ∷ changes))
+whole_first (Put at text) changes is rest = (is.0, rest)
+whole_first (Swap at text) changes is rest = (is.0, rest)
+whole_first (Take at) changes is rest = rest
+
+pub ended_first : (change : LineChange) (changes : List LineChange)
+    → IfSome (text_brought change) (λ text. IsLogicalLine text × (ends_in_lf text ≡ true))
+    → AreEnded (brought changes) → AreEnded (brought (change ∷ changes))
+ended_first (Put at text) changes is rest = (is.1, rest)
+ended_first (Swap at text) changes is rest = (is.1, rest)
+ended_first (Take at) changes is rest = rest

@@ -1,11 +1,11 @@
 //! Calls of a policy of one text.
 
-use crate::changes::{line_replaced, with_line, without_line};
+use crate::changes::{changed_together, changes_of, line_replaced, with_line, without_line};
 use crate::drawn::push_debug;
 use crate::frames::{Call, next_call, number_of};
 use crate::loads::{self, Topic, report_topic};
 use std::alloc::{AllocError, Global};
-use sudoers_tree::{Kind, OneFile, append_texts, lf_count, text_replaced, text_with, text_without};
+use sudoers_tree::{Kind, OneFile, append_texts, lf_count};
 
 /// Adds the answer to a call of `policy`.
 pub fn push_answer(
@@ -20,6 +20,8 @@ pub fn push_answer(
         b'w' => with_line(policy, at, line),
         b'o' => without_line(policy, at),
         b'i' => line_replaced(policy, at, line),
+        // Changes of lines, each a call.
+        b'c' => changed_together(policy, changes_of(alloc, call.body)?.as_slice()),
         _ => return push_query(alloc, policy, call, answers),
     };
     push_debug(&changed, answers)
@@ -48,7 +50,9 @@ pub fn push_query(
         // `s` for a strict report.
         b'p' => push_checked(alloc, policy, report_topic(call.body), answers),
         b'f' => push_checked(alloc, policy, Topic::Fine, answers),
-        _ => push_changed_text(alloc, policy, call, answers),
+        // Bytes, and then the text.
+        b'A' => push_debug(&text_after(alloc, policy, call.body)?, answers),
+        _ => answers.push_str("unknown"),
     }
 }
 
@@ -112,24 +116,6 @@ fn push_checked(
     answers: &mut String,
 ) -> Result<(), AllocError> {
     loads::push_of_text(alloc, policy.text()?.as_slice(), topic, answers)
-}
-
-/// Adds the text with a line changed, or after another text; `unknown` if this is not known.
-fn push_changed_text(
-    alloc: Global,
-    policy: &OneFile,
-    call: Call<'_>,
-    answers: &mut String,
-) -> Result<(), AllocError> {
-    let (at, line) = place_of(call.body);
-    let text = match call.asked {
-        b'A' => text_after(alloc, policy, call.body),
-        b'W' if at <= policy.len() => text_with(alloc, &policy.lines(), at, line),
-        b'O' if at < policy.len() => text_without(alloc, &policy.lines(), at),
-        b'I' if at < policy.len() => text_replaced(alloc, &policy.lines(), at, line),
-        _ => return answers.push_str("unknown"),
-    };
-    push_debug(&text?, answers)
 }
 
 /// Returns `front`, and the text of `policy` after it.
