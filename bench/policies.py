@@ -125,3 +125,14 @@ def spread_edits(lines, count):
         at = n * 7919 % len(lines) + 1
         script.append(b"delete %d\ninsert %d\n|# edited as number %d\n" % (at, at, n))
     return b"".join(script)
+
+
+def front_edits(count):
+    """`count` edits that each insert a line in front."""
+    return b"insert 1\n|#\n" * count
+
+
+def unused_aliases(lines, each):
+    """A policy of unused aliases: so many lines, with so many definitions each."""
+    defined = [b"A%d = h" % n for n in range(lines * each)]
+    return b"".join(b"Host_Alias " + b" : ".join(defined[n * each : (n + 1) * each]) + b"\n" for n in range(lines))
