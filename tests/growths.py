@@ -1,0 +1,130 @@
+"""Counts the growths of memory of a change on the program `cases`, and refuses those of edits and undos.
+
+The growths of a change do not depend on how many aliases a policy has. A comment is replaced before many lines of aliases
+and before few. The growths of the same policy with a call that changes nothing are taken off.
+
+Each growth of an edit of each kind, and of its undo, is refused in turn. Then the policy, its names and the journal have to
+be as before, and the same call, made again, has to answer as with ample memory.
+"""
+
+import os
+
+from cases import Case
+from preload import Preloaded
+from program import Wanted
+from tables import PROGRAM, call, frame, joined, programs
+from tables_edit import SUBJECT, named
+from tally import difference
+
+KIND_OF = {b"U": "user", b"R": "runas", b"H": "host", b"C": "cmnd"}
+FEW, MANY = 10, 1_000
+# the line with the number 0, from 0, and the new line
+BODY = bytes(8) + b"# b\n"
+
+
+def policy_of(count):
+    """A comment, and so many lines of aliases."""
+    return b"# a\n" + b"".join(b"Host_Alias A%d = h%d\n" % (n, n) for n in range(count))
+
+
+def growths_of(shim, program, policy, asked):
+    """How many growths the program makes that reads a policy and answers a call."""
+    stdin = frame(SUBJECT, b"p", joined(policy) + call(asked, BODY))
+    answer, report = shim.run(program, Case("", (), stdin, Wanted(b"")))
+    return report.growths, answer.stdout
+
+
+def growths_of_change(shim, program, count):
+    """How many growths the change of the first line makes before so many lines of aliases, and its answer."""
+    policy = policy_of(count)
+    change, answer = growths_of(shim, program, policy, b"i")
+    other, _ = growths_of(shim, program, policy, b"n")
+    return change - other, answer
+
+
+# A policy, and an edit of each kind that it accepts.
+EDITED = b"""# people
+User_Alias A = x, y : B = A
+Host_Alias H = h1
+Cmnd_Alias UNUSED = /bin/a : USED = /bin/b
+Cmnd_Alias GONE = UNUSED
+A, B H = USED, /bin/c
+"""
+EDITS = (
+    b"insert 2\n|Runas_Alias R = root\n",
+    b"delete 3\n",
+    b"move 2 4\n",
+    b"add user A 3\n>, z\n",
+    b"drop user A 1\n",
+    b"adddef 3 2\n> : I = h2\n",
+    b"dropdef 4 1\n",
+    b"rename user A C\n",
+    b"openend\n",
+    b"prune\n",
+)
+MOST = 2_000
+NAMES = ((b"U", b"A"), (b"U", b"B"), (b"U", b"C"), (b"H", b"H"), (b"H", b"I"), (b"C", b"USED"), (b"C", b"UNUSED"), (b"R", b"R"))
+QUERIES = [call(b"t"), call(b"s"), call(b"a")]
+QUERIES += [call(byte, named(KIND_OF[kind], name)) for kind, name in NAMES for byte in (b"d", b"m")]
+
+
+def answers_of(shim, program, calls, **settings):
+    """The answers to calls of an editor, each with the answers to the queries after it, and what was refused."""
+    asking = b"".join(QUERIES) + b"".join(one + b"".join(QUERIES) for one in calls)
+    stdin = frame(SUBJECT, b"e", joined(EDITED) + asking)
+    answer, report = shim.run(program, Case("", (), stdin, Wanted(b"")), **settings)
+    lines = answer.stdout.split(b"\n")[:-1]
+    size = len(QUERIES)
+    turns = [lines[size + i : size + i + size + 1] for i in range(0, len(lines) - size, size + 1)]
+    return lines[:size], turns, report.refused
+
+
+def refused_problems(first, turns, before):
+    """What is wrong with the answers to a call that was refused memory and was then made again."""
+    (outcome, *state), (again, *last) = turns[-2:]
+    wanted, *after = first
+    return (
+        difference("the state after a refused growth", before, state)
+        + difference("the outcome of the call made again", wanted, again)
+        + difference("the state after the call made again", after, last)
+    )
+
+
+def refuse_each(shim, program, tally, what, calls):
+    """Refuses each growth of the last of these calls in turn, and makes it again."""
+    begun, ample, _ = answers_of(shim, program, calls)
+    before = ample[-2][1:] if len(calls) > 1 else begun
+    met = 0
+    for number in range(1, MOST):
+        first, turns, refused = answers_of(shim, program, calls + calls[-1:], refuse_growth=number)
+        if not refused:
+            break
+        is_later = first == begun and turns[: len(calls) - 1] == ample[:-1]
+        if is_later and len(turns) > len(calls) and b"NoMemory" in turns[len(calls) - 1][0]:
+            met += 1
+            tally.note(f"{what}: growth {number}", refused_problems(ample[-1], turns, before))
+    tally.note(f"{what}: growths", difference("some are refused", True, met > 0))
+
+
+def refuse_edits(shim, program, tally):
+    """Refuses each growth of each edit and of its undo."""
+    for edit in EDITS:
+        made = call(b"1", edit)
+        refuse_each(shim, program, tally, f"growths of {edit!r}", [made])
+        refuse_each(shim, program, tally, f"growths of the undo of {edit!r}", [made, call(b"-")])
+    closed = [call(b"1", b"openend\n"), call(b"1", b"endline\n")]
+    refuse_each(shim, program, tally, "growths of endline", closed)
+
+
+def run_all(_program, tally):
+    """Compares the growths before few aliases with those before many, on each build of the program `cases`."""
+    built = programs()
+    if not os.access(built[0], os.X_OK):
+        tally.note("growths", [f"no program: run `rt run < /dev/null` in crates/{PROGRAM}"])
+        return
+    with Preloaded() as shim:
+        for program in built:
+            (few, answer), (many, same) = (growths_of_change(shim, program, count) for count in (FEW, MANY))
+            problems = difference("the answer", answer, same) + difference(f"growths before {FEW} and {MANY}", few, many)
+            tally.note(f"growths of a replaced comment: {os.path.basename(program)}", problems)
+        refuse_edits(shim, built[0], tally)
