@@ -62,7 +62,7 @@ renamed_line k name fresh line = put_at 0 (length name) fresh (starts_in k name 
 abbrev pub renamed : Kind → List ℕ → List ℕ → List Line → List (List ℕ)
 renamed k name fresh policy = map (renamed_line k name fresh) policy
 
--- what is told where the way back would not lead back
+-- the error of a rename that a rename back would not undo
 abbrev pub no_way_back : EditFault
 no_way_back = NotPolicy (Syntax 1 1 UnexpectedToken)
 

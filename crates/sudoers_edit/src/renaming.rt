@@ -55,7 +55,7 @@ fn rename_back(alloc: Global, kind: Kind, name: &[u8], fresh: &[u8]) -> Result<E
     Edits::one(alloc, back)
 }
 
-/// Returns what is told where the way back would not lead back.
+/// Returns the error of a rename that a rename back would not undo.
 fn no_way_back() -> EditFault
     ensures { result ≡ the_fault }
 {
