@@ -8,7 +8,7 @@ pub mod Joined
 pub mod TwoPasses
 pub mod ReadUntil
 pub mod ReadsLines
-pub mod Parts
+pub mod FileRows
 pub mod LineRows
 pub mod Placed
 pub mod WholeFiles

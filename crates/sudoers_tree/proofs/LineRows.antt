@@ -8,11 +8,18 @@ use Rattle.sudoers_tree.specs.Line.{Line}
 use Rattle.sudoers_tree.specs.Physical.{row_behind}
 use Rattle.sudoers_tree.specs.Policy.{texts}
 use Rattle.sudoers_tree.specs.Files.{row_of}
-use Rattle.sudoers_tree.proofs.Joined.{join_append}
+use Rattle.sudoers_tree.proofs.Joined.{join_append, join_push, lf_append}
 use Rattle.sudoers_tree.proofs.LineEnds.{lf_short}
 use Rattle.sudoers_tree.proofs.Numbered.{drop_at}
-use Rattle.sudoers_tree.proofs.ReadUntil.{row_more}
 use Rattle.std.proofs.lemmas.List.{map-append}
+
+-- the physical line after one more line
+row_more : (before : List Line) (line : Line) (row more : ℕ) → row ≡ row_behind (join (texts before)) → more ≡ lf_count line.text
+    → row + more ≡ row_behind (join (texts (before ++ line ∷ [])))
+row_more before line row more is count =
+    let behind : lf_count (join (texts (before ++ line ∷ []))) ≡ lf_count (join (texts before)) + lf_count line.text =
+    ap lf_count (join_push before line) ∙ lf_append (join (texts before)) line.text in
+    omega (arith, is, count, behind)
 
 -- the physical line of the next line
 pub next_row : (lines : List Line) (n row lfs : ℕ) (line : Line) → slice_get lines n ≡ Some line → row ≡ row_of lines n → lfs ≡ lf_count line.text

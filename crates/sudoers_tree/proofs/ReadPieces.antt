@@ -1,7 +1,7 @@
 -- Lines that stay and lines that come are read, up to the first that does not parse.
-use Rattle.std.proofs.Common.{◌≡◌, ◌⊎◌, inl, inr, true, ℕ, zero, suc, slice_get, ◌+◌, ◌≤◌, ◌<◌, List, [], ◌∷◌, ◌++◌, length, drop, get_or, map, Option, Some, None, Ok, Err, refl, sym, ap, subst, ◌∙◌, arith, append_assoc, append-nil}
+use Rattle.std.proofs.Common.{◌≡◌, ◌⊎◌, inl, inr, true, ℕ, zero, suc, slice_get, ◌+◌, ◌≤◌, ◌<◌, List, [], ◌∷◌, ◌++◌, length, drop, get_or, map, Option, Some, None, Ok, Err, refl, sym, ap, subst, ◌∙◌, arith}
 use Rattle.std.specs.List.{All, AllByRecursion}
-use Rattle.std.proofs.lemmas.List.{length-append, map-append}
+use Rattle.std.proofs.lemmas.List.{map-append}
 use Rattle.std.proofs.lemmas.List.Elements.{All-cons, All-head, All-nil, All-push, All-same, All-tail, All-weaker}
 use Rattle.sudoers_text.specs.Cut.{cut_of, CutGives, StandAlone}
 use Rattle.sudoers_text.specs.Fault.{lf_count, line_limit, text_limit}
@@ -27,17 +27,10 @@ use Rattle.sudoers_tree.specs.Physical.{row_behind}
 use Rattle.sudoers_tree.specs.Policy.{texts}
 use Rattle.sudoers_tree.specs.internal.Pieces.{piece_texts, texts_of, lfs_in, AreShort, IsKept, IsKeptPiece, ReadsOn}
 use Rattle.sudoers_tree.specs.internal.Tree.{Stands}
-use Rattle.sudoers_tree.proofs.Joined.{join_append}
 use Rattle.sudoers_tree.proofs.LineEnds.{lf_short}
 use Rattle.sudoers_tree.proofs.PieceLines.{lfs_joined, no_piece, piece_first}
+use Rattle.sudoers_tree.proofs.ReadUntil.{IsReadBefore, Read, all_read, more_fits, more_read, more_stops, prepended}
 use Rattle.sudoers_tree.proofs.TreeLines.{GrowOn, all_on, same_lines}
-
-abbrev Read : Type 0
-Read = List Line × Option SyntaxFault
-
--- lines before those that are read
-abbrev pub prepended : List Line → Read → Read
-prepended lines read = (lines ++ read.0, read.1)
 
 pub lines : Tables → List LineRow → List Line
 lines t rows = map (line_in t) rows
@@ -148,59 +141,30 @@ reads_rows t rows old new is kept =
 
 -- After so many of the pieces these lines are read. Reading the rest then gives the outcome of all.
 abbrev pub IsReadTo : Tables → List Piece → List Line → ℕ → Type 0
-IsReadTo t pieces read i =
-    (texts read ++ piece_texts t (drop i pieces) ≡ piece_texts t pieces)
-    × (prepended read (read_until read (piece_texts t (drop i pieces))) ≡ read_until [] (piece_texts t pieces))
+IsReadTo t pieces read i = IsReadBefore (piece_texts t pieces) read (piece_texts t (drop i pieces))
 
 -- the next piece is within the limit
 pub piece_fits : (t : Tables) (pieces : List Piece) (read : List Line) (i : ℕ) → i < length pieces → IsReadTo t pieces read i → length (join (piece_texts t pieces)) ≤ text_limit
     → length (join (texts read)) + length (join (texts_of t (get_or pieces i no_piece))) ≤ text_limit
 piece_fits t pieces read i less state fits =
-    let here : List (List ℕ) = texts_of t (get_or pieces i no_piece) in
-    let behind : List (List ℕ) = piece_texts t (drop (i + 1) pieces) in
-    let whole : length (join (piece_texts t pieces)) ≡ length (join (texts read)) + length (join (here ++ behind)) =
-    ap (λ ls. length (join ls)) (sym state.0 ∙ ap (λ ls. texts read ++ ls) (piece_first t pieces i less))
-    ∙ ap length (join_append (texts read) (here ++ behind))
-    ∙ length-append (join (texts read)) (join (here ++ behind)) in
-    omega (arith, whole, fits, ap length (join_append here behind), length-append (join here) (join behind))
+    more_fits (piece_texts t pieces) read _ (texts_of t (get_or pieces i no_piece)) (piece_texts t (drop (i + 1) pieces)) (piece_first t pieces i less) state fits
 
 -- one more piece is read
 pub piece_read : (t : Tables) (pieces : List Piece) (read after : List Line) (i : ℕ) → i < length pieces → IsReadTo t pieces read i
     → ReadsOn None read after (texts_of t (get_or pieces i no_piece)) → IsReadTo t pieces after (i + 1)
-piece_read t pieces read after i less state (new, after_is, texts_are, goes_on) =
-    let here : List (List ℕ) = texts_of t (get_or pieces i no_piece) in
-    let behind : List (List ℕ) = piece_texts t (drop (i + 1) pieces) in
-    let first : piece_texts t (drop i pieces) ≡ here ++ behind = piece_first t pieces i less in (
-      ap (λ ls. texts ls ++ behind) after_is
-          ∙ ap (λ ls. ls ++ behind) (map-append (λ (l : Line). l.text) read new)
-          ∙ append_assoc (texts read) (texts new) behind
-          ∙ ap (λ ls. texts read ++ (ls ++ behind)) texts_are
-          ∙ ap (λ ls. texts read ++ ls) (sym first)
-          ∙ state.0,
-      ap (λ ls. let r : Read = (ls, (read_until after behind).1) in r)
-          (ap (λ ls. ls ++ (read_until after behind).0) after_is ∙ append_assoc read new (read_until after behind).0)
-          ∙ ap (prepended read) (sym (goes_on behind))
-          ∙ ap (λ ls. prepended read (read_until read ls)) (sym first)
-          ∙ state.1,
-    )
+piece_read t pieces read after i less state on =
+    more_read (piece_texts t pieces) read after _ (texts_of t (get_or pieces i no_piece)) (piece_texts t (drop (i + 1) pieces)) (piece_first t pieces i less) state on
 
 -- a piece whose line does not parse
 pub piece_stops : (t : Tables) (pieces : List Piece) (read after : List Line) (i : ℕ) (fault : SyntaxFault) → i < length pieces → IsReadTo t pieces read i
     → ReadsOn (Some fault) read after (texts_of t (get_or pieces i no_piece)) → (let r : Read = (after, Some fault) in r) ≡ read_until [] (piece_texts t pieces)
-piece_stops t pieces read after i fault less state (same, stops) =
-    let behind : List (List ℕ) = piece_texts t (drop (i + 1) pieces) in
-    ap (λ ls. let r : Read = (ls, Some fault) in r) (same ∙ sym (append-nil read))
-    ∙ ap (prepended read) (sym (stops behind))
-    ∙ ap (λ ls. prepended read (read_until read ls)) (sym (piece_first t pieces i less))
-    ∙ state.1
+piece_stops t pieces read after i fault less state stops =
+    more_stops (piece_texts t pieces) read after _ (texts_of t (get_or pieces i no_piece)) (piece_texts t (drop (i + 1) pieces)) fault (piece_first t pieces i less) state stops
 
 -- all pieces are read
 pub pieces_read : (t : Tables) (pieces : List Piece) (read : List Line) (i : ℕ) → drop i pieces ≡ [] → IsReadTo t pieces read i
     → (let r : Read = (read, None) in r) ≡ read_until [] (piece_texts t pieces)
-pieces_read t pieces read i none state =
-    ap (λ ls. let r : Read = (ls, None) in r) (sym (append-nil read))
-    ∙ ap (λ ps. prepended read (read_until read (piece_texts t ps))) (sym none)
-    ∙ state.1
+pieces_read t pieces read i none state = all_read (piece_texts t pieces) read (piece_texts t (drop i pieces)) (ap (piece_texts t) none) state
 
 -- ---- the outcome of the text
 

@@ -12,7 +12,7 @@ use Rattle.sudoers_line_reader.specs.Outcome.{outcome_of}
 use Rattle.sudoers_line_rows.specs.Tables.{Grown, Grows, Lasts, Keeps, node_in, text_in}
 use Rattle.sudoers_tree.specs.declared.line.LineRow.{LineRow}
 use Rattle.sudoers_tree.specs.Line.{Line, line_in}
-use Rattle.sudoers_tree.specs.internal.Tree.{Stands, TreeLines}
+use Rattle.sudoers_tree.specs.internal.Tree.{Stands}
 
 abbrev pub GrowOn : Type 0
 GrowOn = (t u v : Tables) → Grown t u → Grown u v → Grown t v
@@ -58,9 +58,6 @@ one_more t rows more row bytes is text =
     ap (map (line_in t)) is
     ∙ map-append (line_in t) rows (row ∷ [])
     ∙ ap (λ (b : List ℕ). map (line_in t) rows ++ line_of b (node_in t row.node) ∷ []) text
-
-abbrev pub tree_of : List Line → List Line → TreeLines
-tree_of all walk = record { all = all; walk = walk }
 
 -- The row at a place stands.
 pub stands_at : (t : Tables) (rows : List LineRow) (at : ℕ) (row : LineRow) → All (Stands t) rows → slice_get rows at ≡ Some row → Stands t row

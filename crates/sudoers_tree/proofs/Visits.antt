@@ -6,6 +6,7 @@ use Rattle.sudoers_tree.specs.declared.load_fault.LoadFault.TheVariants.{NoMemor
 use Rattle.sudoers_tree.proofs.Numbered.{drop_at}
 use Rattle.sudoers_tree.specs.Files.{FileReading, lines_of, name_of}
 use Rattle.sudoers_tree.specs.Walk.{Site, Visit, Walked, and_then, enter, leads_to, opened, site, spot_of, taken, visit, visit_each, walk_lines}
+use Rattle.sudoers_tree.specs.internal.Walking.{followed}
 
 pub visit_below : (left : ℕ) (files : List FileReading) (at : Site) (f : ℕ) (w : Walked) → (left ≡ 0 → ⊥)
     → visit left files at f w ≡ walk_lines (visit (left - 1) files) files f 0 (lines_of files f) (enter f w)
@@ -14,11 +15,6 @@ visit_below (suc left) files at f w some =
     let one : left ≡ suc left - 1 = omega arith in ap (λ k. walk_lines (visit k files) files f 0 (lines_of files f) (enter f w)) one
 
 -- ---- the walk, line by line
-
--- the outcome of visits of the files to which a line leads
-abbrev pub followed : Visit → List FileReading → ℕ → ℕ → Line → Walked → Result Walked LoadFault
-followed visit files f n line now =
-    and_then (opened files (site files f n) now (leads_to files f line)) (λ inner. visit_each visit files (site files f n) inner now)
 
 and_then_again : {A : Type 0} (r : Result A LoadFault) (first : A → Result Walked LoadFault) (next : Walked → Result Walked LoadFault)
     → and_then r (λ x. and_then (first x) next) ≡ and_then (and_then r first) next

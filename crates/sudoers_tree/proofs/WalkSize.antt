@@ -30,7 +30,7 @@ use Rattle.sudoers_tree.specs.Targets.{files_in, is_before, is_in_folder, number
 use Rattle.sudoers_tree.specs.Walk.{Site, Visit, Walked, and_then, depth_limit, enter, first_on, is_on, leads_to, nothing, opened, site, spot_of, taken, twice, unless_in, unless_missing, unless_on, visit, visit_each, walk_lines, walk_of}
 use Rattle.sudoers_tree.proofs.Joined.{join_push}
 use Rattle.sudoers_tree.proofs.Outcomes.{CutsAre}
-use Rattle.sudoers_tree.proofs.Parts.{read_fits}
+use Rattle.sudoers_tree.proofs.FileRows.{read_fits}
 use Rattle.sudoers_tree.proofs.WalkSound.{loaded_as}
 
 abbrev Outcome : Type 0

@@ -121,6 +121,6 @@ Enters (Err (TooDeep row)) index before ds = first_name_fault before ds ≡ Some
 Enters (Err NoMemory) index before ds = Unit {0}
 
 -- the lines that are read, with their names, or the first fault
-abbrev pub ReadsAll : Result Index ReadFault → List Line → Result (List Line) ReadFault → Type 0
-ReadsAll (Ok index) walk wanted = (wanted ≡ Ok walk) × Indexes index (definitions walk)
-ReadsAll (Err fault) walk wanted = (fault ≡ NoMemory) ⊎ (wanted ≡ Err fault)
+abbrev pub ReadsAll : Result (List Line × Index) ReadFault → Result (List Line) ReadFault → Type 0
+ReadsAll (Ok read) wanted = (wanted ≡ Ok read.0) × Indexes read.1 (definitions read.0)
+ReadsAll (Err fault) wanted = (fault ≡ NoMemory) ⊎ (wanted ≡ Err fault)

@@ -5,3 +5,4 @@ pub mod Passing
 pub mod Files
 pub mod Walking
 pub mod Pieces
+pub mod Loading

@@ -1,6 +1,6 @@
 //! Reading the lines that come with changes.
 
-ghost use Rattle.std.specs.Prelude.{◌≡◌, ◌≤◌, [], ◌∷◌, ◌+◌, length, map, IfOk, IfSome, MatchResult, Ok, Err, false};
+ghost use Rattle.std.specs.Prelude.{◌≡◌, ◌≤◌, [], ◌+◌, length, map, IfOk, IfSome, MatchResult, Ok, Err, false};
 ghost use Rattle.std.specs.List.{All, AllByRecursion};
 ghost use Rattle.sudoers_text.specs.Cut.{cut_of, CutGives};
 ghost use Rattle.sudoers_text.specs.Ended.{has_unended_inside};
@@ -11,7 +11,7 @@ ghost use Rattle.sudoers_line_rows.specs.Tables.{Grown};
 ghost use Rattle.sudoers_tree.specs.Files.{read_until};
 ghost use Rattle.sudoers_tree.specs.Line.{line_in};
 ghost use Rattle.sudoers_tree.specs.Policy.{texts};
-ghost use Rattle.sudoers_tree.specs.internal.Pieces.{piece_texts, texts_of, AreKept, ChangesLines, IsKept, IsKeptPiece, IsSize, IsSizeBehind, ReadsOn, lfs_in};
+ghost use Rattle.sudoers_tree.specs.internal.Pieces.{piece_texts, texts_of, AreKept, ChangesLines, IsKept, IsKeptPiece, IsSize, IsSizeBehind, ReadsOn};
 ghost use Rattle.sudoers_tree.specs.internal.Tree.{Stands};
 
 use crate::fault::{ReadFault, SyntaxFault};
@@ -19,12 +19,9 @@ use crate::index::{Index, Renewals};
 use crate::line::LineRow;
 use crate::passing::enter_lines;
 use crate::pieces::Piece;
-use crate::position::lf_count;
-use crate::reading::fault_at;
-use crate::row::read_row;
+use crate::reading::read_text;
 use crate::texts::text_of;
 use std::alloc::{AllocError, Global};
-use sudoers_line::LineFault;
 use sudoers_line_reader::laws::outcome_is;
 use sudoers_line_rows::laws::growth_goes_on;
 use sudoers_line_rows::{Rows, Tables};
@@ -219,43 +216,4 @@ fn read_piece(
         }
         Piece::New(text) => read_text(alloc, tables, text, rows),
     }
-}
-
-/// Reads the line `text` into `tables` and appends its row to `rows`. Returns its fault, if it does not parse.
-fn read_text(
-    alloc: Global,
-    tables: &mut Tables,
-    text: &[u8],
-    rows: &mut Vec<LineRow>,
-) -> Result<Option<SyntaxFault>, AllocError>
-    requires stand { All (Stands tables.old) rows.old.items }
-    requires fits { length (join (texts (map (line_in tables.old) rows.old.items))) + length text.now ≤ text_limit }
-    ensures grown { Grown tables.old tables.new }
-    ensures stand { IfOk result (λ _. All (Stands tables.new) rows.new.items) }
-    ensures read { IfOk result (λ fault. ReadsOn fault (map (line_in tables.old) rows.old.items) (map (line_in tables.new) rows.new.items) (text.now ∷ [])) }
-{
-    growth_goes_on();
-    match read_row(alloc, tables, text) {
-        Ok(row) => {
-            rows.push(row)?;
-            Ok(None)
-        }
-        Err(LineFault::Syntax { at, why }) => {
-            let line = row_behind(tables, rows.as_slice());
-            Ok(Some(fault_at(line, text, at, why)))
-        }
-        Err(LineFault::NoMemory) => Err(AllocError),
-    }
-}
-
-/// Returns the physical line, from 1, that follows the lines of the rows `rows`.
-fn row_behind(tables: &Tables, rows: &[LineRow]) -> usize
-    requires { lfs_in (texts (map (line_in tables.now) rows.now)) ≤ text_limit }
-    ensures { result ≡ 1 + lfs_in (texts (map (line_in tables.now) rows.now)) }
-{
-    let mut row = 1;
-    for line in rows {
-        row += lf_count(tables.text(line.text));
-    }
-    row
 }

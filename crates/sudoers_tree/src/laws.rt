@@ -17,7 +17,7 @@ ghost use Rattle.sudoers_line.specs.Node.{Node as NodeOf};
 ghost use Rattle.sudoers_line.specs.Listed.{listed};
 ghost use Rattle.sudoers_tree.specs.Mention.{members_in, of_kind};
 ghost use Rattle.sudoers_tree.specs.Policy.{IsWalk, texts};
-ghost use Rattle.sudoers_tree.specs.Load.{Loaded, StandAt, file_limit, load_of};
+ghost use Rattle.sudoers_tree.specs.Load.{Loaded, StandAt, file_limit, files_of, load_of};
 ghost use Rattle.sudoers_text.specs.Fault.{text_limit};
 ghost use Rattle.sudoers_tree.specs.declared.load.NamedFile.{NamedFile as NamedFileOf};
 ghost use Rattle.sudoers_tree.specs.Single.{said};
@@ -149,6 +149,14 @@ pub fn reads_is()
 pub fn loaded_is_walk()
     ensures { (files : List NamedFileOf) (policy : Loaded) → load_of files ≡ Ok policy → IsWalk policy.walk.lines }
 {
+    outcome_is();
+}
+
+/// Loaded files keep their names and their bytes. Each of their lines parses.
+pub fn loaded_files_are()
+    ensures bytes { (files : List NamedFileOf) (policy : Loaded) → load_of files ≡ Ok policy → files_of policy ≡ files }
+{
+    cut_is();
     outcome_is();
 }
 

@@ -28,6 +28,7 @@ mod targets;
 mod texts;
 mod tree;
 mod walk;
+mod walked;
 mod walking;
 
 pub use fault::{ReadFault, SyntaxFault};

@@ -1,14 +1,22 @@
 //! The files of a policy, with their bytes.
 
-ghost use Rattle.std.specs.Prelude.{◌≡◌, ◌⊎◌, [], IfOk, MatchResult, Ok, Err};
+ghost use Rattle.std.specs.Prelude.{◌≡◌, ◌⊎◌, [], List, ℕ, map, IfOk, MatchResult, Result, Ok, Err};
+ghost use Rattle.std.specs.List.{All};
+ghost use Rattle.sudoers_line_rows.specs.Tables.{Grown};
+ghost use Rattle.sudoers_text.specs.Cut.{CutGives, cut_of};
+ghost use Rattle.sudoers_text.specs.declared.fault.TextFault.{TextFault as TextFaultOf};
 ghost use Rattle.sudoers_tree.specs.declared.load_fault.LoadFault.TheVariants.{NoMemory};
-ghost use Rattle.sudoers_tree.specs.Load.{first_repeated, has_name, readings};
+ghost use Rattle.sudoers_tree.specs.Load.{cut_file, first_repeated, has_name, readings};
+ghost use Rattle.sudoers_tree.specs.internal.Files.{IsFile, ReadsFile, reading_in};
 
 use crate::fault::ReadFault;
-use crate::files::Files;
+use crate::files::FileRows;
 use crate::load_fault::LoadFault;
+use crate::reading::read_lines;
 use std::alloc::{AllocError, Global};
 use sudoers_line::Items;
+use sudoers_line_rows::Tables;
+use sudoers_line_rows::laws::growth_goes_on;
 use sudoers_text::{TextFault, cut};
 
 /// How many files a policy may have.
@@ -46,23 +54,53 @@ pub fn has_name(files: &[NamedFile], name: &[u8]) -> bool
     false
 }
 
-/// Returns the files `files` as they are read. If the text of a file cannot be cut into lines, returns the fault of the first such file.
-pub fn read_files(alloc: Global, files: &[NamedFile]) -> Result<Files, LoadFault>
-    ensures { MatchResult result (λ read. readings [] files.now ≡ Ok read.files × (read.walk ≡ []))
+/// Reads the files `files` into `tables`. If the text of a file cannot be cut into lines, returns the fault of the first such file.
+pub fn read_files(
+    alloc: Global,
+    tables: &mut Tables,
+    files: &[NamedFile],
+) -> Result<Vec<FileRows>, LoadFault>
+    ensures { MatchResult result (λ read. (readings [] files.now ≡ Ok (map (reading_in tables.new) read.items)) × All (IsFile tables.new) read.items)
         (λ fault. (fault ≡ NoMemory) ⊎ (readings [] files.now ≡ Err fault)) }
 {
-    let mut read = Files::new(alloc, files.len())?;
+    growth_goes_on();
+    let mut read = Vec::with_capacity(alloc, files.len())?;
     for file in files {
-        match cut(alloc, file.bytes.as_slice()) {
-            Ok(lines) => read = read.with_file(alloc, file.name.as_slice(), &lines)?,
-            Err(TextFault::NoMemory) => return Err(LoadFault::NoMemory),
-            Err(fault) => {
-                return Err(LoadFault::InFile {
-                    file: Items::from_slice(alloc, file.name.as_slice())?,
-                    fault: ReadFault::Text(fault),
-                });
-            }
-        }
+        read.push(read_file(alloc, tables, file)?)?;
     }
     Ok(read)
+}
+
+/// Reads the file `file` into `tables`. Returns its fault, if its text cannot be cut into lines.
+fn read_file(
+    alloc: Global,
+    tables: &mut Tables,
+    file: &NamedFile,
+) -> Result<FileRows, LoadFault>
+    ensures grown { Grown tables.old tables.new }
+    ensures read { ReadsFile result tables.new (cut_file file.now.name (cut_of file.now.bytes)) }
+{
+    let name = Items::from_slice(alloc, file.name.as_slice())?;
+    match cut(alloc, file.bytes.as_slice()) {
+        Ok(lines) => {
+            let mut rows = Vec::with_capacity(alloc, lines.len())?;
+            let fault = read_lines(alloc, tables, &lines, &mut rows)?;
+            Ok(FileRows { name, rows, fault })
+        }
+        Err(fault) => Err(not_cut(name, fault)),
+    }
+}
+
+/// Returns the fault `fault` of the cut of a text as one of the file `file`.
+pub fn not_cut(file: Items<u8>, fault: TextFault) -> LoadFault
+    ensures { (outcome : Result (List (List ℕ)) TextFaultOf) → CutGives (Err fault) outcome
+        → (result ≡ NoMemory) ⊎ (cut_file file outcome ≡ Err result) }
+{
+    match fault {
+        TextFault::NoMemory => LoadFault::NoMemory,
+        fault => LoadFault::InFile {
+            file,
+            fault: ReadFault::Text(fault),
+        },
+    }
 }

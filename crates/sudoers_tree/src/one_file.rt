@@ -19,7 +19,6 @@ ghost use Rattle.sudoers_tree.specs.Policy.{IsPolicy, texts};
 ghost use Rattle.sudoers_tree.specs.Fault.{IsFaultOf};
 ghost use Rattle.sudoers_tree.specs.Reading.{read_behind, read_of, ReadGives};
 ghost use Rattle.sudoers_tree.specs.Index.{ReadsAll};
-ghost use Rattle.sudoers_tree.specs.internal.Tree.{no_lines};
 
 use crate::fault::ReadFault;
 use crate::index::Index;
@@ -30,7 +29,6 @@ use crate::line_change::LineChange;
 use crate::mention::append_mentions;
 use crate::passing::enter_lines;
 use crate::place::{Place, Span};
-use crate::reading::read_lines;
 use crate::texts::append_texts;
 use crate::tree::Tree;
 use crate::walk::Walk;
@@ -68,12 +66,12 @@ impl Model for OneFile {
 
     ghost Value = { List Line };
 
-    ghost view = { λ policy. policy.lines.value.tree.all };
+    ghost view = { λ policy. policy.lines.value.tree };
 
-    ghost invariant = { λ policy. (read_of (join (texts policy.lines.value.tree.all)) ≡ Ok policy.lines.value.tree.all)
-        × (policy.size ≡ length (join (texts policy.lines.value.tree.all)))
-        × Indexes policy.lines.value.index (definitions policy.lines.value.tree.all)
-        × IsPolicy policy.lines.value.tree.all };
+    ghost invariant = { λ policy. (read_of (join (texts policy.lines.value.tree)) ≡ Ok policy.lines.value.tree)
+        × (policy.size ≡ length (join (texts policy.lines.value.tree)))
+        × Indexes policy.lines.value.index (definitions policy.lines.value.tree)
+        × IsPolicy policy.lines.value.tree };
 }
 
 impl OneFile {
@@ -93,8 +91,7 @@ impl OneFile {
     {
         read_is();
         let lines = cut(alloc, text)?;
-        let mut tree = Tree::new(alloc, lines.len())?;
-        let index = read_all(alloc, &mut tree, &lines)?;
+        let (tree, index) = read_all(alloc, &lines)?;
         Ok(OneFile {
             lines: Box::new(alloc, Indexed { tree, index })?,
             size: text.len(),
@@ -185,13 +182,17 @@ impl OneFile {
         Ok(())
     }
 
-    /// Reads the lines again if most bytes of their tables are unused.
+    /// Reads the text again if most bytes of the tables are unused.
     fn drop_waste(&mut self) -> Result<(), AllocError>
         ensures { self.new ≡ self.old }
     {
+        self.is_policy();
         if self.lines.tree.is_mostly_unused(self.size) {
-            let tree = self.lines.tree.reread(self.alloc)?;
-            self.lines.tree = tree;
+            let text = self.text()?;
+            match OneFile::read(self.alloc, text.as_slice()) {
+                Ok(policy) => *self = policy,
+                Err(_) => return Err(AllocError),
+            }
         }
         Ok(())
     }
@@ -320,19 +321,18 @@ impl OneFile {
     }
 }
 
-/// Reads the lines `lines` into `tree`, which has no lines. Returns the names that they define, or the first fault.
-fn read_all(alloc: Global, tree: &mut Tree, lines: &Lines<'_>) -> Result<Index, ReadFault>
-    requires empty { tree.old ≡ no_lines }
-    requires fits { length (join lines.now) ≤ text_limit }
-    ensures { ReadsAll result tree.new.all (read_behind [] lines.now) }
+/// Reads the lines `lines`. Returns them with the names that they define, or the first fault.
+fn read_all(alloc: Global, lines: &Lines<'_>) -> Result<(Tree, Index), ReadFault>
+    requires { length (join lines.now) ≤ text_limit }
+    ensures { ReadsAll result (read_behind [] lines.now) }
 {
     outcome_is();
-    let fault = read_lines(alloc, tree, lines)?;
+    let (tree, fault) = Tree::read(alloc, lines)?;
     let mut index = Index::new(alloc);
     let names = enter_lines(alloc, &index, &tree.all())?;
     if let Some(fault) = fault {
         return Err(fault.into());
     }
     index.renew(names);
-    Ok(index)
+    Ok((tree, index))
 }

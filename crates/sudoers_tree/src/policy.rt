@@ -5,26 +5,25 @@ ghost use Rattle.sudoers_text.specs.Fault.{text_limit};
 ghost use Rattle.sudoers_text.specs.Line.{join};
 ghost use Rattle.sudoers_tree.specs.declared.load_fault.LoadFault.TheVariants.{NoMemory};
 ghost use Rattle.sudoers_tree.specs.Files.{lines_of, name_of};
-ghost use Rattle.sudoers_tree.specs.Index.{renewed_index};
 ghost use Rattle.sudoers_tree.specs.Line.{Line as LineOf, line_shown, lines_shown};
-ghost use Rattle.sudoers_tree.specs.Load.{HasSpot, load_of, one_file};
+ghost use Rattle.sudoers_tree.specs.Load.{HasSpot, files_of, load_of, one_file};
 ghost use Rattle.sudoers_tree.specs.Policy.{texts};
+ghost use Rattle.sudoers_tree.specs.internal.Files.{AreFiles, files_shown};
 
 use crate::files::Files;
-use crate::index::Index;
-use crate::laws::{loaded_is_walk, loaded_is_within, loaded_lines_stand};
+use crate::laws::{loaded_files_are, loaded_is_walk, loaded_is_within, loaded_lines_stand};
 use crate::line::{Line, LineRow};
 use crate::load::{FILE_LIMIT, NamedFile, first_repeated, read_files};
 use crate::load_fault::LoadFault;
 use crate::place::Spot;
 use crate::texts::append_texts;
 use crate::walk::Walk;
-use crate::walking::Walking;
+use crate::walked::{WalkedFiles, walked_files};
 use std::alloc::{AllocError, Global};
 use std::boxed::Box;
 use std::marker::Model;
 use sudoers_line::Items;
-use sudoers_line_rows::Rows;
+use sudoers_line_rows::{Rows, Tables};
 
 /// A policy of several files, and the walk over them: the lines of the first, each include line followed by the walk of the files to
 /// which it leads. Contracts see each file as it is read, the lines of the walk with what they say, where each stands, and the
@@ -32,58 +31,19 @@ use sudoers_line_rows::Rows;
 #[derive(Drop)]
 pub struct Policy {
     walked: Box<WalkedFiles>,
-}
-
-/// Files with the walk over them: the spot of each of its lines, the numbers of its files in their order, and the names that its lines
-/// define.
-#[derive(Drop)]
-struct WalkedFiles {
-    files: Files,
-    spots: Vec<Spot>,
-    on: Vec<usize>,
-    index: Index,
+    alloc: Global,
 }
 
 impl Model for Policy {
-    ghost use Rattle.std.specs.Prelude.{◌≤◌, ◌*◌, length};
-    ghost use Rattle.sudoers_text.specs.Line.{join};
-    ghost use Rattle.sudoers_text.specs.Fault.{text_limit};
-    ghost use Rattle.sudoers_tree.specs.Definition.{definitions};
-    ghost use Rattle.sudoers_tree.specs.Index.{Indexes};
-    ghost use Rattle.sudoers_tree.specs.Load.{Loaded, StandAt, file_limit};
-    ghost use Rattle.sudoers_tree.specs.Policy.{IsWalk, texts};
-    ghost use Rattle.sudoers_tree.specs.internal.Walking.{walk_over};
+    ghost use Rattle.std.specs.Prelude.{◌≡◌, Ok};
+    ghost use Rattle.sudoers_tree.specs.Load.{Loaded, files_of, load_of};
+    ghost use Rattle.sudoers_tree.specs.internal.Loading.{AreWalked, loaded_in};
 
     ghost Value = { Loaded };
 
-    ghost view = { λ policy. record { files = policy.walked.value.files.files; walk = walk_over policy.walked.value.files policy.walked.value.spots.items policy.walked.value.on.items } };
+    ghost view = { λ policy. loaded_in policy.walked.value };
 
-    ghost invariant = { λ policy. Indexes policy.walked.value.index (definitions policy.walked.value.files.walk)
-        × IsWalk policy.walked.value.files.walk
-        × (length (join (texts policy.walked.value.files.walk)) ≤ file_limit * text_limit)
-        × StandAt policy.walked.value.files.files policy.walked.value.spots.items policy.walked.value.files.walk };
-}
-
-impl WalkedFiles {
-    /// Returns the files over which `walking` went, with the walk.
-    fn of(walking: Walking) -> WalkedFiles
-        ensures { result ≡ record { files = walking.files; spots = walking.spots; on = walking.on; index = renewed_index walking.known walking.names } }
-    {
-        let Walking {
-            files,
-            spots,
-            on,
-            known: mut index,
-            names,
-        } = walking;
-        index.renew(names);
-        WalkedFiles {
-            files,
-            spots,
-            on,
-            index,
-        }
-    }
+    ghost invariant = { λ policy. AreWalked policy.walked.value × (load_of (files_of (loaded_in policy.walked.value)) ≡ Ok (loaded_in policy.walked.value)) };
 }
 
 impl Policy {
@@ -98,23 +58,20 @@ impl Policy {
         ensures { MatchResult result (λ policy. load_of files.now ≡ Ok policy)
             (λ fault. (fault ≡ NoMemory) ⊎ (load_of files.now ≡ Err fault)) }
     {
-        loaded_is_walk();
-        loaded_is_within();
-        loaded_lines_stand();
+        loaded_files_are();
         if files.len() > FILE_LIMIT {
             return Err(LoadFault::TooManyFiles);
         }
         if let Some(file) = first_repeated(alloc, files)? {
             return Err(LoadFault::SameName { file });
         }
-        let read = read_files(alloc, files)?;
-        let mut walking = Walking::new(alloc, read)?;
-        match walking.walk_all(alloc) {
-            Ok(()) => Ok(Policy {
-                walked: Box::new(alloc, WalkedFiles::of(walking))?,
-            }),
-            Err(fault) => Err(fault),
-        }
+        let mut tables = Tables::new(alloc);
+        let files = read_files(alloc, &mut tables, files)?;
+        let walked = walked_files(alloc, tables, files)?;
+        Ok(Policy {
+            walked: Box::new(alloc, walked)?,
+            alloc,
+        })
     }
 
     /// Returns the policy of one file, whose name is `policy` and whose text is `text`.
@@ -134,18 +91,42 @@ impl Policy {
         Policy::load(alloc, files.as_slice())
     }
 
+    /// A law: the policy is that of its files, which have their names and bytes.
+    pub fn is_loaded(&self)
+        ensures { load_of (files_of self.now) ≡ Ok self.now }
+    {
+        let _ = &self.walked;
+    }
+
+    /// Returns the files as they are read.
+    fn read_files(&self) -> Files<'_>
+        ensures shown { files_shown result ≡ self.now.files }
+        ensures are { AreFiles result }
+    {
+        Files {
+            tables: &self.walked.tables,
+            files: self.walked.files.as_slice(),
+        }
+    }
+
     /// Returns the lines of the walk with what they say.
     pub fn lines(&self) -> Rows<'_, LineRow>
         ensures { lines_shown result ≡ self.now.walk.lines }
     {
-        self.walked.files.walk()
+        Rows {
+            tables: &self.walked.tables,
+            rows: self.walked.lines.as_slice(),
+        }
     }
 
     /// Returns the lines of the walk, with the names that they define.
     pub fn walk(&self) -> Walk<'_>
         ensures { result ≡ self.now.walk.lines }
     {
-        Walk::of(self.walked.files.walk(), &self.walked.index)
+        self.is_loaded();
+        loaded_is_walk();
+        loaded_is_within();
+        Walk::of(self.lines(), &self.walked.index)
     }
 
     /// Returns where each line of the walk stands.
@@ -159,7 +140,7 @@ impl Policy {
     pub fn files_fit(&self)
         ensures { (file : ℕ) → length (join (texts (lines_of self.now.files file))) ≤ text_limit }
     {
-        self.walked.files.files_fit();
+        self.read_files().files_fit();
     }
 
     /// A law: each line of the walk stands at its spot. Its row and the length of its text together are at most twice the limit of a text,
@@ -169,7 +150,8 @@ impl Policy {
         ensures stand { (number : ℕ) (line : LineOf) → slice_get self.now.walk.lines number ≡ Some line → HasSpot self.now number line }
     {
         self.files_fit();
-        let _ = &self.walked;
+        self.is_loaded();
+        loaded_lines_stand();
     }
 
     /// Returns the numbers of the files on the walk, in the order in which they came onto it.
@@ -183,21 +165,21 @@ impl Policy {
     pub fn files(&self) -> usize
         ensures { result ≡ length self.now.files }
     {
-        self.walked.files.len()
+        self.read_files().len()
     }
 
     /// Returns the name of the file with the number `file`, from 0; no bytes if there is none.
     pub fn file_name(&self, file: usize) -> &[u8]
         ensures { result.now ≡ name_of self.now.files file }
     {
-        self.walked.files.name(file)
+        self.read_files().name(file)
     }
 
     /// Returns the lines of the file with the number `file`, from 0, with what they say; no lines if there is no such file.
     pub fn file_lines(&self, file: usize) -> Rows<'_, LineRow>
         ensures { lines_shown result ≡ lines_of self.now.files file }
     {
-        self.walked.files.lines(file)
+        self.read_files().lines(file)
     }
 
     /// Returns the text of the file with the number `file`, from 0, byte for byte.
@@ -205,10 +187,10 @@ impl Policy {
     /// # Errors
     ///
     /// Memory ran out.
-    pub fn text(&self, alloc: Global, file: usize) -> Result<Vec<u8>, AllocError>
+    pub fn text(&self, file: usize) -> Result<Vec<u8>, AllocError>
         ensures { IfOk result (λ text. text.items ≡ join (texts (lines_of self.now.files file))) }
     {
-        let mut text = Vec::new(alloc);
+        let mut text = Vec::new(self.alloc);
         let lines = self.file_lines(file);
         append_texts(lines.tables, lines.rows, &mut text)?;
         Ok(text)
@@ -218,13 +200,13 @@ impl Policy {
     pub fn len(&self, file: usize) -> usize
         ensures { result ≡ length (lines_of self.now.files file) }
     {
-        self.walked.files.line_count(file)
+        self.read_files().line_count(file)
     }
 
     /// Returns the line with the number `line` of the file with the number `file`, both from 0.
     pub fn line(&self, file: usize, line: usize) -> Option<Line<'_>>
         ensures { option_map line_shown result ≡ slice_get (lines_of self.now.files file) line }
     {
-        self.walked.files.line(file, line)
+        self.read_files().line(file, line)
     }
 }

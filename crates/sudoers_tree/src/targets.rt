@@ -2,6 +2,7 @@
 
 ghost use Rattle.std.specs.Prelude.{◌≡◌, IfOk, MatchOption, OnOk, Some, None};
 ghost use Rattle.sudoers_line.specs.Piece.{has_byte};
+ghost use Rattle.sudoers_tree.specs.internal.Files.{files_shown};
 ghost use Rattle.sudoers_tree.specs.Targets.{base_of, ends_in_tilde, files_in, is_base, is_before, is_in_folder, number_of, put_in_order, targets};
 
 use crate::files::Files;
@@ -53,8 +54,8 @@ fn is_in_folder(folder: &[u8], name: &[u8]) -> bool
 }
 
 /// Returns the number, from 0, of the first file with the name `name`. Returns nothing if there is none.
-fn number_of(files: &Files, name: &[u8]) -> Option<usize>
-    ensures { result ≡ number_of name.now 0 files.now.files }
+fn number_of(files: &Files<'_>, name: &[u8]) -> Option<usize>
+    ensures { result ≡ number_of name.now 0 (files_shown files.now) }
 {
     for number in 0..files.len() {
         if name == files.name(number) {
@@ -65,15 +66,15 @@ fn number_of(files: &Files, name: &[u8]) -> Option<usize>
 }
 
 /// Returns whether the name of the file `file` stands before that of the file `other` in the order of their bytes.
-fn is_before(files: &Files, file: usize, other: usize) -> bool
-    ensures { result ≡ is_before files.now.files file other }
+fn is_before(files: &Files<'_>, file: usize, other: usize) -> bool
+    ensures { result ≡ is_before (files_shown files.now) file other }
 {
     files.name(file).cmp(files.name(other)) == Ordering::Less
 }
 
 /// Inserts the file `file` into `order`, whose files are in the order of their names.
-fn put_in_order(files: &Files, file: usize, order: &mut Vec<usize>) -> Result<(), AllocError>
-    ensures { OnOk result (order.new.items ≡ put_in_order files.now.files file order.old.items) }
+fn put_in_order(files: &Files<'_>, file: usize, order: &mut Vec<usize>) -> Result<(), AllocError>
+    ensures { OnOk result (order.new.items ≡ put_in_order (files_shown files.now) file order.old.items) }
 {
     for at in 0..order.len() {
         if is_before(files, file, order[at]) {
@@ -87,8 +88,8 @@ fn put_in_order(files: &Files, file: usize, order: &mut Vec<usize>) -> Result<()
 
 /// Returns the numbers of the files to which an include of the folder `folder` leads, in the order of their names. The name of the folder
 /// ends in `/`.
-fn files_in(alloc: Global, files: &Files, folder: &[u8]) -> Result<Vec<usize>, AllocError>
-    ensures { IfOk result (λ inner. inner.items ≡ files_in files.now.files folder.now 0 files.now.files) }
+fn files_in(alloc: Global, files: &Files<'_>, folder: &[u8]) -> Result<Vec<usize>, AllocError>
+    ensures { IfOk result (λ inner. inner.items ≡ files_in (files_shown files.now) folder.now 0 (files_shown files.now)) }
 {
     let mut inner = Vec::new(alloc);
     let mut number = files.len();
@@ -106,9 +107,9 @@ fn files_in(alloc: Global, files: &Files, folder: &[u8]) -> Result<Vec<usize>, A
 /// # Errors
 ///
 /// Memory ran out.
-pub fn targets(alloc: Global, files: &Files, lead: &Lead) -> Result<Option<Vec<usize>>, AllocError>
-    ensures { IfOk result (λ inner. MatchOption inner (targets files.now.files lead.now ≡ None)
-        (λ inner. targets files.now.files lead.now ≡ Some inner.items)) }
+pub fn targets(alloc: Global, files: &Files<'_>, lead: &Lead) -> Result<Option<Vec<usize>>, AllocError>
+    ensures { IfOk result (λ inner. MatchOption inner (targets (files_shown files.now) lead.now ≡ None)
+        (λ inner. targets (files_shown files.now) lead.now ≡ Some inner.items)) }
 {
     match lead {
         Lead::File(name) => {

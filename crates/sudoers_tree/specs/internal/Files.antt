@@ -1,33 +1,39 @@
--- A device of the proof, which no public contract cites: files that are read, and the walk over them.
-use Rattle.std.specs.Prelude.{ℕ, ◌+◌, ◌-◌, ◌≤◌, nat_lt, List, [], length, take, drop, Option, Some, None, if◌then◌else◌}
+-- A device of the proof, which no public contract cites: files that are read into tables.
+use Rattle.std.specs.Prelude.{◌≡◌, ◌⊎◌, ◌≤◌, List, ℕ, length, map, Result, Ok, Err}
+use Rattle.std.specs.List.{All}
 use Rattle.sudoers_text.specs.Line.{join}
 use Rattle.sudoers_text.specs.Fault.{text_limit}
-use Rattle.sudoers_tree.specs.Line.{Line}
-use Rattle.sudoers_tree.specs.Policy.{texts}
+use Rattle.sudoers_line_rows.specs.declared.rows.Tables.{Tables}
+use Rattle.sudoers_tree.specs.declared.files.FileRows.{FileRows}
+use Rattle.sudoers_tree.specs.declared.files.Files.{Files}
+use Rattle.sudoers_tree.specs.declared.load_fault.LoadFault.{LoadFault}
+use Rattle.sudoers_tree.specs.declared.load_fault.LoadFault.TheVariants.{NoMemory}
 use Rattle.sudoers_tree.specs.Files.{FileReading}
-use Rattle.sudoers_tree.specs.declared.files.Part.{Part}
+use Rattle.sudoers_tree.specs.Line.{line_in}
+use Rattle.sudoers_tree.specs.Policy.{texts}
+use Rattle.sudoers_tree.specs.internal.Tree.{Stands}
 
--- files, and the lines of the walk
-pub record Read : Type 0 where
-  pub files : List FileReading
-  pub walk : List Line
+-- what the rows of a file hold
+abbrev pub reading_in : Tables → FileRows → FileReading
+reading_in t file = record { name = file.name; lines = map (line_in t) file.rows.items; fault = file.fault }
 
-abbrev pub no_files : Read
-no_files = record { files = []; walk = [] }
+abbrev pub files_shown : Files → List FileReading
+files_shown files = map (reading_in files.tables.now) files.files.now
 
--- the lines of a part, among all lines
-abbrev pub lines_at : List Line → Part → List Line
-lines_at all part = take (part.stop - part.start) (drop part.start all)
+-- The rows of the file go on holding its lines, and its text is within the limit.
+pub record IsFile (t : Tables) (file : FileRows) : Type 0 where
+  pub stand : All (Stands t) file.rows.items
+  pub fits : length (join (texts (map (line_in t) file.rows.items))) ≤ text_limit
 
-abbrev pub reading_in : List Line → Part → FileReading
-reading_in all part = record { name = part.name; lines = lines_at all part; fault = part.fault }
+abbrev pub AreFiles : Files → Type 0
+AreFiles files = All (IsFile files.tables.now) files.files.now
 
--- the number among all lines of the line with the number n of a part
-abbrev pub number_in : Part → ℕ → Option ℕ
-number_in part n = if nat_lt n (part.stop - part.start) then Some (part.start + n) else None
+-- These files are read; or the fault is the one that is wanted, or `NoMemory`.
+abbrev pub ReadsFiles : Result (List FileRows) LoadFault → Tables → Result (List FileReading) LoadFault → Type 0
+ReadsFiles (Ok files) t wanted = (wanted ≡ Ok (map (reading_in t) files)) × All (IsFile t) files
+ReadsFiles (Err fault) t wanted = (fault ≡ NoMemory) ⊎ (wanted ≡ Err fault)
 
--- The part is one of these lines, and no longer than a text may be.
-pub record IsPart (all : List Line) (part : Part) : Type 0 where
-  pub starts : part.start ≤ part.stop
-  pub stops : part.stop ≤ length all
-  pub fits : length (join (texts (lines_at all part))) ≤ text_limit
+-- This file is read; or the fault is the one that is wanted, or `NoMemory`.
+abbrev pub ReadsFile : Result FileRows LoadFault → Tables → Result FileReading LoadFault → Type 0
+ReadsFile (Ok file) t wanted = (wanted ≡ Ok (reading_in t file)) × IsFile t file
+ReadsFile (Err fault) t wanted = (fault ≡ NoMemory) ⊎ (wanted ≡ Err fault)

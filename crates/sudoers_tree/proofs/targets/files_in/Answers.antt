@@ -1,12 +1,13 @@
 use Rattle.std.proofs.Common.{◌≡◌, ◌∙◌, ◌<◌, ◌-◌, ◌+◌, ℕ, List, true, false, length, drop, sym, ap, rules, arith}
 use Rattle.sudoers_tree.specs.Files.{name_of}
 use Rattle.sudoers_tree.specs.Targets.{files_in, is_in_folder, put_in_order}
+use Rattle.sudoers_tree.specs.internal.Files.{files_shown}
 use Rattle.sudoers_tree.proofs.Numbered.{in_folder, out_of_folder}
 use Rattle.sudoers_tree.proofs.targets.files_in.Goals as goal
 
 pub loop-number-preserved-in-Continue-1 : goal.loop-number-preserved-in-Continue-1
 loop-number-preserved-in-Continue-1 c =
-    let files = c.args.files.now.files in
+    let files = files_shown c.args.files.now in
     let folder : List ℕ = c.args.folder.now in
     let number : ℕ = c.loop-number.number in
     let some : 0 < number = search rules in
@@ -21,7 +22,7 @@ loop-number-preserved-in-Continue-1 c =
 
 pub loop-number-preserved : goal.loop-number-preserved
 loop-number-preserved c =
-    let files = c.args.files.now.files in
+    let files = files_shown c.args.files.now in
     let folder : List ℕ = c.args.folder.now in
     let number : ℕ = c.loop-number.number in
     let some : 0 < number = search rules in

@@ -1,12 +1,13 @@
 use Rattle.std.proofs.Common.{◌≡◌, ◌∙◌, ◌<◌, ◌++◌, ℕ, List, true, false, length, take, drop, slice_get, Some, sym, ap, rules}
 use Rattle.std.proofs.lemmas.Option.{slice_get-get_or}
 use Rattle.sudoers_tree.specs.Targets.{is_before, put_in_order}
+use Rattle.sudoers_tree.specs.internal.Files.{files_shown}
 use Rattle.sudoers_tree.proofs.Numbered.{at_end, before_one, behind_one}
 use Rattle.sudoers_tree.proofs.targets.put_in_order.Goals as goal
 
 pub loop-at-preserved : goal.loop-at-preserved
 loop-at-preserved c =
-    let files = c.args.files.now.files in
+    let files = files_shown c.args.files.now in
     let order : List ℕ = c.loop-at.order.items in
     let f : ℕ = c.args.file in
     let n : ℕ = c.loop-at.at in
@@ -19,7 +20,7 @@ loop-at-preserved c =
 
 pub returns-then-is_before : goal.returns-then-is_before
 returns-then-is_before c =
-    let files = c.args.files.now.files in
+    let files = files_shown c.args.files.now in
     let order : List ℕ = c.loop-at.order.items in
     let f : ℕ = c.args.file in
     let n : ℕ = c.loop-at.at in
@@ -32,7 +33,7 @@ returns-then-is_before c =
 
 pub returns : goal.returns
 returns c =
-    let files = c.args.files.now.files in
+    let files = files_shown c.args.files.now in
     let order : List ℕ = c.loop-at.order.items in
     let f : ℕ = c.args.file in
     let n : ℕ = c.loop-at.at in

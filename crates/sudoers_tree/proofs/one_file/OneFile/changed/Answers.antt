@@ -18,8 +18,8 @@ use Rattle.sudoers_tree.proofs.one_file.OneFile.changed.Goals as goal
 pub change-requires-clause-whole : goal.change-requires-clause-whole
 change-requires-clause-whole c =
     let lines : List (List ℕ) = changed c.args.changes.now (texts c.args.self.now) in
-    let same : c.deref_mut-lines.result.now.tree.all ≡ c.args.self.now =
-    ap (λ (held : Indexed). held.tree.all) c.deref_mut-lines.ensures.value ∙ c.self.view_is ∙ c.in_ok-drop_waste.ensures in
+    let same : c.deref_mut-lines.result.now.tree ≡ c.args.self.now =
+    ap (λ (held : Indexed). held.tree) c.deref_mut-lines.ensures.value ∙ c.self.view_is ∙ c.in_ok-drop_waste.ensures in
     subst (λ ls. AllByRecursion IsLogicalLine (changed c.args.changes.now (texts ls))) (sym same)
     (whole_changed 0 c.args.changes.now (texts c.args.self.now) c.lines_are_whole.ensures c.requires.lines)
 
@@ -31,8 +31,8 @@ stopped text fault is (inr read) = inr (subst (IsOutcome text) read is)
 pub returns-in_err-names-clause-fault : goal.returns-in_err-names-clause-fault
 returns-in_err-names-clause-fault c =
     let lines : List (List ℕ) = changed c.args.changes.now (texts c.args.self.now) in
-    let same : c.deref_mut-lines.result.now.tree.all ≡ c.args.self.now =
-    ap (λ (held : Indexed). held.tree.all) c.deref_mut-lines.ensures.value ∙ c.self.view_is ∙ c.in_ok-drop_waste.ensures in
+    let same : c.deref_mut-lines.result.now.tree ≡ c.args.self.now =
+    ap (λ (held : Indexed). held.tree) c.deref_mut-lines.ensures.value ∙ c.self.view_is ∙ c.in_ok-drop_waste.ensures in
     let fault : ReadFault = c.in_err-names.field-0.0 in
     let told : c.from_residual-in_err-names.result ≡ Err fault = search rules in
     let stops : (fault ≡ NoMemory) ⊎ (read_of (join lines) ≡ Err fault) =
@@ -42,19 +42,19 @@ returns-in_err-names-clause-fault c =
 pub returns-clause-lines : goal.returns-clause-lines
 returns-clause-lines c =
     let lines : List (List ℕ) = changed c.args.changes.now (texts c.args.self.now) in
-    let same : c.deref_mut-lines.result.now.tree.all ≡ c.args.self.now =
-    ap (λ (held : Indexed). held.tree.all) c.deref_mut-lines.ensures.value ∙ c.self.view_is ∙ c.in_ok-drop_waste.ensures in
-    let read : read_of (join lines) ≡ Ok c.change.new.self.all =
+    let same : c.deref_mut-lines.result.now.tree ≡ c.args.self.now =
+    ap (λ (held : Indexed). held.tree) c.deref_mut-lines.ensures.value ∙ c.self.view_is ∙ c.in_ok-drop_waste.ensures in
+    let read : read_of (join lines) ≡ Ok c.change.new.self =
     ap (λ ls. read_of (join (changed c.args.changes.now (texts ls)))) (sym same) ∙ c.in_ok-names.ensures.outcome.0 in
-    c.whole_lines_are_read.ensures lines c.change.new.self.all
+    c.whole_lines_are_read.ensures lines c.change.new.self
     (whole_changed 0 c.args.changes.now (texts c.args.self.now) c.lines_are_whole.ensures c.requires.lines) c.requires.ended read
 
 pub invariant_of-self-2 : goal.invariant_of-self-2
 invariant_of-self-2 c =
     let lines : List (List ℕ) = changed c.args.changes.now (texts c.args.self.now) in
-    let same : c.deref_mut-lines.result.now.tree.all ≡ c.args.self.now =
-    ap (λ (held : Indexed). held.tree.all) c.deref_mut-lines.ensures.value ∙ c.self.view_is ∙ c.in_ok-drop_waste.ensures in
-    let new : List Line = c.change.new.self.all in
+    let same : c.deref_mut-lines.result.now.tree ≡ c.args.self.now =
+    ap (λ (held : Indexed). held.tree) c.deref_mut-lines.ensures.value ∙ c.self.view_is ∙ c.in_ok-drop_waste.ensures in
+    let new : List Line = c.change.new.self in
     let read : read_of (join lines) ≡ Ok new =
     ap (λ ls. read_of (join (changed c.args.changes.now (texts ls)))) (sym same) ∙ c.in_ok-names.ensures.outcome.0 in
     let are : texts new ≡ lines =

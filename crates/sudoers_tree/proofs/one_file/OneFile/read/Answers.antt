@@ -41,23 +41,23 @@ is_read text all is outcome = subst (IsOutcome text) outcome is
 pub returns-clause-outcome : goal.returns-clause-outcome
 returns-clause-outcome c =
     is_cut c.args.text.now c.in_ok-lines.lines c.in_ok-lines.ensures.outcome ∙ c.in_ok-index.ensures.0
-    ∙ ap (λ (held : Indexed). Ok held.tree.all) (sym c.in_ok-new.ensures.ok)
+    ∙ ap (λ (held : Indexed). Ok held.tree) (sym c.in_ok-new.ensures.ok)
 
 pub returns-clause-policy : goal.returns-clause-policy
 returns-clause-policy c =
     let outcome =
     is_cut c.args.text.now c.in_ok-lines.lines c.in_ok-lines.ensures.outcome ∙ c.in_ok-index.ensures.0
-    ∙ ap (λ (held : Indexed). Ok held.tree.all) (sym c.in_ok-new.ensures.ok) in
-    is_read c.args.text.now c.in_ok-new.field-0.value.tree.all (c.read_is.ensures c.args.text.now) outcome
+    ∙ ap (λ (held : Indexed). Ok held.tree) (sym c.in_ok-new.ensures.ok) in
+    is_read c.args.text.now c.in_ok-new.field-0.value.tree (c.read_is.ensures c.args.text.now) outcome
 
 pub invariant_of-result : goal.invariant_of-result
 invariant_of-result c =
     let outcome =
     is_cut c.args.text.now c.in_ok-lines.lines c.in_ok-lines.ensures.outcome ∙ c.in_ok-index.ensures.0
-    ∙ ap (λ (held : Indexed). Ok held.tree.all) (sym c.in_ok-new.ensures.ok) in
-    let is = is_read c.args.text.now c.in_ok-new.field-0.value.tree.all (c.read_is.ensures c.args.text.now) outcome in (
+    ∙ ap (λ (held : Indexed). Ok held.tree) (sym c.in_ok-new.ensures.ok) in
+    let is = is_read c.args.text.now c.in_ok-new.field-0.value.tree (c.read_is.ensures c.args.text.now) outcome in (
       ap read_of is.1 ∙ outcome,
       ap length (sym is.1),
-      subst (λ (held : Indexed). Indexes held.index (definitions held.tree.all)) (sym c.in_ok-new.ensures.ok) c.in_ok-index.ensures.1,
+      subst (λ (held : Indexed). Indexes held.index (definitions held.tree)) (sym c.in_ok-new.ensures.ok) c.in_ok-index.ensures.1,
       is.0,
     )

@@ -6,7 +6,7 @@ use Rattle.sudoers_tree.specs.Policy.{texts}
 use Rattle.sudoers_tree.specs.internal.Pieces.{lfs_in}
 use Rattle.sudoers_tree.proofs.ReadPieces.{end_within, reads_text, stand_pushed, stops_text}
 use Rattle.sudoers_tree.proofs.TreeLines.{all_on}
-use Rattle.sudoers_tree.proofs.change.read_text.Goals as goal
+use Rattle.sudoers_tree.proofs.reading.read_text.Goals as goal
 
 pub row_behind-line-requires : goal.row_behind-line-requires
 row_behind-line-requires c =

@@ -1,0 +1,78 @@
+-- Files by their rows.
+use Rattle.std.proofs.Common.{◌≡◌, ℕ, ◌≤◌, List, [], ◌∷◌, ◌++◌, length, map, slice_get, option_map, Option, Some, None, Result, Ok, Err, refl, sym, ap, ap₂, subst, ◌∙◌, arith}
+use Rattle.std.specs.List.{All}
+use Rattle.std.proofs.lemmas.List.Elements.{All-get_or, All-head, All-tail, All-weaker}
+use Rattle.std.proofs.lemmas.List.{length-append}
+use Rattle.std.proofs.lemmas.Option.{get_or_from_slice_get, slice_get-map, slice_get_within}
+use Rattle.sudoers_text.specs.Line.{join}
+use Rattle.sudoers_text.specs.Fault.{text_limit}
+use Rattle.sudoers_line.specs.declared.fault.LineFault.{LineFault}
+use Rattle.sudoers_line.specs.declared.fault.LineFault.TheVariants as line_fault
+use Rattle.sudoers_line.specs.Node.{Node}
+use Rattle.sudoers_line_rows.specs.declared.rows.Tables.{Tables}
+use Rattle.sudoers_line_rows.specs.Tables.{Grown}
+use Rattle.sudoers_line_reader.specs.Outcome.{outcome_of}
+use Rattle.sudoers_tree.specs.declared.files.FileRows.{FileRows}
+use Rattle.sudoers_tree.specs.Line.{Line, line_in}
+use Rattle.sudoers_tree.specs.Policy.{texts}
+use Rattle.sudoers_tree.specs.Files.{FileReading, going_on, lines_in, lines_of, read_until}
+use Rattle.sudoers_tree.specs.internal.Files.{IsFile, reading_in}
+use Rattle.sudoers_tree.proofs.TreeLines.{GrowOn, all_on, same_lines}
+
+-- the file with this number
+reading_at : (t : Tables) (files : List FileRows) (f : ℕ) (o : Option FileRows) → slice_get files f ≡ o → slice_get (map (reading_in t) files) f ≡ option_map (reading_in t) o
+reading_at t files f o is = slice_get-map (reading_in t) files f ∙ ap (option_map (reading_in t)) is
+
+file_at : (t : Tables) (files : List FileRows) (f : ℕ) (file : FileRows) → All (IsFile t) files → slice_get files f ≡ Some file → IsFile t file
+file_at t files f file are is =
+    subst (IsFile t) (get_or_from_slice_get files f file file is) (All-get_or (IsFile t) files f file (slice_get_within files f file is) are)
+
+-- The lines of a file are within the limit of a text.
+pub file_fits : (t : Tables) (files : List FileRows) (f : ℕ) → All (IsFile t) files → length (join (texts (lines_of (map (reading_in t) files) f))) ≤ text_limit
+file_fits t files f are = by (slice_get files f) refl
+  where
+    Fits : Option FileReading → Type 0
+    Fits o = length (join (texts (lines_in o))) ≤ text_limit
+
+    by : (o : Option FileRows) → slice_get files f ≡ o → length (join (texts (lines_of (map (reading_in t) files) f))) ≤ text_limit
+    by None is = subst Fits (sym (reading_at t files f None is)) (omega arith)
+    by (Some file) is = subst Fits (sym (reading_at t files f (Some file) is)) (file_at t files f file are is).fits
+
+-- ---- tables that grow
+
+file_on : GrowOn → (t u : Tables) → Grown t u → (file : FileRows) → IsFile t file → IsFile u file
+file_on on t u g file is = record {
+  stand = all_on on t u g file.rows.items is.stand;
+  fits = subst (λ (ls : List Line). length (join (texts ls)) ≤ text_limit) (sym (same_lines t u g file.rows.items is.stand)) is.fits;
+}
+
+pub files_on : GrowOn → (t u : Tables) → Grown t u → (files : List FileRows) → All (IsFile t) files → All (IsFile u) files
+files_on on t u g files are = All-weaker (IsFile t) (IsFile u) (file_on on t u g) files are
+
+pub same_files : (t u : Tables) → Grown t u → (files : List FileRows) → All (IsFile t) files → map (reading_in u) files ≡ map (reading_in t) files
+same_files t u g [] are = refl
+same_files t u g (file ∷ files) are =
+    ap₂ (λ (ls : List Line) (rs : List FileReading). let r : FileReading = record { name = file.name; lines = ls; fault = file.fault } in r ∷ rs)
+    (same_lines t u g file.rows.items (All-head (IsFile t) file files are).stand)
+    (same_files t u g files (All-tail (IsFile t) file files are))
+
+-- ---- the lines that are read of a text
+
+-- The lines that are read are no longer than all.
+pub read_fits : (before : List Line) (lines : List (List ℕ)) → length (join (texts (read_until before lines).0)) ≤ length (join lines)
+read_fits before [] = omega arith
+read_fits before (text ∷ more) = by (outcome_of text) refl (λ line. read_fits (before ++ line ∷ []) more)
+  where
+    Later : Type 0
+    Later = (line : Line) → length (join (texts (read_until (before ++ line ∷ []) more).0)) ≤ length (join more)
+
+    Fits : Result Node LineFault → Type 0
+    Fits o = length (join (texts (going_on before text o (λ line. read_until (before ++ line ∷ []) more)).0)) ≤ length (join (text ∷ more))
+
+    by : (o : Result Node LineFault) → outcome_of text ≡ o → Later → Fits (outcome_of text)
+    by (Ok says) is later =
+        let line : Line = record { text = text; node = says } in
+        let rest = (read_until (before ++ line ∷ []) more).0 in
+        subst Fits (sym is) (omega (arith, later line, length-append text (join (texts rest)), length-append text (join more)))
+    by (Err (line_fault.Syntax at why)) is later = subst Fits (sym is) (omega arith)
+    by (Err line_fault.NoMemory) is later = subst Fits (sym is) (omega arith)
