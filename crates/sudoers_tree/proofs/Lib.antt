@@ -16,6 +16,8 @@ pub mod Visits
 pub mod WalkOutcomes
 pub mod WalkSound
 pub mod WalkSize
+pub mod ParsedFiles
+pub mod KeptFiles
 pub mod OffWalk
 pub mod Loads
 pub mod SaidLines

@@ -184,11 +184,12 @@ off_same w now n (file ∷ files) is = by_test (is_on w n) is (off_same w now (n
     by_test true e later = later e
     by_test false e later = by_fault (fault_off file) e later
 
--- Loaded files are read, and this is the walk over them.
+-- Loaded files are read, and this is the walk over them. No file that is not on it has a fault.
 pub record IsLoad (files : List NamedFile) (now : Loaded) : Type 0 where
   pub few : length files ≤ file_limit
   pub reads : readings [] files ≡ Ok now.files
   pub walks : walk_of now.files ≡ Ok now.walk
+  pub off : unless_off now.walk 0 now.files ≡ Ok now.walk
 
 loaded_is : (p now : Loaded) → (let r : Result Loaded LoadFault = Ok p in r) ≡ Ok now → p ≡ now
 loaded_is p now is = cc
@@ -206,7 +207,12 @@ loaded_as files now is = by_count (nat_lt file_limit (length files)) refl is
             let whole = loaded_is (record { files = read; walk = v }) now e in
             let same : read ≡ now.files = ap (λ (x : Loaded). x.files) whole in
             let last : w ≡ now.walk = off_same w v 0 read off ∙ ap (λ (x : Loaded). x.walk) whole in
-            record { few = few; reads = reads ∙ ap (λ fs. Ok fs) same; walks = ap walk_of (sym same) ∙ walk ∙ ap (λ v. Ok v) last }
+            record {
+              few = few;
+              reads = reads ∙ ap (λ fs. Ok fs) same;
+              walks = ap walk_of (sym same) ∙ walk ∙ ap (λ v. Ok v) last;
+              off = ap (unless_off now.walk 0) (sym same) ∙ ap (λ v. unless_off v 0 read) (sym last) ∙ off ∙ ap (λ (x : Loaded). Ok x.walk) whole;
+            }
         by_off (Err fault) off e = absurd cc
     by_walk (Err fault) read few reads walk e = absurd cc
 

@@ -15,6 +15,7 @@ use Rattle.sudoers_tree.specs.declared.load.NamedFile.{NamedFile}
 use Rattle.sudoers_tree.specs.declared.load_fault.LoadFault.{LoadFault}
 use Rattle.sudoers_tree.specs.declared.load_fault.LoadFault.TheVariants.{InFile, SameName, TooManyFiles}
 use Rattle.sudoers_tree.specs.Definition.{Definition, definitions_in}
+use Rattle.sudoers_tree.specs.Policy.{texts}
 use Rattle.sudoers_tree.specs.Fault.{syntax_fault}
 use Rattle.sudoers_tree.specs.Reading.{or_later}
 use Rattle.sudoers_tree.specs.Policy.{texts}
@@ -80,6 +81,14 @@ unless_off w n (file ∷ files) =
 pub record Loaded : Type 0 where
   pub files : List FileReading
   pub walk : Walked
+
+-- a file that is read, with its bytes: those of its lines
+abbrev pub file_of : FileReading → NamedFile
+file_of file = record { name = file.name; bytes = join (texts file.lines) }
+
+-- the files of a policy with their bytes
+abbrev pub files_of : Loaded → List NamedFile
+files_of policy = map file_of policy.files
 
 -- the walk over files that are read; or the first fault of the walk, or else that of a file that is not on it
 abbrev pub walked_over : List FileReading → Result Walked LoadFault

@@ -1,6 +1,6 @@
 //! Laws of policies. Each is the contract of a function that does nothing.
 
-ghost use Rattle.std.specs.Prelude.{◌≡◌, ◌≤◌, ◌<◌, ◌+◌, ◌-◌, ◌*◌, List, [], ◌∷◌, ◌++◌, ℕ, Option, option_to_list, length, take, drop, insert, remove, nat_eq, false, Ok, Result, Some};
+ghost use Rattle.std.specs.Prelude.{◌≡◌, ◌≤◌, ◌<◌, ◌+◌, ◌-◌, ◌*◌, List, [], ◌∷◌, ◌++◌, ℕ, Option, option_to_list, length, take, drop, insert, remove, nat_eq, false, Ok, Result, Some, None};
 ghost use Rattle.sudoers_text.specs.Ended.{has_unended_inside};
 ghost use Rattle.sudoers_text.specs.Line.{join};
 ghost use Rattle.sudoers_text.specs.Whole.{IsLogicalLine};
@@ -184,6 +184,16 @@ pub fn loaded_is_within()
     ensures within { (files : List NamedFileOf) (policy : Loaded) → load_of files ≡ Ok policy → length (join (texts policy.walk.lines)) ≤ file_limit * text_limit }
 {
     cut_is();
+}
+
+/// Loaded files keep their names and their bytes. Each of their lines parses.
+pub fn loaded_files_are()
+    ensures bytes { (files : List NamedFileOf) (policy : Loaded) → load_of files ≡ Ok policy → files_of policy ≡ files }
+    ensures parse { (files : List NamedFileOf) (policy : Loaded) → load_of files ≡ Ok policy
+        → AllByRecursion (λ (file : FileReading). file.fault ≡ None) policy.files }
+{
+    cut_is();
+    reads_is();
 }
 
 /// `walk_of` computes the walk over files that `IsWalkOf` defines, and `IsWalkOf` defines no other.
