@@ -15,7 +15,8 @@ use Rattle.sudoers_line_reader.specs.Outcome.{outcome_of}
 use Rattle.sudoers_tree.specs.declared.files.FileRows.{FileRows}
 use Rattle.sudoers_tree.specs.Line.{Line, line_in}
 use Rattle.sudoers_tree.specs.Policy.{texts}
-use Rattle.sudoers_tree.specs.Files.{FileReading, going_on, lines_in, lines_of, read_until}
+use Rattle.sudoers_tree.specs.declared.fault.SyntaxFault.{SyntaxFault}
+use Rattle.sudoers_tree.specs.Files.{FileReading, going_on, lines_in, lines_of, read_until, reading_by, reading_of}
 use Rattle.sudoers_tree.specs.internal.Files.{IsFile, reading_in}
 use Rattle.sudoers_tree.proofs.TreeLines.{GrowOn, all_on, same_lines}
 
@@ -76,3 +77,17 @@ read_fits before (text ∷ more) = by (outcome_of text) refl (λ line. read_fits
         subst Fits (sym is) (omega (arith, later line, length-append text (join (texts rest)), length-append text (join more)))
     by (Err (line_fault.Syntax at why)) is later = subst Fits (sym is) (omega arith)
     by (Err line_fault.NoMemory) is later = subst Fits (sym is) (omega arith)
+
+-- a file of which the lines are read
+pub read_as : (t : Tables) (file : FileRows) (name : List ℕ) (lines : List (List ℕ)) → file.name ≡ name
+    → (let r : List Line × Option SyntaxFault = (map (line_in t) file.rows.items, file.fault) in r) ≡ read_until [] lines → reading_in t file ≡ reading_of name lines
+unfolding reading_of
+read_as t file name lines named is = ap₂ reading_by named is
+
+pub read_within : (t : Tables) (file : FileRows) (lines : List (List ℕ))
+    → (let r : List Line × Option SyntaxFault = (map (line_in t) file.rows.items, file.fault) in r) ≡ read_until [] lines → length (join lines) ≤ text_limit
+    → length (join (texts (map (line_in t) file.rows.items))) ≤ text_limit
+read_within t file lines is fits =
+    let same : length (join (texts (map (line_in t) file.rows.items))) ≡ length (join (texts (read_until [] lines).0)) =
+    ap (λ (r : List Line × Option SyntaxFault). length (join (texts r.0))) is in
+    omega (arith, same, read_fits [] lines, fits)

@@ -42,14 +42,10 @@ pub not_read : (files : List NamedFile) (fault : LoadFault) (whole : Result Load
 not_read files fault whole is (inl memory) = inl memory
 not_read files fault whole is (inr e) = inr (is ∙ ap (λ r. and_then r loaded_over) e)
 
-pub not_walked : (files : List NamedFile) (read : List FileReading) (fault : LoadFault) (whole : Result Loaded LoadFault)
-    → whole ≡ and_then (readings [] files) loaded_over → readings [] files ≡ Ok read → Stops fault (walked_over read) → Stops fault whole
-not_walked files read fault whole is r (inl memory) = inl memory
-not_walked files read fault whole is r (inr e) = inr (is ∙ ap (λ o. and_then o loaded_over) r ∙ ap (λ o. and_then o (λ w. Ok (record { files = read; walk = w }))) e)
-
-pub all_walked : (files : List NamedFile) (read : List FileReading) (w : Walked) (whole : Result Loaded LoadFault)
-    → whole ≡ and_then (readings [] files) loaded_over → readings [] files ≡ Ok read → walked_over read ≡ Ok w → whole ≡ Ok (record { files = read; walk = w })
-all_walked files read w whole is r e = is ∙ ap (λ o. and_then o loaded_over) r ∙ ap (λ o. and_then o (λ w. Ok (record { files = read; walk = w }))) e
+-- files that are read
+pub loads_over : (files : List NamedFile) (read : List FileReading) → nat_lt file_limit (length files) ≡ false → first_repeated [] files ≡ None
+    → readings [] files ≡ Ok read → load_of files ≡ loaded_over read
+loads_over files read few once is = loads_as files few once ∙ ap (λ o. and_then o loaded_over) is
 
 -- ---- the walk and the files that are not on it
 

@@ -63,19 +63,15 @@ not_followed visit files f n lines line w now fault at t is =
 
 -- ---- the fault with which a walk ends, or want of memory
 
-pub take_stops : (visit : Visit) (files other : List FileReading) (f n : ℕ) (lines : List Line) (line : Line) (w : Walked) (fault : LoadFault)
-    (whole : Result Walked LoadFault) → other ≡ files → slice_get lines n ≡ Some line → walk_lines visit files f n (drop n lines) w ≡ whole
-    → (fault ≡ NoMemory) ⊎ (taken (name_of other f) (spot_of files f n) line w ≡ Err fault) → (fault ≡ NoMemory) ⊎ (whole ≡ Err fault)
-take_stops visit files other f n lines line w fault whole same at begun (inl memory) = inl memory
-take_stops visit files other f n lines line w fault whole same at begun (inr t) =
-    inr (sym begun ∙ not_taken visit files f n lines line w fault at
-    (subst (λ fs. taken (name_of fs f) (spot_of files f n) line w ≡ Err fault) same t))
+pub take_stops : (visit : Visit) (files : List FileReading) (f n : ℕ) (lines : List Line) (line : Line) (w : Walked) (fault : LoadFault)
+    (whole : Result Walked LoadFault) → slice_get lines n ≡ Some line → walk_lines visit files f n (drop n lines) w ≡ whole
+    → (fault ≡ NoMemory) ⊎ (taken (name_of files f) (spot_of files f n) line w ≡ Err fault) → (fault ≡ NoMemory) ⊎ (whole ≡ Err fault)
+take_stops visit files f n lines line w fault whole at begun (inl memory) = inl memory
+take_stops visit files f n lines line w fault whole at begun (inr t) = inr (sym begun ∙ not_taken visit files f n lines line w fault at t)
 
-pub follow_stops : (visits : List FileReading → Visit) (files other : List FileReading) (f n : ℕ) (lines : List Line) (line : Line) (w now : Walked)
-    (fault : LoadFault) (whole : Result Walked LoadFault) → other ≡ files → slice_get lines n ≡ Some line
-    → walk_lines (visits files) files f n (drop n lines) w ≡ whole → taken (name_of files f) (spot_of files f n) line w ≡ Ok now
-    → (fault ≡ NoMemory) ⊎ (followed (visits other) other f n line now ≡ Err fault) → (fault ≡ NoMemory) ⊎ (whole ≡ Err fault)
-follow_stops visits files other f n lines line w now fault whole same at begun t (inl memory) = inl memory
-follow_stops visits files other f n lines line w now fault whole same at begun t (inr is) =
-    inr (sym begun ∙ not_followed (visits files) files f n lines line w now fault at t
-    (subst (λ fs. followed (visits fs) fs f n line now ≡ Err fault) same is))
+pub follow_stops : (visit : Visit) (files : List FileReading) (f n : ℕ) (lines : List Line) (line : Line) (w now : Walked)
+    (fault : LoadFault) (whole : Result Walked LoadFault) → slice_get lines n ≡ Some line
+    → walk_lines visit files f n (drop n lines) w ≡ whole → taken (name_of files f) (spot_of files f n) line w ≡ Ok now
+    → (fault ≡ NoMemory) ⊎ (followed visit files f n line now ≡ Err fault) → (fault ≡ NoMemory) ⊎ (whole ≡ Err fault)
+follow_stops visit files f n lines line w now fault whole at begun t (inl memory) = inl memory
+follow_stops visit files f n lines line w now fault whole at begun t (inr is) = inr (sym begun ∙ not_followed visit files f n lines line w now fault at t is)

@@ -120,7 +120,7 @@ Enters (Err (Twice row name)) index before ds = first_name_fault before ds ≡ S
 Enters (Err (TooDeep row)) index before ds = first_name_fault before ds ≡ Some (TooDeep row)
 Enters (Err NoMemory) index before ds = Unit {0}
 
--- the lines that are read, with their names, or the first fault
-abbrev pub ReadsAll : Result (List Line × Index) ReadFault → Result (List Line) ReadFault → Type 0
-ReadsAll (Ok read) wanted = (wanted ≡ Ok read.0) × Indexes read.1 (definitions read.0)
-ReadsAll (Err fault) wanted = (fault ≡ NoMemory) ⊎ (wanted ≡ Err fault)
+-- the names of the lines that are read, or the first fault
+abbrev pub ReadsAll : Result Index ReadFault → List Line → Result (List Line) ReadFault → Type 0
+ReadsAll (Ok index) read wanted = (wanted ≡ Ok read) × Indexes index (definitions read)
+ReadsAll (Err fault) read wanted = (fault ≡ NoMemory) ⊎ (wanted ≡ Err fault)

@@ -15,7 +15,6 @@ use Rattle.sudoers_tree.specs.declared.load.NamedFile.{NamedFile}
 use Rattle.sudoers_tree.specs.declared.load_fault.LoadFault.{LoadFault}
 use Rattle.sudoers_tree.specs.declared.load_fault.LoadFault.TheVariants.{InFile, SameName, TooManyFiles}
 use Rattle.sudoers_tree.specs.Definition.{Definition, definitions_in}
-use Rattle.sudoers_tree.specs.Policy.{texts}
 use Rattle.sudoers_tree.specs.Fault.{syntax_fault}
 use Rattle.sudoers_tree.specs.Reading.{or_later}
 use Rattle.sudoers_tree.specs.Policy.{texts}
@@ -100,14 +99,6 @@ loaded_over read = and_then (walked_over read) (λ w. Ok (record { files = read;
 -- the list of one file, which has the name `policy` and this text
 abbrev pub one_file : List ℕ → List NamedFile
 one_file text = record { name = codes "policy"; bytes = text } ∷ []
-
--- a file that is read, with its bytes: those of its lines
-abbrev pub file_of : FileReading → NamedFile
-file_of file = record { name = file.name; bytes = join (texts file.lines) }
-
--- the files of a policy with their bytes
-abbrev pub files_of : Loaded → List NamedFile
-files_of policy = map file_of policy.files
 
 -- The line stands at the spot: it is that line of that file, and begins on that row.
 pub record StandsAt (files : List FileReading) (at : Spot) (line : Line) : Type 0 where

@@ -1,6 +1,6 @@
 //! Files that are read.
 
-ghost use Rattle.std.specs.Prelude.{◌≡◌, ◌≤◌, ◌+◌, ℕ, length, slice_get, option_map, IfOk, Some};
+ghost use Rattle.std.specs.Prelude.{◌≡◌, ◌≤◌, ◌+◌, ℕ, length, slice_get, option_map, IfOk, IfSome, Some};
 ghost use Rattle.std.specs.Option.{option_copied};
 ghost use Rattle.sudoers_text.specs.Line.{join};
 ghost use Rattle.sudoers_text.specs.Fault.{text_limit};
@@ -12,6 +12,7 @@ ghost use Rattle.sudoers_tree.specs.Load.{reserved_in};
 ghost use Rattle.sudoers_tree.specs.Reading.{or_later};
 ghost use Rattle.sudoers_tree.specs.Policy.{texts};
 ghost use Rattle.sudoers_tree.specs.internal.Files.{AreFiles, files_shown};
+ghost use Rattle.sudoers_tree.specs.internal.Tree.{Stands};
 
 use crate::fault::{ReadFault, SyntaxFault};
 use crate::index::first_reserved;
@@ -84,7 +85,8 @@ impl<'a> Files<'a> {
 
     /// Returns the row of the line with the number `number` of the file with the number `file`, both from 0.
     pub fn line_row(&self, file: usize, number: usize) -> Option<&'a LineRow>
-        ensures { option_map (λ row. line_in self.now.tables.now row.now) result ≡ slice_get (lines_of (files_shown self.now) file) number }
+        ensures line { option_map (λ row. line_in self.now.tables.now row.now) result ≡ slice_get (lines_of (files_shown self.now) file) number }
+        ensures stands { AreFiles self.now → IfSome result (λ row. Stands self.now.tables.now row.now) }
     {
         self.files.get(file)?.rows.get(number)
     }

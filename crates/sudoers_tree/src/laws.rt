@@ -152,14 +152,6 @@ pub fn loaded_is_walk()
     outcome_is();
 }
 
-/// Loaded files keep their names and their bytes. Each of their lines parses.
-pub fn loaded_files_are()
-    ensures bytes { (files : List NamedFileOf) (policy : Loaded) → load_of files ≡ Ok policy → files_of policy ≡ files }
-{
-    cut_is();
-    outcome_is();
-}
-
 /// Each line of the walk over loaded files stands at its spot.
 pub fn loaded_lines_stand()
     ensures { (files : List NamedFileOf) (policy : Loaded) → load_of files ≡ Ok policy → StandAt policy.files policy.walk.spots policy.walk.lines }

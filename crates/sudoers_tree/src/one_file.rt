@@ -17,10 +17,11 @@ ghost use Rattle.sudoers_tree.specs.Definition.{place_of, members_of};
 ghost use Rattle.sudoers_tree.specs.Mention.{mentions};
 ghost use Rattle.sudoers_tree.specs.Policy.{IsPolicy, texts};
 ghost use Rattle.sudoers_tree.specs.Fault.{IsFaultOf};
+ghost use Rattle.sudoers_tree.specs.Files.{read_until};
 ghost use Rattle.sudoers_tree.specs.Reading.{read_behind, read_of, ReadGives};
 ghost use Rattle.sudoers_tree.specs.Index.{ReadsAll};
 
-use crate::fault::ReadFault;
+use crate::fault::{ReadFault, SyntaxFault};
 use crate::index::Index;
 use crate::kind::LineKind;
 use crate::laws::{lines_are_short, lines_are_whole, read_is, whole_lines_are_read};
@@ -38,7 +39,7 @@ use std::marker::Model;
 use sudoers_line::{Items, Kind};
 use sudoers_line_reader::laws::outcome_is;
 use sudoers_line_rows::{MemberRow, Node, Rows};
-use sudoers_text::{Lines, cut};
+use sudoers_text::cut;
 
 /// A policy of one text. No include line of it is followed. Contracts see the list of its lines with what they say.
 #[derive(Drop)]
@@ -91,7 +92,8 @@ impl OneFile {
     {
         read_is();
         let lines = cut(alloc, text)?;
-        let (tree, index) = read_all(alloc, &lines)?;
+        let (tree, fault) = Tree::read(alloc, &lines)?;
+        let index = index_of(alloc, &tree, fault)?;
         Ok(OneFile {
             lines: Box::new(alloc, Indexed { tree, index })?,
             size: text.len(),
@@ -321,18 +323,16 @@ impl OneFile {
     }
 }
 
-/// Reads the lines `lines`. Returns them with the names that they define, or the first fault.
-fn read_all(alloc: Global, lines: &Lines<'_>) -> Result<(Tree, Index), ReadFault>
-    requires { length (join lines.now) ≤ text_limit }
-    ensures { ReadsAll result (read_behind [] lines.now) }
+/// Returns the names that the lines `tree` define, or the first fault. `fault` is that of the line after them, if it does not parse.
+fn index_of(alloc: Global, tree: &Tree, fault: Option<SyntaxFault>) -> Result<Index, ReadFault>
+    ensures { (lines : List (List ℕ)) → read_until [] lines ≡ (tree.now, fault) → ReadsAll result tree.now (read_behind [] lines) }
 {
     outcome_is();
-    let (tree, fault) = Tree::read(alloc, lines)?;
     let mut index = Index::new(alloc);
     let names = enter_lines(alloc, &index, &tree.all())?;
     if let Some(fault) = fault {
         return Err(fault.into());
     }
     index.renew(names);
-    Ok((tree, index))
+    Ok(index)
 }

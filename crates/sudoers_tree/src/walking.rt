@@ -1,7 +1,6 @@
 //! The walk over files: the lines of the first, each include line followed by the walk of the files to which it leads.
 
-ghost use Rattle.std.specs.Prelude.{◌≡◌, ◌⊎◌, slice_get, option_map, IfOk, MatchResult, None, Some, Ok, Err};
-ghost use Rattle.sudoers_line_rows.specs.declared.rows.Tables.{Tables as TablesOf};
+ghost use Rattle.std.specs.Prelude.{◌≡◌, ◌⊎◌, slice_get, option_map, IfOk, OnOk, MatchResult, None, Some, Ok, Err};
 ghost use Rattle.sudoers_tree.specs.Files.{fault_of, lines_of, name_of as the_name};
 ghost use Rattle.sudoers_tree.specs.Fault.{syntax_fault};
 ghost use Rattle.sudoers_tree.specs.Line.{Line as LineOf};
@@ -9,7 +8,7 @@ ghost use Rattle.sudoers_tree.specs.Load.{unless_off, walked_over};
 ghost use Rattle.sudoers_tree.specs.declared.fault.ReadFault.TheVariants.{NotLoaded, TooDeep};
 ghost use Rattle.sudoers_tree.specs.declared.load_fault.LoadFault.TheVariants.{InFile, NoMemory};
 ghost use Rattle.sudoers_tree.specs.Targets.{lead_name};
-ghost use Rattle.sudoers_tree.specs.Walk.{Walked, enter, first_on, is_on, leads_to, nothing, opened, site, taken, twice, unless_in, visit, walk_lines};
+ghost use Rattle.sudoers_tree.specs.Walk.{enter, first_on, is_on, leads_to, nothing, opened, site, taken, twice, unless_in, visit, walk_lines};
 ghost use Rattle.sudoers_tree.specs.internal.Files.{AreFiles, files_shown};
 ghost use Rattle.sudoers_tree.specs.internal.Walking.{Comes, IsWalking, followed, walked};
 
@@ -131,19 +130,6 @@ fn too_deep(alloc: Global, files: &Files<'_>, at: Spot) -> Result<LoadFault, All
     })
 }
 
-/// Returns `Ok` if each line of the file with the number `file` parses, and else the fault of the first line that does not.
-fn end_of(alloc: Global, files: &Files<'_>, file: usize) -> Result<(), LoadFault>
-    ensures { (walk : Walked) → MatchResult result
-        (λ _. fault_of (files_shown files.now) file ≡ None)
-        (λ fault. (fault ≡ NoMemory)
-        ⊎ (unless_in (the_name (files_shown files.now) file) walk (option_map syntax_fault (fault_of (files_shown files.now) file)) ≡ Err fault)) }
-{
-    match files.fault(file) {
-        Some(fault) => Err(in_file(alloc, files, file, fault.into())),
-        None => Ok(()),
-    }
-}
-
 impl Walking {
     /// Returns an empty walk, with room for all lines of the files `files`.
     ///
@@ -163,18 +149,18 @@ impl Walking {
     }
 
     /// Returns whether the file with the number `file` is on the walk.
-    fn is_on(&self, file: usize) -> bool
-        ensures { (tables : TablesOf) → result ≡ is_on (walked tables self.now) file }
+    fn is_on(&self, files: &Files<'_>, file: usize) -> bool
+        ensures { result ≡ is_on (walked files.now.tables.now self.now) file }
     {
         self.on.contains(&file)
     }
 
     /// Returns the first of the files `inner` that is on the walk.
-    fn first_on(&self, inner: &[usize]) -> Option<usize>
-        ensures { (tables : TablesOf) → result ≡ first_on (walked tables self.now) inner.now }
+    fn first_on(&self, files: &Files<'_>, inner: &[usize]) -> Option<usize>
+        ensures { result ≡ first_on (walked files.now.tables.now self.now) inner.now }
     {
         for file in inner {
-            if self.is_on(*file) {
+            if self.is_on(files, *file) {
                 return Some(*file);
             }
         }
@@ -191,7 +177,8 @@ impl Walking {
     ) -> Result<(), LoadFault>
         requires files { AreFiles files.now }
         requires walking { IsWalking files.now known.now self.old }
-        ensures { (line : LineOf) → slice_get (lines_of (files_shown files.now) at.file) at.line ≡ Some line
+        ensures kept { OnOk result (IsWalking files.now known.now self.new) }
+        ensures comes { (line : LineOf) → slice_get (lines_of (files_shown files.now) at.file) at.line ≡ Some line
             → Comes result files.now known.now self.new (taken (the_name (files_shown files.now) at.file) at line (walked files.now.tables.now self.old)) }
     {
         let Some(row) = files.line_row(at.file, at.line) else {
@@ -227,10 +214,24 @@ impl Walking {
         let Some(inner) = targets(alloc, files, &lead)? else {
             return Err(not_loaded(alloc, files, at, lead)?);
         };
-        if let Some(file) = self.first_on(inner.as_slice()) {
+        if let Some(file) = self.first_on(files, inner.as_slice()) {
             return Err(twice(alloc, files, at, file)?);
         }
         Ok(inner)
+    }
+
+    /// Returns `Ok` if each line of the file with the number `file` parses, and else the fault of the first line that does not.
+    fn end(&self, alloc: Global, files: &Files<'_>, file: usize) -> Result<(), LoadFault>
+        ensures { MatchResult result
+            (λ _. fault_of (files_shown files.now) file ≡ None)
+            (λ fault. (fault ≡ NoMemory)
+            ⊎ (unless_in (the_name (files_shown files.now) file) (walked files.now.tables.now self.now)
+            (option_map syntax_fault (fault_of (files_shown files.now) file)) ≡ Err fault)) }
+    {
+        match files.fault(file) {
+            Some(fault) => Err(in_file(alloc, files, file, fault.into())),
+            None => Ok(()),
+        }
     }
 
     /// Returns the first fault of the files that are not on the walk, if there is one.
@@ -240,7 +241,7 @@ impl Walking {
             (λ fault. (fault ≡ NoMemory) ⊎ (unless_off (walked files.now.tables.now self.now) 0 (files_shown files.now) ≡ Err fault)) }
     {
         for file in 0..files.len() {
-            if self.is_on(file) {
+            if self.is_on(files, file) {
                 continue;
             }
             if let Some(fault) = files.fault_off(alloc, file)? {
@@ -275,7 +276,7 @@ impl Walking {
             self.follow(alloc, files, known, left, at)?;
             row = files.row_behind(file, line, row);
         }
-        end_of(alloc, files, file)
+        self.end(alloc, files, file)
     }
 
     #[cycle(walk)]
@@ -300,7 +301,7 @@ impl Walking {
         }
         let inner = self.open(alloc, files, at)?;
         for file in inner.as_slice() {
-            if self.is_on(*file) {
+            if self.is_on(files, *file) {
                 return Err(twice(alloc, files, at, *file)?);
             }
             self.visit(alloc, files, known, left, at, *file)?;

@@ -1,37 +1,59 @@
-use Rattle.std.proofs.Common.{◌≡◌, ◌∙◌, length, Some, Err, sym, ap, ap₂, subst, rules, arith}
-use Rattle.sudoers_tree.specs.Files.{fault_at}
-use Rattle.sudoers_line.specs.declared.fault.LineFault.TheVariants.{Syntax}
-use Rattle.sudoers_line_reader.specs.Outcome.{LineGives, outcome_of}
+use Rattle.std.proofs.Common.{◌≡◌, ◌+◌, ◌≤◌, ◌∷◌, [], ◌∙◌, ℕ, List, drop, length, map, Some, None, sym, ap, subst, rules, arith, append-nil}
 use Rattle.std.proofs.lemmas.List.{drop_all}
-use Rattle.std.proofs.lemmas.Option.{slice_get_within}
-use Rattle.sudoers_tree.proofs.ReadUntil.{all_read, broken_read, one_read, row_fits}
+use Rattle.sudoers_text.specs.Fault.{text_limit}
+use Rattle.sudoers_text.specs.Line.{join}
+use Rattle.sudoers_tree.specs.Line.{Line, line_in}
+use Rattle.sudoers_tree.specs.Policy.{texts}
+use Rattle.sudoers_tree.specs.internal.Pieces.{ReadsOn}
+use Rattle.sudoers_tree.proofs.Numbered.{drop_at}
+use Rattle.sudoers_tree.proofs.ReadUntil.{all_read, more_fits, more_read, more_stops}
 use Rattle.sudoers_tree.proofs.reading.read_lines.Goals as goal
+
+pub read_text-requires-clause-fits : goal.read_text-requires-clause-fits
+read_text-requires-clause-fits c =
+    let lines : List (List ℕ) = c.args.lines.now in
+    let n : ℕ = c.loop-number.number in
+    let text : List ℕ = c.in-Some.text.now in
+    let first : drop n lines ≡ text ∷ drop (n + 1) lines = drop_at lines n text (sym c.in-Some.ensures) in
+    let fits : length (join (texts (map (line_in c.loop-number.tables) c.loop-number.rows.items))) + length (join (text ∷ [])) ≤ text_limit =
+    more_fits lines (map (line_in c.loop-number.tables) c.loop-number.rows.items) (drop n lines) (text ∷ []) (drop (n + 1) lines) first c.loop-number.invariant.2 c.requires.fits in
+    omega (arith, fits, ap length (append-nil text))
+
+pub returns-in_err-fault-clause-grown : goal.returns-in_err-fault-clause-grown
+returns-in_err-fault-clause-grown c =
+    c.growth_goes_on.ensures.on c.args.tables.now c.loop-number.tables c.read_text.new.tables c.loop-number.invariant.0 c.in_err-fault.ensures.grown
+
+pub returns-in-Some-2-clause-grown : goal.returns-in-Some-2-clause-grown
+returns-in-Some-2-clause-grown c =
+    c.growth_goes_on.ensures.on c.args.tables.now c.loop-number.tables c.read_text.new.tables c.loop-number.invariant.0 c.in_ok-fault.ensures.grown
+
+pub returns-in-Some-2-clause-read : goal.returns-in-Some-2-clause-read
+returns-in-Some-2-clause-read c =
+    let lines : List (List ℕ) = c.args.lines.now in
+    let n : ℕ = c.loop-number.number in
+    let text : List ℕ = c.in-Some.text.now in
+    let first : drop n lines ≡ text ∷ drop (n + 1) lines = drop_at lines n text (sym c.in-Some.ensures) in
+    let before : List Line = map (line_in c.loop-number.tables) c.loop-number.rows.items in
+    let after : List Line = map (line_in c.read_text.new.tables) c.read_text.new.rows.items in
+    more_stops lines before after (drop n lines) (text ∷ []) (drop (n + 1) lines) c.in-Some-2.fault first c.loop-number.invariant.2
+    (subst (λ f. ReadsOn f before after (text ∷ [])) c.in-Some-2.is c.in_ok-fault.ensures.read)
 
 pub loop-number-preserved : goal.loop-number-preserved
 loop-number-preserved c =
-    one_read c.args.tree.now c.loop-number.tree c.read.new.self c.args.lines.now c.loop-number.number
-    c.in-Some.text.now c.in-Ok.ensures.0 c.loop-number.invariant (sym c.in-Some.ensures) c.in-Ok.ensures.1 c.in-Ok.ensures.2
+    let lines : List (List ℕ) = c.args.lines.now in
+    let n : ℕ = c.loop-number.number in
+    let text : List ℕ = c.in-Some.text.now in
+    let first : drop n lines ≡ text ∷ drop (n + 1) lines = drop_at lines n text (sym c.in-Some.ensures) in
+    let before : List Line = map (line_in c.loop-number.tables) c.loop-number.rows.items in
+    let after : List Line = map (line_in c.read_text.new.tables) c.read_text.new.rows.items in (
+      c.growth_goes_on.ensures.on c.args.tables.now c.loop-number.tables c.read_text.new.tables c.loop-number.invariant.0 c.in_ok-fault.ensures.grown,
+      c.in_ok-fault.ensures.stand,
+      more_read lines before after (drop n lines) (text ∷ []) (drop (n + 1) lines) first c.loop-number.invariant.2
+          (subst (λ f. ReadsOn f before after (text ∷ [])) c.in_default-2.is c.in_ok-fault.ensures.read),
+    )
 
-pub row_behind-row-requires-clause-there : goal.row_behind-row-requires-clause-there
-row_behind-row-requires-clause-there c =
-    let within = slice_get_within c.args.lines.now c.loop-number.number c.in-Some.text.now (sym c.in-Some.ensures) in
-    omega (arith, within)
-
-pub fault_at-requires : goal.fault_at-requires
-fault_at-requires c =
-    row_fits c.args.lines.now c.loop-number.number c.row_behind-row.result c.in-Some.text.now c.row_behind-row.ensures (sym c.in-Some.ensures) c.requires.fits
-
-pub returns-in-Err-Syntax : goal.returns-in-Err-Syntax
-returns-in-Err-Syntax c =
-    let is : outcome_of c.in-Some.text.now ≡ Err (Syntax c.in-Err-Syntax.at c.in-Err-Syntax.why) =
-    subst (λ fault. LineGives (Err fault) (outcome_of c.in-Some.text.now)) c.in-Err-Syntax.field-0-is c.in-Err-Syntax.ensures.1 in
-    let broken =
-    broken_read c.args.tree.now c.loop-number.tree c.args.lines.now c.loop-number.number c.row_behind-row.result c.in-Err-Syntax.at c.in-Err-Syntax.why
-    c.in-Some.text.now c.loop-number.invariant c.row_behind-row.ensures (sym c.in-Some.ensures) is in
-    (c.in-Err-Syntax.ensures.0 ∙ broken.0, ap (λ fault. Some fault) (c.fault_at.ensures ∙ ap₂ (fault_at c.row_behind-row.result c.in-Some.text.now) c.in-Err-Syntax.at-is c.in-Err-Syntax.why-is) ∙ broken.1)
-
-pub returns : goal.returns
-returns c =
+pub returns-clause-read : goal.returns-clause-read
+returns-clause-read c =
     let all : c.loop-number.number ≡ length c.args.lines.now = search rules in
-    all_read c.args.tree.now c.loop-number.tree c.args.lines.now c.loop-number.number c.loop-number.invariant
-    (drop_all c.loop-number.number c.args.lines.now (omega (arith, all)))
+    all_read c.args.lines.now (map (line_in c.loop-number.tables) c.loop-number.rows.items) (drop c.loop-number.number c.args.lines.now)
+    (drop_all c.loop-number.number c.args.lines.now (omega (arith, all))) c.loop-number.invariant.2

@@ -1,10 +1,9 @@
-use Rattle.std.proofs.Common.{subst}
-use Rattle.sudoers_tree.specs.Load.{Loaded, StandAt}
+use Rattle.sudoers_tree.specs.Load.{StandAt, files_of}
 use Rattle.sudoers_tree.proofs.Placed.{all_stand, same_count}
 use Rattle.sudoers_tree.proofs.policy.Policy.lines_stand.Goals as goal
 
-stand : (c : goal.After-self) → StandAt c.args.self.now.files c.args.self.now.walk.spots c.args.self.now.walk.lines
-stand c = subst (λ (p : Loaded). StandAt p.files p.walk.spots p.walk.lines) c.self.view_is c.self.invariant.3
+stand : (c : goal.After-loaded_lines_stand) → StandAt c.args.self.now.files c.args.self.now.walk.spots c.args.self.now.walk.lines
+stand c = c.loaded_lines_stand.ensures (files_of c.args.self.now) c.args.self.now c.is_loaded.ensures
 
 pub returns-clause-count : goal.returns-clause-count
 returns-clause-count c = same_count c.args.self.now.files c.args.self.now.walk.spots c.args.self.now.walk.lines (stand c)

@@ -1,6 +1,7 @@
 use Rattle.std.proofs.Common.{◌≡◌, drop, ◌+◌, ◌*◌}
 use Rattle.sudoers_tree.specs.Files.{lines_of, row_of}
 use Rattle.sudoers_tree.specs.Walk.{enter, site, visit, visit_each, walk_lines}
+use Rattle.sudoers_tree.specs.internal.Files.{files_shown}
 use Rattle.sudoers_tree.specs.internal.Walking.{IsWalking, walked}
 use Rattle.sudoers_tree.proofs.walking.Walking.+walk.Given as goal
 
@@ -16,15 +17,13 @@ decreases-visit l = 3 * l.left
 -- The walk over the rest has the outcome of the whole walk.
 abbrev pub invariant-take_file-loop-line : goal.invariant-take_file-loop-line
 invariant-take_file-loop-line l =
-    (l.self.files.files ≡ l.fn.self.files.files)
-    × IsWalking l.self
-    × (walk_lines (visit l.left l.fn.self.files.files) l.fn.self.files.files l.file l.line (drop l.line (lines_of l.fn.self.files.files l.file)) (walked l.self)
-    ≡ walk_lines (visit l.left l.fn.self.files.files) l.fn.self.files.files l.file 0 (lines_of l.fn.self.files.files l.file) (enter l.file (walked l.fn.self)))
-    × (l.row ≡ row_of (lines_of l.fn.self.files.files l.file) l.line)
+    IsWalking l.files l.known l.self
+    × (walk_lines (visit l.left (files_shown l.files)) (files_shown l.files) l.file l.line (drop l.line (lines_of (files_shown l.files) l.file)) (walked l.files.tables.now l.self)
+    ≡ walk_lines (visit l.left (files_shown l.files)) (files_shown l.files) l.file 0 (lines_of (files_shown l.files) l.file) (enter l.file (walked l.files.tables.now l.fn.self)))
+    × (l.row ≡ row_of (lines_of (files_shown l.files) l.file) l.line)
 
 abbrev pub invariant-follow-loop-file : goal.invariant-follow-loop-file
 invariant-follow-loop-file l =
-    (l.self.files.files ≡ l.fn.self.files.files)
-    × IsWalking l.self
-    × (visit_each (visit l.left l.fn.self.files.files) l.fn.self.files.files (site l.fn.self.files.files l.at.file l.at.line) (drop l.file-index l.file-items) (walked l.self)
-    ≡ visit_each (visit l.left l.fn.self.files.files) l.fn.self.files.files (site l.fn.self.files.files l.at.file l.at.line) l.file-items (walked l.fn.self))
+    IsWalking l.files l.known l.self
+    × (visit_each (visit l.left (files_shown l.files)) (files_shown l.files) (site (files_shown l.files) l.at.file l.at.line) (drop l.file-index l.file-items) (walked l.files.tables.now l.self)
+    ≡ visit_each (visit l.left (files_shown l.files)) (files_shown l.files) (site (files_shown l.files) l.at.file l.at.line) l.file-items (walked l.files.tables.now l.fn.self))
