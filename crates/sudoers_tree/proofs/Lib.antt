@@ -9,6 +9,7 @@ pub mod TwoPasses
 pub mod ReadUntil
 pub mod ReadsLines
 pub mod FileRows
+pub mod FileChanges
 pub mod LineRows
 pub mod Placed
 pub mod WholeFiles

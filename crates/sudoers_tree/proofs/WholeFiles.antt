@@ -15,6 +15,7 @@ use Rattle.sudoers_tree.specs.Policy.{texts}
 use Rattle.sudoers_tree.specs.Files.{FileReading, going_on, lines_of, read_until, reading_of}
 use Rattle.sudoers_tree.specs.Walk.{and_then}
 use Rattle.sudoers_tree.specs.Load.{Loaded, StandAt, cut_file, load_of, readings}
+use Rattle.sudoers_tree.proofs.FileRows.{read_all}
 use Rattle.sudoers_tree.proofs.WalkSound.{loaded_as}
 
 -- the lines of a text are logical lines
@@ -24,19 +25,9 @@ CutsWhole = (text : List ℕ) (lines : List (List ℕ)) → cut_of text ≡ Ok l
 abbrev IsWhole : FileReading → Type 0
 IsWhole file = AllByRecursion IsLogicalLine (texts file.lines)
 
-until_whole : (before : List Line) (lines : List (List ℕ)) → AllByRecursion IsLogicalLine lines → AllByRecursion IsLogicalLine (texts (read_until before lines).0)
-until_whole before [] all = tt
-until_whole before (text ∷ more) all = by (outcome_of text) (λ line. until_whole (before ++ line ∷ []) more all.1)
-  where
-    by : (r : Result Node LineFault) → ((line : Line) → AllByRecursion IsLogicalLine (texts (read_until (before ++ line ∷ []) more).0))
-        → AllByRecursion IsLogicalLine (texts (going_on before text r (λ line. read_until (before ++ line ∷ []) more)).0)
-    by (Ok says) later = (all.0, later (record { text = text; node = says }))
-    by (Err (line_fault.Syntax at why)) later = tt
-    by (Err line_fault.NoMemory) later = tt
-
 reading_whole : (name : List ℕ) (lines : List (List ℕ)) → AllByRecursion IsLogicalLine lines → IsWhole (reading_of name lines)
 unfolding reading_of
-reading_whole name lines all = until_whole [] lines all
+reading_whole name lines all = read_all IsLogicalLine [] lines all
 
 one_more : (files : List FileReading) (file : FileReading) → AllByRecursion IsWhole files → IsWhole file → AllByRecursion IsWhole (files ++ file ∷ [])
 one_more [] file all is = (is, tt)

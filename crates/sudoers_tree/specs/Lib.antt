@@ -14,5 +14,6 @@ pub mod Reading
 pub mod Single
 pub mod Index
 pub mod Changed
+pub mod ChangedFiles
 pub mod Line
 pub mod internal

@@ -6,3 +6,4 @@ pub mod Files
 pub mod Walking
 pub mod Pieces
 pub mod Loading
+pub mod Changing

@@ -10,23 +10,29 @@ ghost use Rattle.sudoers_text.specs.Whole.{IsLogicalLine};
 ghost use Rattle.sudoers_line_rows.specs.Tables.{Grown};
 ghost use Rattle.sudoers_tree.specs.Files.{read_until};
 ghost use Rattle.sudoers_tree.specs.Line.{line_in};
+ghost use Rattle.sudoers_tree.specs.Load.{cut_file};
 ghost use Rattle.sudoers_tree.specs.Policy.{texts};
+ghost use Rattle.sudoers_tree.specs.internal.Files.{ReadsFile};
 ghost use Rattle.sudoers_tree.specs.internal.Pieces.{piece_texts, texts_of, AreKept, ChangesLines, IsKept, IsKeptPiece, IsSize, IsSizeBehind, ReadsOn};
 ghost use Rattle.sudoers_tree.specs.internal.Tree.{Stands};
 
 use crate::fault::{ReadFault, SyntaxFault};
+use crate::files::FileRows;
 use crate::index::{Index, Renewals};
 use crate::line::LineRow;
+use crate::load::not_cut;
+use crate::load_fault::LoadFault;
 use crate::passing::enter_lines;
 use crate::pieces::Piece;
 use crate::reading::read_text;
 use crate::texts::text_of;
 use std::alloc::{AllocError, Global};
+use sudoers_line::Items;
 use sudoers_line_reader::laws::outcome_is;
 use sudoers_line_rows::laws::growth_goes_on;
 use sudoers_line_rows::{Rows, Tables};
 use sudoers_text::laws::{
-    cut_is, line_alone_is_whole, lines_of_join, lines_stand_alone, one_list, whole_line_is,
+    cut_is, line_alone_is_whole, line_alone_size, lines_of_join, lines_stand_alone, one_list, whole_line_is,
     whole_lines_of_join,
 };
 use sudoers_text::{LINE_LIMIT, TEXT_LIMIT, TextFault, cut};
@@ -215,5 +221,37 @@ fn read_piece(
             Ok(None)
         }
         Piece::New(text) => read_text(alloc, tables, text, rows),
+    }
+}
+
+/// Reads the file `name`, whose lines are `pieces`. The new ones are read into `tables`.
+///
+/// # Errors
+///
+/// The fault of the cut of its text, or want of memory.
+pub fn read_changed(
+    alloc: Global,
+    tables: &mut Tables,
+    name: Items<u8>,
+    pieces: &[Piece<'_>],
+) -> Result<FileRows, LoadFault>
+    requires kept { AreKept tables.old pieces.now }
+    requires whole { AllByRecursion IsLogicalLine (piece_texts tables.old pieces.now) }
+    requires ended { has_unended_inside (piece_texts tables.old pieces.now) ≡ false }
+    ensures grown { Grown tables.old tables.new }
+    ensures read { ReadsFile result tables.new (cut_file name (cut_of (join (piece_texts tables.old pieces.now)))) }
+{
+    growth_goes_on();
+    lines_stand_alone();
+    line_alone_is_whole();
+    line_alone_size();
+    whole_line_is();
+    match size_of(alloc, tables, pieces) {
+        Ok(_) => {
+            let mut rows = Vec::with_capacity(alloc, line_count(pieces))?;
+            let fault = read_pieces(alloc, tables, pieces, &mut rows)?;
+            Ok(FileRows { name, rows, fault })
+        }
+        Err(fault) => Err(not_cut(name, fault)),
     }
 }

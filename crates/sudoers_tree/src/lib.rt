@@ -2,6 +2,7 @@
 #![tactic(auto)]
 
 mod change;
+mod changing;
 mod fault;
 mod files;
 mod index;

@@ -17,6 +17,7 @@ use std::alloc::{AllocError, Global};
 use sudoers_line::Items;
 use sudoers_line_rows::Tables;
 use sudoers_line_rows::laws::growth_goes_on;
+use sudoers_text::laws::{line_alone_is_whole, line_alone_size, lines_stand_alone, whole_line_is};
 use sudoers_text::{TextFault, cut};
 
 /// How many files a policy may have.
@@ -80,6 +81,10 @@ fn read_file(
     ensures grown { Grown tables.old tables.new }
     ensures read { ReadsFile result tables.new (cut_file file.now.name (cut_of file.now.bytes)) }
 {
+    lines_stand_alone();
+    line_alone_is_whole();
+    line_alone_size();
+    whole_line_is();
     let name = Items::from_slice(alloc, file.name.as_slice())?;
     match cut(alloc, file.bytes.as_slice()) {
         Ok(lines) => {

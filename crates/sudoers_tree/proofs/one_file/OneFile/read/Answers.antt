@@ -23,7 +23,7 @@ returns-in_err-index-clause-outcome c =
     let fault : ReadFault = c.in_err-index.field-0.0 in
     let same : c.from_residual-in_err-index.result ≡ Err fault = search rules in
     subst (λ r. ReadGives r (read_of c.args.text.now)) (sym same)
-    (faulty c.args.text.now c.in_ok-lines.lines fault c.in_ok-lines.ensures.outcome c.in_err-index.ensures)
+    (faulty c.args.text.now c.in_ok-lines.lines fault c.in_ok-lines.ensures.outcome (c.in_err-index.ensures c.in_ok-lines.lines (sym c.in_ok-tree.ensures)))
 
 pub returns-in_err-index-clause-fault : goal.returns-in_err-index-clause-fault
 returns-in_err-index-clause-fault c =
@@ -32,7 +32,7 @@ returns-in_err-index-clause-fault c =
     let same : c.from_residual-in_err-index.result ≡ Err fault = search rules in
     subst (λ r. IfErr r (λ e. (e ≡ NoMemory) ⊎ IsFaultOf text e)) (sym same)
     (fault_given text (read_of text) fault (c.read_is.ensures text)
-    (faulty text c.in_ok-lines.lines fault c.in_ok-lines.ensures.outcome c.in_err-index.ensures))
+    (faulty text c.in_ok-lines.lines fault c.in_ok-lines.ensures.outcome (c.in_err-index.ensures c.in_ok-lines.lines (sym c.in_ok-tree.ensures))))
 
 -- The policy to which the text leads.
 is_read : (text : List ℕ) (all : List Line) → IsOutcome text (read_of text) → read_of text ≡ Ok all → IsOutcome text (Ok all)
@@ -40,24 +40,24 @@ is_read text all is outcome = subst (IsOutcome text) outcome is
 
 pub returns-clause-outcome : goal.returns-clause-outcome
 returns-clause-outcome c =
-    is_cut c.args.text.now c.in_ok-lines.lines c.in_ok-lines.ensures.outcome ∙ c.in_ok-index.ensures.0
+    is_cut c.args.text.now c.in_ok-lines.lines c.in_ok-lines.ensures.outcome ∙ (c.in_ok-index.ensures c.in_ok-lines.lines (sym c.in_ok-tree.ensures)).0
     ∙ ap (λ (held : Indexed). Ok held.tree) (sym c.in_ok-new.ensures.ok)
 
 pub returns-clause-policy : goal.returns-clause-policy
 returns-clause-policy c =
     let outcome =
-    is_cut c.args.text.now c.in_ok-lines.lines c.in_ok-lines.ensures.outcome ∙ c.in_ok-index.ensures.0
+    is_cut c.args.text.now c.in_ok-lines.lines c.in_ok-lines.ensures.outcome ∙ (c.in_ok-index.ensures c.in_ok-lines.lines (sym c.in_ok-tree.ensures)).0
     ∙ ap (λ (held : Indexed). Ok held.tree) (sym c.in_ok-new.ensures.ok) in
     is_read c.args.text.now c.in_ok-new.field-0.value.tree (c.read_is.ensures c.args.text.now) outcome
 
 pub invariant_of-result : goal.invariant_of-result
 invariant_of-result c =
     let outcome =
-    is_cut c.args.text.now c.in_ok-lines.lines c.in_ok-lines.ensures.outcome ∙ c.in_ok-index.ensures.0
+    is_cut c.args.text.now c.in_ok-lines.lines c.in_ok-lines.ensures.outcome ∙ (c.in_ok-index.ensures c.in_ok-lines.lines (sym c.in_ok-tree.ensures)).0
     ∙ ap (λ (held : Indexed). Ok held.tree) (sym c.in_ok-new.ensures.ok) in
     let is = is_read c.args.text.now c.in_ok-new.field-0.value.tree (c.read_is.ensures c.args.text.now) outcome in (
       ap read_of is.1 ∙ outcome,
       ap length (sym is.1),
-      subst (λ (held : Indexed). Indexes held.index (definitions held.tree)) (sym c.in_ok-new.ensures.ok) c.in_ok-index.ensures.1,
+      subst (λ (held : Indexed). Indexes held.index (definitions held.tree)) (sym c.in_ok-new.ensures.ok) (c.in_ok-index.ensures c.in_ok-lines.lines (sym c.in_ok-tree.ensures)).1,
       is.0,
     )
