@@ -106,18 +106,18 @@ one_of_two false ks js here there = there
 
 puts_ended : (n : ℕ) (changes : List LineChange) → AreEnded (brought changes) → AreEnded (puts_at n changes)
 puts_ended n [] ended = tt
-puts_ended n (Put at text ∷ changes) ended =
+puts_ended n (Put file at text ∷ changes) ended =
     let rest : AreEnded (puts_at n changes) = puts_ended n changes ended.1 in
     one_of_two (at == n) (text ∷ puts_at n changes) (puts_at n changes) (ended.0, rest) rest
-puts_ended n (Swap at text ∷ changes) ended = puts_ended n changes ended.1
-puts_ended n (Take at ∷ changes) ended = puts_ended n changes ended
+puts_ended n (Swap file at text ∷ changes) ended = puts_ended n changes ended.1
+puts_ended n (Take file at ∷ changes) ended = puts_ended n changes ended
 
 left_ended : (n : ℕ) (changes : List LineChange) (line : List ℕ) → AreEnded (brought changes) → ends_in_lf line ≡ true → AreEnded (left_of n changes line)
 left_ended n [] line ended lf = (lf, tt)
-left_ended n (Put at text ∷ changes) line ended lf = left_ended n changes line ended.1 lf
-left_ended n (Swap at text ∷ changes) line ended lf =
+left_ended n (Put file at text ∷ changes) line ended lf = left_ended n changes line ended.1 lf
+left_ended n (Swap file at text ∷ changes) line ended lf =
     one_of_two (at == n) (text ∷ []) (left_of n changes line) (ended.0, tt) (left_ended n changes line ended.1 lf)
-left_ended n (Take at ∷ changes) line ended lf =
+left_ended n (Take file at ∷ changes) line ended lf =
     one_of_two (at == n) [] (left_of n changes line) tt (left_ended n changes line ended lf)
 
 changed_ended : (n : ℕ) (changes : List LineChange) (lines : List (List ℕ)) → AreEnded (brought changes) → AreEnded lines
@@ -142,13 +142,13 @@ change_first changes i change less is = drop_more changes i change less ∙ ap (
 pub whole_first : (change : LineChange) (changes : List LineChange)
     → IfSome (text_brought change) (λ text. IsLogicalLine text × (ends_in_lf text ≡ true))
     → AllByRecursion IsLogicalLine (brought changes) → AllByRecursion IsLogicalLine (brought (change ∷ changes))
-whole_first (Put at text) changes is rest = (is.0, rest)
-whole_first (Swap at text) changes is rest = (is.0, rest)
-whole_first (Take at) changes is rest = rest
+whole_first (Put file at text) changes is rest = (is.0, rest)
+whole_first (Swap file at text) changes is rest = (is.0, rest)
+whole_first (Take file at) changes is rest = rest
 
 pub ended_first : (change : LineChange) (changes : List LineChange)
     → IfSome (text_brought change) (λ text. IsLogicalLine text × (ends_in_lf text ≡ true))
     → AreEnded (brought changes) → AreEnded (brought (change ∷ changes))
-ended_first (Put at text) changes is rest = (is.1, rest)
-ended_first (Swap at text) changes is rest = (is.1, rest)
-ended_first (Take at) changes is rest = rest
+ended_first (Put file at text) changes is rest = (is.1, rest)
+ended_first (Swap file at text) changes is rest = (is.1, rest)
+ended_first (Take file at) changes is rest = rest

@@ -149,7 +149,7 @@ fn place_after(change: &LineChange, from: usize, count: usize) -> Option<usize>
 {
     match change {
         LineChange::Put { at, .. } if from <= *at => Some(*at),
-        LineChange::Swap { at, .. } | LineChange::Take { at } if from <= *at && *at < count => {
+        LineChange::Swap { at, .. } | LineChange::Take { at, .. } if from <= *at && *at < count => {
             Some(*at + 1)
         }
         _ => None,
@@ -206,8 +206,8 @@ fn change_of(alloc: Global, call: Call<'_>) -> Result<LineChange, AllocError> {
     let at = number as usize;
     let text = Items::from_slice(alloc, line)?;
     Ok(match call.asked {
-        b'p' => LineChange::Put { at, text },
-        b's' => LineChange::Swap { at, text },
-        _ => LineChange::Take { at },
+        b'p' => LineChange::Put { file: 0, at, text },
+        b's' => LineChange::Swap { file: 0, at, text },
+        _ => LineChange::Take { file: 0, at },
     })
 }

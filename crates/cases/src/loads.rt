@@ -95,7 +95,7 @@ fn push_of_policy(
 ) -> Result<(), AllocError> {
     match topic {
         Topic::Walk => push_walk(policy, answers),
-        Topic::Files => push_files(alloc, policy, answers),
+        Topic::Files => push_files(policy, answers),
         Topic::Notes => push_debug(&check(alloc, policy)?, answers),
         Topic::Unused => push_debug(&unused(alloc, policy)?, answers),
         Topic::Report { strict } => push_report(alloc, policy, strict, answers),
@@ -117,11 +117,11 @@ fn push_walk(policy: &Policy, answers: &mut String) -> Result<(), AllocError> {
 }
 
 /// Adds the name of each file, its text and its lines, with a tab behind each of the three.
-fn push_files(alloc: Global, policy: &Policy, answers: &mut String) -> Result<(), AllocError> {
+fn push_files(policy: &Policy, answers: &mut String) -> Result<(), AllocError> {
     for file in 0..policy.files() {
         push_debug(&policy.file_name(file), answers)?;
         answers.push('\t')?;
-        push_debug(&policy.text(alloc, file)?, answers)?;
+        push_debug(&policy.text(file)?, answers)?;
         answers.push('\t')?;
         push_lines(policy, file, answers)?;
         answers.push('\t')?;

@@ -71,7 +71,7 @@ up_parts (l ∷ ls) zero (suc to) k t sum within = absurd (omega (arith, sum))
 up_parts (l ∷ ls) (suc from) (suc to) k t sum within = ap (λ (z : Lines). l ∷ z) (up_parts ls from to k t (omega (arith, sum)) (omega (arith, within)))
 
 down_is : NoneLaw → FirstLaw → (ls : Lines) (from to : ℕ) (t : List ℕ) → from < to → to < length ls
-    → changed (Take from ∷ Put (to + 1) t ∷ []) ls ≡ insert (remove ls from) to t
+    → changed (Take 0 from ∷ Put 0 (to + 1) t ∷ []) ls ≡ insert (remove ls from) to t
 down_is none first ls from to t order within =
     let k : ℕ = to - from in
     let behind : Lines = drop (from + 1 - 0) ls in
@@ -80,9 +80,9 @@ down_is none first ls from to t order within =
     let b : next ≡ k = omega (arith, order) in
     let c : from + 1 - 0 ≡ suc from = omega arith in
     let last : to ≡ from + k = omega (arith, order) in
-    first 0 (Take from) (Put (to + 1) t ∷ []) ls (omega arith, (omega (arith, order), omega (arith, within)))
+    first 0 (Take 0 from) (Put 0 (to + 1) t ∷ []) ls (omega arith, (omega (arith, order), omega (arith, within)))
     ∙ ap (λ (z : Lines). take (from - 0) ls ++ z)
-    (first (from + 1) (Put (to + 1) t) [] behind (omega (arith, order), omega (arith, order, within, length-drop (from + 1 - 0) ls))
+    (first (from + 1) (Put 0 (to + 1) t) [] behind (omega (arith, order), omega (arith, order, within, length-drop (from + 1 - 0) ls))
     ∙ ap (λ (z : Lines). take next behind ++ t ∷ z) (none (to + 1) (drop next behind)))
     ∙ ap (λ n. take n ls ++ (take next behind ++ t ∷ drop next behind)) a
     ∙ ap (λ n. take from ls ++ (take n behind ++ t ∷ drop n behind)) b
@@ -90,7 +90,7 @@ down_is none first ls from to t order within =
     ∙ down_parts ls from to k t last within
 
 up_is : NoneLaw → FirstLaw → (ls : Lines) (from to : ℕ) (t : List ℕ) → to < from → from < length ls
-    → changed (Put to t ∷ Take from ∷ []) ls ≡ insert (remove ls from) to t
+    → changed (Put 0 to t ∷ Take 0 from ∷ []) ls ≡ insert (remove ls from) to t
 up_is none first ls from to t order within =
     let k : ℕ = from - to in
     let behind : Lines = drop (to - 0) ls in
@@ -98,9 +98,9 @@ up_is none first ls from to t order within =
     let a : to - 0 ≡ to = omega arith in
     let b : next ≡ suc k = omega (arith, order) in
     let last : from ≡ to + k = omega (arith, order) in
-    first 0 (Put to t) (Take from ∷ []) ls (omega arith, (omega (arith, order), omega (arith, within)))
+    first 0 (Put 0 to t) (Take 0 from ∷ []) ls (omega arith, (omega (arith, order), omega (arith, within)))
     ∙ ap (λ (z : Lines). take (to - 0) ls ++ t ∷ z)
-    (first to (Take from) [] behind (omega (arith, order), omega (arith, order, within, length-drop (to - 0) ls))
+    (first to (Take 0 from) [] behind (omega (arith, order), omega (arith, order, within, length-drop (to - 0) ls))
     ∙ ap (λ (z : Lines). take k behind ++ z) (none (from + 1) (drop next behind)))
     ∙ ap (λ n. take n ls ++ t ∷ (take k (drop n ls) ++ drop next (drop n ls))) a
     ∙ ap (λ n. take to ls ++ t ∷ (take k (drop to ls) ++ drop n (drop to ls))) b
@@ -135,21 +135,21 @@ move_leads_by none first edit inverse ls from to all inside within leads =
 
     by_down : nat_lt from to ≡ true → from < to → Leads edit inverse ls (move_changes from to t)
     by_down is order =
-        subst (λ b. Leads edit inverse ls (if b then Take from ∷ Put (to + 1) t ∷ [] else (if nat_lt to from then Put to t ∷ Take from ∷ [] else []))) (sym is)
-        (leads_by edit inverse ls (moved from to ls) (Take from ∷ Put (to + 1) t ∷ []) (omega arith, (omega (arith, order), omega (arith, within))) (whole, tt)
+        subst (λ b. Leads edit inverse ls (if b then Take 0 from ∷ Put 0 (to + 1) t ∷ [] else (if nat_lt to from then Put 0 to t ∷ Take 0 from ∷ [] else []))) (sym is)
+        (leads_by edit inverse ls (moved from to ls) (Take 0 from ∷ Put 0 (to + 1) t ∷ []) (omega arith, (omega (arith, order), omega (arith, within))) (whole, tt)
         (down_is none first ls from to t order within) leads)
 
     by_up : nat_lt from to ≡ false → nat_lt to from ≡ true → to < from → Leads edit inverse ls (move_changes from to t)
     by_up is_not is order =
-        subst (λ b. Leads edit inverse ls (if b then Take from ∷ Put (to + 1) t ∷ [] else (if nat_lt to from then Put to t ∷ Take from ∷ [] else []))) (sym is_not)
-        (subst (λ b. Leads edit inverse ls (if b then Put to t ∷ Take from ∷ [] else [])) (sym is)
-        (leads_by edit inverse ls (moved from to ls) (Put to t ∷ Take from ∷ []) (omega arith, (omega (arith, order), omega (arith, inside))) (whole, tt)
+        subst (λ b. Leads edit inverse ls (if b then Take 0 from ∷ Put 0 (to + 1) t ∷ [] else (if nat_lt to from then Put 0 to t ∷ Take 0 from ∷ [] else []))) (sym is_not)
+        (subst (λ b. Leads edit inverse ls (if b then Put 0 to t ∷ Take 0 from ∷ [] else [])) (sym is)
+        (leads_by edit inverse ls (moved from to ls) (Put 0 to t ∷ Take 0 from ∷ []) (omega arith, (omega (arith, order), omega (arith, inside))) (whole, tt)
         (up_is none first ls from to t order inside) leads))
 
     by_none : nat_lt from to ≡ false → nat_lt to from ≡ false → from ≡ to → Leads edit inverse ls (move_changes from to t)
     by_none is_not is same =
-        subst (λ b. Leads edit inverse ls (if b then Take from ∷ Put (to + 1) t ∷ [] else (if nat_lt to from then Put to t ∷ Take from ∷ [] else []))) (sym is_not)
-        (subst (λ b. Leads edit inverse ls (if b then Put to t ∷ Take from ∷ [] else [])) (sym is)
+        subst (λ b. Leads edit inverse ls (if b then Take 0 from ∷ Put 0 (to + 1) t ∷ [] else (if nat_lt to from then Put 0 to t ∷ Take 0 from ∷ [] else []))) (sym is_not)
+        (subst (λ b. Leads edit inverse ls (if b then Put 0 to t ∷ Take 0 from ∷ [] else [])) (sym is)
         (leads_by edit inverse ls (moved from to ls) [] (omega arith) tt
         (none 0 ls ∙ stays_is ls from t inside refl ∙ ap (λ n. insert (remove ls from) n t) same) leads))
 

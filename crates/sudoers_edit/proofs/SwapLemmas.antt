@@ -106,9 +106,9 @@ order_from m n count k name fresh (line ∷ policy) less is =
     by rest (start ∷ starts) = (less, rest (n + 1) (omega arith))
 
 next_behind : (change : LineChange) → place_of change ≤ next_place change
-next_behind (Put at text) = omega arith
-next_behind (Swap at text) = omega arith
-next_behind (Take at) = omega arith
+next_behind (Put file at text) = omega arith
+next_behind (Swap file at text) = omega arith
+next_behind (Take file at) = omega arith
 
 -- the first line stays if no place is its
 first_stays : NoneLaw → FirstLaw → (n : ℕ) (changes : List LineChange) (line : List ℕ) (lines : Lines) → AreInOrder (n + 1) changes (n + 1 + length lines)
@@ -145,7 +145,7 @@ swaps_make none first n k name fresh (line ∷ policy) = by (swaps_make none fir
         let text : List ℕ = put_at 0 (length name) fresh (start ∷ starts) line.text in
         let a : n - n ≡ zero = omega arith in
         let b : n + 1 - n ≡ suc zero = omega arith in
-        first n (Swap n text) changes (texts (line ∷ policy))
+        first n (Swap 0 n text) changes (texts (line ∷ policy))
         (omega arith, order_from (n + 1) (n + 1) (n + length (texts (line ∷ policy))) k name fresh policy (omega arith) (omega (arith, count_texts policy)))
         ∙ ap (λ i. take i (texts (line ∷ policy)) ++ (text ∷ changed_from (n + 1) changes (drop (n + 1 - n) (texts (line ∷ policy))))) a
         ∙ ap (λ i. text ∷ changed_from (n + 1) changes (drop i (texts (line ∷ policy)))) b

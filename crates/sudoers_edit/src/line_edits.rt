@@ -95,11 +95,19 @@ fn move_changes(
     let (from, to) = (from as usize, to as usize);
     let mut changes = Vec::with_capacity(alloc, 2)?;
     if from < to {
-        changes.push(LineChange::Take { at: from })?;
-        changes.push(LineChange::Put { at: to + 1, text })?;
+        changes.push(LineChange::Take { file: 0, at: from })?;
+        changes.push(LineChange::Put {
+            file: 0,
+            at: to + 1,
+            text,
+        })?;
     } else if to < from {
-        changes.push(LineChange::Put { at: to, text })?;
-        changes.push(LineChange::Take { at: from })?;
+        changes.push(LineChange::Put {
+            file: 0,
+            at: to,
+            text,
+        })?;
+        changes.push(LineChange::Take { file: 0, at: from })?;
     }
     Ok(changes)
 }

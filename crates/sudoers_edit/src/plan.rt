@@ -44,7 +44,7 @@ impl Plan {
             → LeadsTo edit inverse lines (insert lines at text) → IfOk result (λ plan. Leads edit plan.inverse lines plan.changes.items) }
     {
         one_change();
-        Plan::one(alloc, LineChange::Put { at, text }, inverse)
+        Plan::one(alloc, LineChange::Put { file: 0, at, text }, inverse)
     }
 
     /// Plans that the line `at` is taken out.
@@ -53,7 +53,7 @@ impl Plan {
             → LeadsTo edit inverse lines (remove lines at) → IfOk result (λ plan. Leads edit plan.inverse lines plan.changes.items) }
     {
         one_change();
-        Plan::one(alloc, LineChange::Take { at }, inverse)
+        Plan::one(alloc, LineChange::Take { file: 0, at }, inverse)
     }
 
     /// Plans that the line `text` stands in the place of the line `at`.
@@ -62,7 +62,7 @@ impl Plan {
             → LeadsTo edit inverse lines (replaced at text lines) → IfOk result (λ plan. Leads edit plan.inverse lines plan.changes.items) }
     {
         one_change();
-        Plan::one(alloc, LineChange::Swap { at, text }, inverse)
+        Plan::one(alloc, LineChange::Swap { file: 0, at, text }, inverse)
     }
 }
 

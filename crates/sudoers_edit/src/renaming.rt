@@ -190,6 +190,7 @@ fn append_swap(
     if !starts.is_empty() {
         let text = with_others(alloc, line.text, starts.as_slice(), name.len(), fresh)?;
         changes.push(LineChange::Swap {
+            file: 0,
             at,
             text: Text::from_vec(text),
         })?;
@@ -267,7 +268,7 @@ fn is_one_open(changes: &[LineChange], last: usize) -> bool
     ensures { result ≡ list_any (is_open last) changes.now }
 {
     for change in changes {
-        if let LineChange::Swap { at, text } = change
+        if let LineChange::Swap { at, text, .. } = change
             && *at < last
             && !ends_in_lf(text.as_slice())
         {

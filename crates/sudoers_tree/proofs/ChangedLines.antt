@@ -19,27 +19,27 @@ here n = eq-eqb n n refl
 -- no place is past the end
 pub ends : (n : ℕ) (cs : List LineChange) (count : ℕ) → AreInOrder n cs count → n ≤ count
 ends n [] count is = is
-ends n (Put at text ∷ cs) count is = omega (arith, is.0, ends at cs count is.1)
-ends n (Swap at text ∷ cs) count is = omega (arith, is.0, ends (at + 1) cs count is.1)
-ends n (Take at ∷ cs) count is = omega (arith, is.0, ends (at + 1) cs count is.1)
+ends n (Put file at text ∷ cs) count is = omega (arith, is.0, ends at cs count is.1)
+ends n (Swap file at text ∷ cs) count is = omega (arith, is.0, ends (at + 1) cs count is.1)
+ends n (Take file at ∷ cs) count is = omega (arith, is.0, ends (at + 1) cs count is.1)
 
 -- ---- before the first place
 
 no_puts : (n m : ℕ) (cs : List LineChange) (count : ℕ) → n < m → AreInOrder m cs count → puts_at n cs ≡ []
 no_puts n m [] count h is = refl
-no_puts n m (Put at text ∷ cs) count h is =
+no_puts n m (Put file at text ∷ cs) count h is =
     ap (λ b. if b then text ∷ puts_at n cs else puts_at n cs) (not_at at n (omega (arith, h, is.0)))
     ∙ no_puts n at cs count (omega (arith, h, is.0)) is.1
-no_puts n m (Swap at text ∷ cs) count h is = no_puts n (at + 1) cs count (omega (arith, h, is.0)) is.1
-no_puts n m (Take at ∷ cs) count h is = no_puts n (at + 1) cs count (omega (arith, h, is.0)) is.1
+no_puts n m (Swap file at text ∷ cs) count h is = no_puts n (at + 1) cs count (omega (arith, h, is.0)) is.1
+no_puts n m (Take file at ∷ cs) count h is = no_puts n (at + 1) cs count (omega (arith, h, is.0)) is.1
 
 all_left : (n m : ℕ) (cs : List LineChange) (count : ℕ) (line : List ℕ) → n < m → AreInOrder m cs count → left_of n cs line ≡ line ∷ []
 all_left n m [] count line h is = refl
-all_left n m (Put at text ∷ cs) count line h is = all_left n at cs count line (omega (arith, h, is.0)) is.1
-all_left n m (Swap at text ∷ cs) count line h is =
+all_left n m (Put file at text ∷ cs) count line h is = all_left n at cs count line (omega (arith, h, is.0)) is.1
+all_left n m (Swap file at text ∷ cs) count line h is =
     ap (λ b. if b then text ∷ [] else left_of n cs line) (not_at at n (omega (arith, h, is.0)))
     ∙ all_left n (at + 1) cs count line (omega (arith, h, is.0)) is.1
-all_left n m (Take at ∷ cs) count line h is =
+all_left n m (Take file at ∷ cs) count line h is =
     ap (λ b. if b then [] else left_of n cs line) (not_at at n (omega (arith, h, is.0)))
     ∙ all_left n (at + 1) cs count line (omega (arith, h, is.0)) is.1
 
@@ -54,45 +54,45 @@ stretch (suc k) n m cs count (line ∷ lines) e within is =
 
 -- ---- a change whose place is past
 
-past_put : (n at : ℕ) (text : List ℕ) (cs : List LineChange) (lines : List (List ℕ)) → at < n → changed_from n (Put at text ∷ cs) lines ≡ changed_from n cs lines
-past_put n at text cs [] h = ap (λ b. if b then text ∷ puts_at n cs else puts_at n cs) (not_past at n h)
-past_put n at text cs (line ∷ lines) h =
-    ap (λ b. (if b then text ∷ puts_at n cs else puts_at n cs) ++ (left_of n cs line ++ changed_from (n + 1) (Put at text ∷ cs) lines)) (not_past at n h)
-    ∙ ap (λ ls. puts_at n cs ++ (left_of n cs line ++ ls)) (past_put (n + 1) at text cs lines (omega (arith, h)))
+past_put : (file n at : ℕ) (text : List ℕ) (cs : List LineChange) (lines : List (List ℕ)) → at < n → changed_from n (Put file at text ∷ cs) lines ≡ changed_from n cs lines
+past_put file n at text cs [] h = ap (λ b. if b then text ∷ puts_at n cs else puts_at n cs) (not_past at n h)
+past_put file n at text cs (line ∷ lines) h =
+    ap (λ b. (if b then text ∷ puts_at n cs else puts_at n cs) ++ (left_of n cs line ++ changed_from (n + 1) (Put file at text ∷ cs) lines)) (not_past at n h)
+    ∙ ap (λ ls. puts_at n cs ++ (left_of n cs line ++ ls)) (past_put file (n + 1) at text cs lines (omega (arith, h)))
 
-past_swap : (n at : ℕ) (text : List ℕ) (cs : List LineChange) (lines : List (List ℕ)) → at < n → changed_from n (Swap at text ∷ cs) lines ≡ changed_from n cs lines
-past_swap n at text cs [] h = refl
-past_swap n at text cs (line ∷ lines) h =
-    ap (λ b. puts_at n cs ++ ((if b then text ∷ [] else left_of n cs line) ++ changed_from (n + 1) (Swap at text ∷ cs) lines)) (not_past at n h)
-    ∙ ap (λ ls. puts_at n cs ++ (left_of n cs line ++ ls)) (past_swap (n + 1) at text cs lines (omega (arith, h)))
+past_swap : (file n at : ℕ) (text : List ℕ) (cs : List LineChange) (lines : List (List ℕ)) → at < n → changed_from n (Swap file at text ∷ cs) lines ≡ changed_from n cs lines
+past_swap file n at text cs [] h = refl
+past_swap file n at text cs (line ∷ lines) h =
+    ap (λ b. puts_at n cs ++ ((if b then text ∷ [] else left_of n cs line) ++ changed_from (n + 1) (Swap file at text ∷ cs) lines)) (not_past at n h)
+    ∙ ap (λ ls. puts_at n cs ++ (left_of n cs line ++ ls)) (past_swap file (n + 1) at text cs lines (omega (arith, h)))
 
-past_take : (n at : ℕ) (cs : List LineChange) (lines : List (List ℕ)) → at < n → changed_from n (Take at ∷ cs) lines ≡ changed_from n cs lines
-past_take n at cs [] h = refl
-past_take n at cs (line ∷ lines) h =
-    ap (λ b. puts_at n cs ++ ((if b then [] else left_of n cs line) ++ changed_from (n + 1) (Take at ∷ cs) lines)) (not_past at n h)
-    ∙ ap (λ ls. puts_at n cs ++ (left_of n cs line ++ ls)) (past_take (n + 1) at cs lines (omega (arith, h)))
+past_take : (file n at : ℕ) (cs : List LineChange) (lines : List (List ℕ)) → at < n → changed_from n (Take file at ∷ cs) lines ≡ changed_from n cs lines
+past_take file n at cs [] h = refl
+past_take file n at cs (line ∷ lines) h =
+    ap (λ b. puts_at n cs ++ ((if b then [] else left_of n cs line) ++ changed_from (n + 1) (Take file at ∷ cs) lines)) (not_past at n h)
+    ∙ ap (λ ls. puts_at n cs ++ (left_of n cs line ++ ls)) (past_take file (n + 1) at cs lines (omega (arith, h)))
 
 -- ---- a change at the place
 
-put_here : (n : ℕ) (text : List ℕ) (cs : List LineChange) (lines : List (List ℕ)) → changed_from n (Put n text ∷ cs) lines ≡ text ∷ changed_from n cs lines
-put_here n text cs [] = ap (λ b. if b then text ∷ puts_at n cs else puts_at n cs) (here n)
-put_here n text cs (line ∷ lines) =
-    ap (λ b. (if b then text ∷ puts_at n cs else puts_at n cs) ++ (left_of n cs line ++ changed_from (n + 1) (Put n text ∷ cs) lines)) (here n)
-    ∙ ap (λ ls. text ∷ puts_at n cs ++ (left_of n cs line ++ ls)) (past_put (n + 1) n text cs lines (omega arith))
+put_here : (file n : ℕ) (text : List ℕ) (cs : List LineChange) (lines : List (List ℕ)) → changed_from n (Put file n text ∷ cs) lines ≡ text ∷ changed_from n cs lines
+put_here file n text cs [] = ap (λ b. if b then text ∷ puts_at n cs else puts_at n cs) (here n)
+put_here file n text cs (line ∷ lines) =
+    ap (λ b. (if b then text ∷ puts_at n cs else puts_at n cs) ++ (left_of n cs line ++ changed_from (n + 1) (Put file n text ∷ cs) lines)) (here n)
+    ∙ ap (λ ls. text ∷ puts_at n cs ++ (left_of n cs line ++ ls)) (past_put file (n + 1) n text cs lines (omega arith))
 
-swap_here : (n : ℕ) (text : List ℕ) (cs : List LineChange) (count : ℕ) (line : List ℕ) (lines : List (List ℕ)) → AreInOrder (n + 1) cs count
-    → changed_from n (Swap n text ∷ cs) (line ∷ lines) ≡ text ∷ changed_from (n + 1) cs lines
-swap_here n text cs count line lines is =
-    ap (λ ps. ps ++ ((if n == n then text ∷ [] else left_of n cs line) ++ changed_from (n + 1) (Swap n text ∷ cs) lines)) (no_puts n (n + 1) cs count (omega arith) is)
-    ∙ ap (λ b. (if b then text ∷ [] else left_of n cs line) ++ changed_from (n + 1) (Swap n text ∷ cs) lines) (here n)
-    ∙ ap (λ ls. text ∷ ls) (past_swap (n + 1) n text cs lines (omega arith))
+swap_here : (file n : ℕ) (text : List ℕ) (cs : List LineChange) (count : ℕ) (line : List ℕ) (lines : List (List ℕ)) → AreInOrder (n + 1) cs count
+    → changed_from n (Swap file n text ∷ cs) (line ∷ lines) ≡ text ∷ changed_from (n + 1) cs lines
+swap_here file n text cs count line lines is =
+    ap (λ ps. ps ++ ((if n == n then text ∷ [] else left_of n cs line) ++ changed_from (n + 1) (Swap file n text ∷ cs) lines)) (no_puts n (n + 1) cs count (omega arith) is)
+    ∙ ap (λ b. (if b then text ∷ [] else left_of n cs line) ++ changed_from (n + 1) (Swap file n text ∷ cs) lines) (here n)
+    ∙ ap (λ ls. text ∷ ls) (past_swap file (n + 1) n text cs lines (omega arith))
 
-take_here : (n : ℕ) (cs : List LineChange) (count : ℕ) (line : List ℕ) (lines : List (List ℕ)) → AreInOrder (n + 1) cs count
-    → changed_from n (Take n ∷ cs) (line ∷ lines) ≡ changed_from (n + 1) cs lines
-take_here n cs count line lines is =
-    ap (λ ps. ps ++ ((if n == n then [] else left_of n cs line) ++ changed_from (n + 1) (Take n ∷ cs) lines)) (no_puts n (n + 1) cs count (omega arith) is)
-    ∙ ap (λ b. (if b then [] else left_of n cs line) ++ changed_from (n + 1) (Take n ∷ cs) lines) (here n)
-    ∙ past_take (n + 1) n cs lines (omega arith)
+take_here : (file n : ℕ) (cs : List LineChange) (count : ℕ) (line : List ℕ) (lines : List (List ℕ)) → AreInOrder (n + 1) cs count
+    → changed_from n (Take file n ∷ cs) (line ∷ lines) ≡ changed_from (n + 1) cs lines
+take_here file n cs count line lines is =
+    ap (λ ps. ps ++ ((if n == n then [] else left_of n cs line) ++ changed_from (n + 1) (Take file n ∷ cs) lines)) (no_puts n (n + 1) cs count (omega arith) is)
+    ∙ ap (λ b. (if b then [] else left_of n cs line) ++ changed_from (n + 1) (Take file n ∷ cs) lines) (here n)
+    ∙ past_take file (n + 1) n cs lines (omega arith)
 
 -- ---- the first change: the lines up to its place, what it brings, and the lines behind
 
@@ -106,41 +106,41 @@ split_at (suc k) (x ∷ xs) h = split_at k xs (omega (arith, h))
 abbrev pub brought_by : LineChange → List (List ℕ)
 brought_by c = option_to_list (text_brought c)
 
-first_put : (k n at : ℕ) (text : List ℕ) (cs : List LineChange) (count : ℕ) (lines : List (List ℕ)) → at ≡ n + k → k ≤ length lines → AreInOrder at cs count
-    → changed_from n (Put at text ∷ cs) lines ≡ take k lines ++ text ∷ changed_from at cs (drop k lines)
-first_put k n at text cs count lines e within is =
-    stretch k n at (Put at text ∷ cs) count lines e within (omega arith, is)
-    ∙ ap (λ ls. take k lines ++ ls) (put_here at text cs (drop k lines))
+first_put : (file k n at : ℕ) (text : List ℕ) (cs : List LineChange) (count : ℕ) (lines : List (List ℕ)) → at ≡ n + k → k ≤ length lines → AreInOrder at cs count
+    → changed_from n (Put file at text ∷ cs) lines ≡ take k lines ++ text ∷ changed_from at cs (drop k lines)
+first_put file k n at text cs count lines e within is =
+    stretch k n at (Put file at text ∷ cs) count lines e within (omega arith, is)
+    ∙ ap (λ ls. take k lines ++ ls) (put_here file at text cs (drop k lines))
 
-first_swap : (k n at : ℕ) (text : List ℕ) (cs : List LineChange) (count : ℕ) (lines : List (List ℕ)) → at ≡ n + k → k < length lines → AreInOrder (at + 1) cs count
-    → changed_from n (Swap at text ∷ cs) lines ≡ take k lines ++ text ∷ changed_from (at + 1) cs (drop (suc k) lines)
-first_swap k n at text cs count lines e within is =
+first_swap : (file k n at : ℕ) (text : List ℕ) (cs : List LineChange) (count : ℕ) (lines : List (List ℕ)) → at ≡ n + k → k < length lines → AreInOrder (at + 1) cs count
+    → changed_from n (Swap file at text ∷ cs) lines ≡ take k lines ++ text ∷ changed_from (at + 1) cs (drop (suc k) lines)
+first_swap file k n at text cs count lines e within is =
     let (line, split) = split_at k lines within in
-    stretch k n at (Swap at text ∷ cs) count lines e (omega (arith, within)) (omega arith, is)
-    ∙ ap (λ ls. take k lines ++ changed_from at (Swap at text ∷ cs) ls) split
-    ∙ ap (λ ls. take k lines ++ ls) (swap_here at text cs count line (drop (suc k) lines) is)
+    stretch k n at (Swap file at text ∷ cs) count lines e (omega (arith, within)) (omega arith, is)
+    ∙ ap (λ ls. take k lines ++ changed_from at (Swap file at text ∷ cs) ls) split
+    ∙ ap (λ ls. take k lines ++ ls) (swap_here file at text cs count line (drop (suc k) lines) is)
 
-first_take : (k n at : ℕ) (cs : List LineChange) (count : ℕ) (lines : List (List ℕ)) → at ≡ n + k → k < length lines → AreInOrder (at + 1) cs count
-    → changed_from n (Take at ∷ cs) lines ≡ take k lines ++ changed_from (at + 1) cs (drop (suc k) lines)
-first_take k n at cs count lines e within is =
+first_take : (file k n at : ℕ) (cs : List LineChange) (count : ℕ) (lines : List (List ℕ)) → at ≡ n + k → k < length lines → AreInOrder (at + 1) cs count
+    → changed_from n (Take file at ∷ cs) lines ≡ take k lines ++ changed_from (at + 1) cs (drop (suc k) lines)
+first_take file k n at cs count lines e within is =
     let (line, split) = split_at k lines within in
-    stretch k n at (Take at ∷ cs) count lines e (omega (arith, within)) (omega arith, is)
-    ∙ ap (λ ls. take k lines ++ changed_from at (Take at ∷ cs) ls) split
-    ∙ ap (λ ls. take k lines ++ ls) (take_here at cs count line (drop (suc k) lines) is)
+    stretch k n at (Take file at ∷ cs) count lines e (omega (arith, within)) (omega arith, is)
+    ∙ ap (λ ls. take k lines ++ changed_from at (Take file at ∷ cs) ls) split
+    ∙ ap (λ ls. take k lines ++ ls) (take_here file at cs count line (drop (suc k) lines) is)
 
 -- the lines from the number n on, `count` in all: those up to the place of the first change, what it brings, and what the other changes
 -- make of the lines behind
 pub first_change : (n : ℕ) (c : LineChange) (cs : List LineChange) (count : ℕ) (lines : List (List ℕ)) → n + length lines ≡ count → AreInOrder n (c ∷ cs) count
     → changed_from n (c ∷ cs) lines ≡ take (place_of c - n) lines ++ (brought_by c ++ changed_from (next_place c) cs (drop (next_place c - n) lines))
-first_change n (Put at text) cs count lines size is =
-    first_put (at - n) n at text cs count lines (omega (arith, is.0)) (omega (arith, size, ends at cs count is.1)) is.1
-first_change n (Swap at text) cs count lines size is =
+first_change n (Put file at text) cs count lines size is =
+    first_put file (at - n) n at text cs count lines (omega (arith, is.0)) (omega (arith, size, ends at cs count is.1)) is.1
+first_change n (Swap file at text) cs count lines size is =
     let behind : suc (at - n) ≡ at + 1 - n = omega (arith, is.0) in
-    first_swap (at - n) n at text cs count lines (omega (arith, is.0)) (omega (arith, size, is.0, ends (at + 1) cs count is.1)) is.1
+    first_swap file (at - n) n at text cs count lines (omega (arith, is.0)) (omega (arith, size, is.0, ends (at + 1) cs count is.1)) is.1
     ∙ ap (λ k. take (at - n) lines ++ text ∷ changed_from (at + 1) cs (drop k lines)) behind
-first_change n (Take at) cs count lines size is =
+first_change n (Take file at) cs count lines size is =
     let behind : suc (at - n) ≡ at + 1 - n = omega (arith, is.0) in
-    first_take (at - n) n at cs count lines (omega (arith, is.0)) (omega (arith, size, is.0, ends (at + 1) cs count is.1)) is.1
+    first_take file (at - n) n at cs count lines (omega (arith, is.0)) (omega (arith, size, is.0, ends (at + 1) cs count is.1)) is.1
     ∙ ap (λ k. take (at - n) lines ++ changed_from (at + 1) cs (drop k lines)) behind
 
 pub no_change : (n : ℕ) (lines : List (List ℕ)) → changed_from n [] lines ≡ lines
@@ -164,33 +164,33 @@ swapped [] at text h = absurd (omega (arith, h))
 swapped (line ∷ lines) zero text h = refl
 swapped (line ∷ lines) (suc at) text h = ap (λ ls. line ∷ ls) (swapped lines at text (omega (arith, h)))
 
-pub one_put : (lines : List (List ℕ)) (at : ℕ) (text : List ℕ) → at ≤ length lines → changed (Put at text ∷ []) lines ≡ insert lines at text
-one_put lines at text h =
-    first_put at 0 at text [] at lines (omega arith) h (omega arith)
+pub one_put : (lines : List (List ℕ)) (file at : ℕ) (text : List ℕ) → at ≤ length lines → changed (Put file at text ∷ []) lines ≡ insert lines at text
+one_put lines file at text h =
+    first_put file at 0 at text [] at lines (omega arith) h (omega arith)
     ∙ ap (λ ls. take at lines ++ text ∷ ls) (no_change at (drop at lines))
     ∙ put_in lines at text h
 
-pub one_take : (lines : List (List ℕ)) (at : ℕ) → at < length lines → changed (Take at ∷ []) lines ≡ remove lines at
-one_take lines at h =
-    first_take at 0 at [] (at + 1) lines (omega arith) h (omega arith)
+pub one_take : (lines : List (List ℕ)) (file at : ℕ) → at < length lines → changed (Take file at ∷ []) lines ≡ remove lines at
+one_take lines file at h =
+    first_take file at 0 at [] (at + 1) lines (omega arith) h (omega arith)
     ∙ ap (λ ls. take at lines ++ ls) (no_change (at + 1) (drop (suc at) lines))
     ∙ taken_out lines at h
 
-pub one_swap : (lines : List (List ℕ)) (at : ℕ) (text : List ℕ) → at < length lines → changed (Swap at text ∷ []) lines ≡ replaced at text lines
-one_swap lines at text h =
-    first_swap at 0 at text [] (at + 1) lines (omega arith) h (omega arith)
+pub one_swap : (lines : List (List ℕ)) (file at : ℕ) (text : List ℕ) → at < length lines → changed (Swap file at text ∷ []) lines ≡ replaced at text lines
+one_swap lines file at text h =
+    first_swap file at 0 at text [] (at + 1) lines (omega arith) h (omega arith)
     ∙ ap (λ ls. take at lines ++ text ∷ ls) (no_change (at + 1) (drop (suc at) lines))
     ∙ swapped lines at text h
 
 -- a list of one change
-pub as_put : (cs : List LineChange) (lines : List (List ℕ)) (at : ℕ) (text : List ℕ) → cs ≡ Put at text ∷ [] → at ≤ length lines → changed cs lines ≡ insert lines at text
-as_put cs lines at text is h = ap (λ c. changed c lines) is ∙ one_put lines at text h
+pub as_put : (cs : List LineChange) (lines : List (List ℕ)) (file at : ℕ) (text : List ℕ) → cs ≡ Put file at text ∷ [] → at ≤ length lines → changed cs lines ≡ insert lines at text
+as_put cs lines file at text is h = ap (λ c. changed c lines) is ∙ one_put lines file at text h
 
-pub as_take : (cs : List LineChange) (lines : List (List ℕ)) (at : ℕ) → cs ≡ Take at ∷ [] → at < length lines → changed cs lines ≡ remove lines at
-as_take cs lines at is h = ap (λ c. changed c lines) is ∙ one_take lines at h
+pub as_take : (cs : List LineChange) (lines : List (List ℕ)) (file at : ℕ) → cs ≡ Take file at ∷ [] → at < length lines → changed cs lines ≡ remove lines at
+as_take cs lines file at is h = ap (λ c. changed c lines) is ∙ one_take lines file at h
 
-pub as_swap : (cs : List LineChange) (lines : List (List ℕ)) (at : ℕ) (text : List ℕ) → cs ≡ Swap at text ∷ [] → at < length lines → changed cs lines ≡ replaced at text lines
-as_swap cs lines at text is h = ap (λ c. changed c lines) is ∙ one_swap lines at text h
+pub as_swap : (cs : List LineChange) (lines : List (List ℕ)) (file at : ℕ) (text : List ℕ) → cs ≡ Swap file at text ∷ [] → at < length lines → changed cs lines ≡ replaced at text lines
+as_swap cs lines file at text is h = ap (λ c. changed c lines) is ∙ one_swap lines file at text h
 
 -- ---- lines after changes are whole
 
@@ -203,23 +203,23 @@ whole_both (x ∷ xs) ys some more = (some.0, whole_both xs ys some.1 more)
 
 whole_puts : (n : ℕ) (cs : List LineChange) → Whole (brought cs) → Whole (puts_at n cs)
 whole_puts n [] all = tt
-whole_puts n (Put at text ∷ cs) all = by (at == n) (whole_puts n cs all.1)
+whole_puts n (Put file at text ∷ cs) all = by (at == n) (whole_puts n cs all.1)
   where
     by : (b : Bool) → Whole (puts_at n cs) → Whole (if b then text ∷ puts_at n cs else puts_at n cs)
     by true later = (all.0, later)
     by false later = later
-whole_puts n (Swap at text ∷ cs) all = whole_puts n cs all.1
-whole_puts n (Take at ∷ cs) all = whole_puts n cs all
+whole_puts n (Swap file at text ∷ cs) all = whole_puts n cs all.1
+whole_puts n (Take file at ∷ cs) all = whole_puts n cs all
 
 whole_left : (n : ℕ) (cs : List LineChange) (line : List ℕ) → IsLogicalLine line → Whole (brought cs) → Whole (left_of n cs line)
 whole_left n [] line is all = (is, tt)
-whole_left n (Put at text ∷ cs) line is all = whole_left n cs line is all.1
-whole_left n (Swap at text ∷ cs) line is all = by (at == n) (whole_left n cs line is all.1)
+whole_left n (Put file at text ∷ cs) line is all = whole_left n cs line is all.1
+whole_left n (Swap file at text ∷ cs) line is all = by (at == n) (whole_left n cs line is all.1)
   where
     by : (b : Bool) → Whole (left_of n cs line) → Whole (if b then text ∷ [] else left_of n cs line)
     by true later = (all.0, tt)
     by false later = later
-whole_left n (Take at ∷ cs) line is all = by (at == n) (whole_left n cs line is all)
+whole_left n (Take file at ∷ cs) line is all = by (at == n) (whole_left n cs line is all)
   where
     by : (b : Bool) → Whole (left_of n cs line) → Whole (if b then [] else left_of n cs line)
     by true later = tt

@@ -59,9 +59,9 @@ change_appended t rows n c cs old new order is =
     ∙ ap (λ ls. front ++ (text ++ changed_from (next_place c) cs ls)) behind))
   where
     forward : (c : LineChange) → n ≤ place_of c → n + (next_place c - n) ≡ next_place c
-    forward (Put at text) h = omega (arith, h)
-    forward (Swap at text) h = omega (arith, h)
-    forward (Take at) h = omega (arith, h)
+    forward (Put file at text) h = omega (arith, h)
+    forward (Swap file at text) h = omega (arith, h)
+    forward (Take file at) h = omega (arith, h)
 
 -- the text of a change, appended to the lines before it
 pub text_appended : (t : Tables) (old middle : List Piece) (front : List (List ℕ)) (text : List ℕ) → piece_texts t middle ≡ piece_texts t old ++ front
@@ -69,9 +69,9 @@ pub text_appended : (t : Tables) (old middle : List Piece) (front : List (List �
 text_appended t old middle front text is = ap (λ ls. ls ++ text ∷ []) is ∙ append_assoc (piece_texts t old) front (text ∷ [])
 
 pub place_within : (n : ℕ) (c : LineChange) (cs : List LineChange) (count : ℕ) → AreInOrder n (c ∷ cs) count → place_of c ≤ count
-place_within n (Put at text) cs count is = ends at cs count is.1
-place_within n (Swap at text) cs count is = omega (arith, ends (at + 1) cs count is.1)
-place_within n (Take at) cs count is = omega (arith, ends (at + 1) cs count is.1)
+place_within n (Put file at text) cs count is = ends at cs count is.1
+place_within n (Swap file at text) cs count is = omega (arith, ends (at + 1) cs count is.1)
+place_within n (Take file at) cs count is = omega (arith, ends (at + 1) cs count is.1)
 
 pub all_taken : (t : Tables) (rows : List LineRow) (n count : ℕ) → count ≡ length rows → texts (map (line_in t) (take (count - n) (drop n rows))) ≡ texts_from t rows n
 all_taken t rows n count is = ap (λ rs. texts (map (line_in t) rs)) (take_all (count - n) (drop n rows) (omega (arith, is, length-drop n rows)))

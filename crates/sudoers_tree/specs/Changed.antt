@@ -12,19 +12,21 @@ replaced (suc at) line (old ∷ lines) = old ∷ replaced at line lines
 
 -- ---- several changes at once
 
+-- These are changes of the lines of one file: its number is not looked at.
+
 -- the texts that these changes put before the line with this number, in their order
 abbrev pub puts_at : ℕ → List LineChange → List (List ℕ)
 puts_at n [] = []
-puts_at n (Put at text ∷ changes) = if at == n then text ∷ puts_at n changes else puts_at n changes
-puts_at n (Swap at text ∷ changes) = puts_at n changes
-puts_at n (Take at ∷ changes) = puts_at n changes
+puts_at n (Put file at text ∷ changes) = if at == n then text ∷ puts_at n changes else puts_at n changes
+puts_at n (Swap file at text ∷ changes) = puts_at n changes
+puts_at n (Take file at ∷ changes) = puts_at n changes
 
 -- what these changes leave of the line with this number: the line, or the text that replaces it, or nothing
 abbrev pub left_of : ℕ → List LineChange → List ℕ → List (List ℕ)
 left_of n [] line = line ∷ []
-left_of n (Put at text ∷ changes) line = left_of n changes line
-left_of n (Swap at text ∷ changes) line = if at == n then text ∷ [] else left_of n changes line
-left_of n (Take at ∷ changes) line = if at == n then [] else left_of n changes line
+left_of n (Put file at text ∷ changes) line = left_of n changes line
+left_of n (Swap file at text ∷ changes) line = if at == n then text ∷ [] else left_of n changes line
+left_of n (Take file at ∷ changes) line = if at == n then [] else left_of n changes line
 
 -- these lines, the first of which has the number n, after the changes: before each line the texts that are put there, then what is left
 -- of the line, and at the end the texts that are put there
@@ -38,15 +40,15 @@ changed changes lines = changed_from 0 changes lines
 
 -- the place of a change
 abbrev pub place_of : LineChange → ℕ
-place_of (Put at text) = at
-place_of (Swap at text) = at
-place_of (Take at) = at
+place_of (Put file at text) = at
+place_of (Swap file at text) = at
+place_of (Take file at) = at
 
 -- the first place that a change after it may have
 abbrev pub next_place : LineChange → ℕ
-next_place (Put at text) = at
-next_place (Swap at text) = at + 1
-next_place (Take at) = at + 1
+next_place (Put file at text) = at
+next_place (Swap file at text) = at + 1
+next_place (Take file at) = at + 1
 
 -- The places of the changes ascend from the number n on, among so many lines. At a place, what is put there comes first, and the line is
 -- replaced or taken out once.
@@ -56,9 +58,15 @@ AreInOrder n (change ∷ changes) count = (n ≤ place_of change) × AreInOrder 
 
 -- the text that a change brings
 abbrev pub text_brought : LineChange → Option (List ℕ)
-text_brought (Put at text) = Some text
-text_brought (Swap at text) = Some text
-text_brought (Take at) = None
+text_brought (Put file at text) = Some text
+text_brought (Swap file at text) = Some text
+text_brought (Take file at) = None
+
+-- the number of the file whose lines a change is of
+abbrev pub file_of : LineChange → ℕ
+file_of (Put file at text) = file
+file_of (Swap file at text) = file
+file_of (Take file at) = file
 
 -- the texts that these changes bring
 abbrev pub brought : List LineChange → List (List ℕ)

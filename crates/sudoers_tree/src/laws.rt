@@ -129,9 +129,9 @@ pub fn changed_by_first()
 
 /// One change puts, takes out or replaces one line.
 pub fn one_change()
-    ensures put { (lines : List (List ℕ)) (at : ℕ) (text : List ℕ) → at ≤ length lines → changed (Put at text ∷ []) lines ≡ insert lines at text }
-    ensures take { (lines : List (List ℕ)) (at : ℕ) → at < length lines → changed (Take at ∷ []) lines ≡ remove lines at }
-    ensures swap { (lines : List (List ℕ)) (at : ℕ) (text : List ℕ) → at < length lines → changed (Swap at text ∷ []) lines ≡ replaced at text lines }
+    ensures put { (lines : List (List ℕ)) (file at : ℕ) (text : List ℕ) → at ≤ length lines → changed (Put file at text ∷ []) lines ≡ insert lines at text }
+    ensures take { (lines : List (List ℕ)) (file at : ℕ) → at < length lines → changed (Take file at ∷ []) lines ≡ remove lines at }
+    ensures swap { (lines : List (List ℕ)) (file at : ℕ) (text : List ℕ) → at < length lines → changed (Swap file at text ∷ []) lines ≡ replaced at text lines }
 {}
 
 /// `read_until` computes of the lines of a text what `Reads` defines, and `Reads` defines no other outcome.

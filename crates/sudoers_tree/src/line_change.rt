@@ -2,29 +2,53 @@
 
 ghost use Rattle.std.specs.Prelude.{◌≡◌, ◌<◌, ◌^◌, option_map};
 ghost use Rattle.std.specs.Option.{option_copied};
-ghost use Rattle.sudoers_tree.specs.Changed.{next_place, place_of, text_brought};
+ghost use Rattle.sudoers_tree.specs.Changed.{file_of, next_place, place_of, text_brought};
 
 use sudoers_line::Items;
 
-/// A change of the lines of a policy. `at` is the number of a line before the change, from 0.
+/// A change of the lines of a policy. `file` is the number of the file whose line it changes, and `at` the number of a line of that file
+/// before the change, both from 0.
 #[derive(Debug, Drop)]
 pub enum LineChange {
     /// Puts the line `text` before the line with the number `at`, or after the last line.
-    Put { at: usize, text: Items<u8> },
+    Put {
+        file: usize,
+        at: usize,
+        text: Items<u8>,
+    },
     /// Replaces the line with the number `at` by the line `text`.
-    Swap { at: usize, text: Items<u8> },
+    Swap {
+        file: usize,
+        at: usize,
+        text: Items<u8>,
+    },
     /// Takes out the line with the number `at`.
-    Take { at: usize },
+    Take {
+        file: usize,
+        at: usize,
+    },
 }
 
 impl LineChange {
+    /// Returns the number of the file whose line it changes.
+    pub(crate) fn file(&self) -> usize
+        ensures { result ≡ file_of self.now }
+    {
+        match self {
+            LineChange::Put { file, .. }
+            | LineChange::Swap { file, .. }
+            | LineChange::Take { file, .. } => *file,
+        }
+    }
+
     /// Returns its place.
     pub(crate) fn place(&self) -> usize
         ensures { result ≡ place_of self.now }
     {
         match self {
-            LineChange::Put { at, .. } | LineChange::Swap { at, .. } | LineChange::Take { at } =>
-                *at,
+            LineChange::Put { at, .. }
+            | LineChange::Swap { at, .. }
+            | LineChange::Take { at, .. } => *at,
         }
     }
 
@@ -35,7 +59,7 @@ impl LineChange {
     {
         match self {
             LineChange::Put { at, .. } => *at,
-            LineChange::Swap { at, .. } | LineChange::Take { at } => *at + 1,
+            LineChange::Swap { at, .. } | LineChange::Take { at, .. } => *at + 1,
         }
     }
 

@@ -213,7 +213,7 @@ impl OneFile {
         ensures unchanged { OnErr result (self.new ≡ self.old) }
     {
         let text = Items::from_slice(self.alloc, line)?;
-        let changes = Items::one(self.alloc, LineChange::Put { at, text })?;
+        let changes = Items::one(self.alloc, LineChange::Put { file: 0, at, text })?;
         self.changed(changes.as_slice())
     }
 
@@ -229,7 +229,7 @@ impl OneFile {
         ensures fault { IfErr result (λ fault. (fault ≡ ReadFault.NoMemory) ⊎ IsFaultOf (join (remove (texts self.old) at)) fault) }
         ensures unchanged { OnErr result (self.new ≡ self.old) }
     {
-        let changes = Items::one(self.alloc, LineChange::Take { at })?;
+        let changes = Items::one(self.alloc, LineChange::Take { file: 0, at })?;
         self.changed(changes.as_slice())
     }
 
@@ -247,7 +247,7 @@ impl OneFile {
         ensures unchanged { OnErr result (self.new ≡ self.old) }
     {
         let text = Items::from_slice(self.alloc, line)?;
-        let changes = Items::one(self.alloc, LineChange::Swap { at, text })?;
+        let changes = Items::one(self.alloc, LineChange::Swap { file: 0, at, text })?;
         self.changed(changes.as_slice())
     }
 

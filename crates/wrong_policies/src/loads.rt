@@ -54,10 +54,10 @@ pub fn walk_spots(policy: &Policy) -> &[Spot]
 /// # Errors
 ///
 /// Memory ran out.
-pub fn file_text(alloc: Global, policy: &Policy, file: usize) -> Result<Vec<u8>, AllocError>
+pub fn file_text(policy: &Policy, file: usize) -> Result<Vec<u8>, AllocError>
     ensures { IfOk result (λ text. text.items ≡ join (texts (lines_of policy.now.files file))) }
 {
-    policy.text(alloc, file)
+    policy.text(file)
 }
 
 /// Returns `files` with the include lines of each behind its other lines.

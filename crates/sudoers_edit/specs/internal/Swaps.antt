@@ -14,7 +14,7 @@ use Rattle.sudoers_edit.specs.Renaming.{put_at, starts_in, if_lines}
 -- the change of the line with this number, if the name stands in it at some places
 abbrev pub swap_at : ℕ → ℕ → List ℕ → List ℕ → List ℕ → List LineChange
 swap_at n size fresh [] text = []
-swap_at n size fresh (start ∷ starts) text = Swap n (put_at 0 size fresh (start ∷ starts) text) ∷ []
+swap_at n size fresh (start ∷ starts) text = Swap 0 n (put_at 0 size fresh (start ∷ starts) text) ∷ []
 
 abbrev pub swap_of : ℕ → Kind → List ℕ → List ℕ → Line → List LineChange
 swap_of n k name fresh line = swap_at n (length name) fresh (starts_in k name line.node) line.text
@@ -26,9 +26,9 @@ swaps_from n k name fresh (line ∷ policy) = swap_of n k name fresh line ++ swa
 
 -- the change brings a line without LF before the line with the number `last`
 abbrev pub is_open : ℕ → LineChange → Bool
-is_open last (Put at text) = false
-is_open last (Swap at text) = nat_lt at last && not (ends_in_lf text)
-is_open last (Take at) = false
+is_open last (Put file at text) = false
+is_open last (Swap file at text) = nat_lt at last && not (ends_in_lf text)
+is_open last (Take file at) = false
 
 -- these lines, if each is within the limit and one logical line, and together they are a policy
 abbrev pub if_short : List (List ℕ) → Result (List (List ℕ)) EditFault

@@ -16,16 +16,16 @@ within lines at h = omega (arith, h, length-map lines (λ (line : Line). line.te
 
 pub changed-requires-clause-ended : goal.changed-requires-clause-ended
 changed-requires-clause-ended c =
-    ap has_unended_inside (as_swap c.as_slice.result.now (texts c.args.self.now) c.args.at c.args.line.now (c.as_slice.ensures ∙ c.in_ok-changes.ensures ∙ ap (λ t. Swap c.args.at t ∷ []) c.in_ok-text.ensures) (within c.args.self.now c.args.at c.requires.at)) ∙ c.requires.ended
+    ap has_unended_inside (as_swap c.as_slice.result.now (texts c.args.self.now) 0 c.args.at c.args.line.now (c.as_slice.ensures ∙ c.in_ok-changes.ensures ∙ ap (λ t. Swap 0 c.args.at t ∷ []) c.in_ok-text.ensures) (within c.args.self.now c.args.at c.requires.at)) ∙ c.requires.ended
 
 pub returns-clause-lines : goal.returns-clause-lines
 returns-clause-lines c =
     let is : changed c.as_slice.result.now (texts c.args.self.now) ≡ replaced c.args.at c.args.line.now (texts c.args.self.now) =
-    as_swap c.as_slice.result.now (texts c.args.self.now) c.args.at c.args.line.now (c.as_slice.ensures ∙ c.in_ok-changes.ensures ∙ ap (λ t. Swap c.args.at t ∷ []) c.in_ok-text.ensures) (within c.args.self.now c.args.at c.requires.at) in
+    as_swap c.as_slice.result.now (texts c.args.self.now) 0 c.args.at c.args.line.now (c.as_slice.ensures ∙ c.in_ok-changes.ensures ∙ ap (λ t. Swap 0 c.args.at t ∷ []) c.in_ok-text.ensures) (within c.args.self.now c.args.at c.requires.at) in
     subst (λ ls. OnOk c.changed.result (texts c.changed.new.self ≡ ls)) is c.changed.ensures.lines
 
 pub returns-clause-fault : goal.returns-clause-fault
 returns-clause-fault c =
     let is : changed c.as_slice.result.now (texts c.args.self.now) ≡ replaced c.args.at c.args.line.now (texts c.args.self.now) =
-    as_swap c.as_slice.result.now (texts c.args.self.now) c.args.at c.args.line.now (c.as_slice.ensures ∙ c.in_ok-changes.ensures ∙ ap (λ t. Swap c.args.at t ∷ []) c.in_ok-text.ensures) (within c.args.self.now c.args.at c.requires.at) in
+    as_swap c.as_slice.result.now (texts c.args.self.now) 0 c.args.at c.args.line.now (c.as_slice.ensures ∙ c.in_ok-changes.ensures ∙ ap (λ t. Swap 0 c.args.at t ∷ []) c.in_ok-text.ensures) (within c.args.self.now c.args.at c.requires.at) in
     subst (λ ls. IfErr c.changed.result (λ fault. (fault ≡ NoMemory) ⊎ IsFaultOf (join ls) fault)) is c.changed.ensures.fault
