@@ -28,10 +28,10 @@ use Rattle.sudoers_tree.proofs.TreeLines.{GrowOn, all_on, same_lines}
 use Rattle.sudoers_tree.proofs.WholeLines.{whole_alone}
 
 -- the file with this number
-reading_at : (t : Tables) (files : List FileRows) (f : ℕ) (o : Option FileRows) → slice_get files f ≡ o → slice_get (map (reading_in t) files) f ≡ option_map (reading_in t) o
+pub reading_at : (t : Tables) (files : List FileRows) (f : ℕ) (o : Option FileRows) → slice_get files f ≡ o → slice_get (map (reading_in t) files) f ≡ option_map (reading_in t) o
 reading_at t files f o is = slice_get-map (reading_in t) files f ∙ ap (option_map (reading_in t)) is
 
-file_at : (t : Tables) (files : List FileRows) (f : ℕ) (file : FileRows) → All (IsFile t) files → slice_get files f ≡ Some file → IsFile t file
+pub file_at : (t : Tables) (files : List FileRows) (f : ℕ) (file : FileRows) → All (IsFile t) files → slice_get files f ≡ Some file → IsFile t file
 file_at t files f file are is =
     subst (IsFile t) (get_or_from_slice_get files f file file is) (All-get_or (IsFile t) files f file (slice_get_within files f file is) are)
 
@@ -48,7 +48,7 @@ file_fits t files f are = by (slice_get files f) refl
 
 -- ---- tables that grow
 
-file_on : GrowOn → (t u : Tables) → Grown t u → (file : FileRows) → IsFile t file → IsFile u file
+pub file_on : GrowOn → (t u : Tables) → Grown t u → (file : FileRows) → IsFile t file → IsFile u file
 file_on on t u g file is = record {
   stand = all_on on t u g file.rows.items is.stand;
   whole = subst (λ (ls : List Line). AllByRecursion IsLogicalLine (texts ls)) (sym (same_lines t u g file.rows.items is.stand)) is.whole;

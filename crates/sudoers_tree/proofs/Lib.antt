@@ -10,6 +10,7 @@ pub mod ReadUntil
 pub mod ReadsLines
 pub mod FileRows
 pub mod FileChanges
+pub mod ChangedLoads
 pub mod LineRows
 pub mod Placed
 pub mod WholeFiles

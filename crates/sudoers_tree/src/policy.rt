@@ -1,9 +1,10 @@
 //! Policies of several files.
 
-ghost use Rattle.std.specs.Prelude.{◌≡◌, ◌⊎◌, ◌≤◌, ℕ, Some, length, option_map, slice_get, IfOk, MatchResult, Ok, Err};
+ghost use Rattle.std.specs.Prelude.{◌≡◌, ◌⊎◌, ◌≤◌, ℕ, Some, length, option_map, slice_get, IfOk, OnOk, OnErr, MatchResult, Ok, Err};
 ghost use Rattle.sudoers_text.specs.Fault.{text_limit};
 ghost use Rattle.sudoers_text.specs.Line.{join};
 ghost use Rattle.sudoers_tree.specs.declared.load_fault.LoadFault.TheVariants.{NoMemory};
+ghost use Rattle.sudoers_tree.specs.ChangedFiles.{CanBeMade, files_changed};
 ghost use Rattle.sudoers_tree.specs.Files.{lines_of, name_of};
 ghost use Rattle.sudoers_tree.specs.Line.{Line as LineOf, line_shown, lines_shown};
 ghost use Rattle.sudoers_tree.specs.Load.{HasSpot, files_of, load_of, one_file};
@@ -13,6 +14,7 @@ ghost use Rattle.sudoers_tree.specs.internal.Files.{AreFiles, files_shown};
 use crate::files::Files;
 use crate::laws::{loaded_files_are, loaded_is_walk, loaded_is_within, loaded_lines_stand};
 use crate::line::{Line, LineRow};
+use crate::line_change::LineChange;
 use crate::load::{FILE_LIMIT, NamedFile, first_repeated, read_files};
 use crate::load_fault::LoadFault;
 use crate::place::Spot;
@@ -194,6 +196,65 @@ impl Policy {
         let lines = self.file_lines(file);
         append_texts(lines.tables, lines.rows, &mut text)?;
         Ok(text)
+    }
+
+    /// Makes the changes `changes` of the lines at once, and walks over the files anew. It reads the new lines alone.
+    ///
+    /// # Errors
+    ///
+    /// Those of loading the changed files; the policy is then as it was.
+    pub fn changed(&mut self, changes: &[LineChange]) -> Result<(), LoadFault>
+        requires { CanBeMade changes.now self.old.files }
+        // The result is the policy of the changed files, or their first fault, unless memory ran out.
+        ensures outcome { MatchResult result (λ _. load_of (files_changed changes.now self.old.files) ≡ Ok self.new)
+            (λ fault. (fault ≡ NoMemory) ⊎ (load_of (files_changed changes.now self.old.files) ≡ Err fault)) }
+        ensures files { OnOk result (files_of self.new ≡ files_changed changes.now self.old.files) }
+        ensures unchanged { OnErr result (self.new ≡ self.old) }
+    {
+        self.is_loaded();
+        loaded_files_are();
+        self.drop_waste()?;
+        self.walked.change(self.alloc, changes)
+    }
+
+    /// Loads the files again if most bytes of the tables are unused.
+    fn drop_waste(&mut self) -> Result<(), AllocError>
+        ensures { self.new ≡ self.old }
+    {
+        self.is_loaded();
+        if self.walked.is_mostly_unused() {
+            let files = self.named_files()?;
+            match Policy::load(self.alloc, files.as_slice()) {
+                Ok(policy) => *self = policy,
+                Err(_) => return Err(AllocError),
+            }
+        }
+        Ok(())
+    }
+
+    /// Returns the files with their bytes.
+    ///
+    /// # Errors
+    ///
+    /// Memory ran out.
+    pub fn named_files(&self) -> Result<Vec<NamedFile>, AllocError>
+        ensures { IfOk result (λ files. files.items ≡ files_of self.now) }
+    {
+        let mut files = Vec::with_capacity(self.alloc, self.files())?;
+        for file in 0..self.files() {
+            files.push(self.named_file(file)?)?;
+        }
+        Ok(files)
+    }
+
+    /// Returns the file with the number `file`, from 0, with its bytes.
+    fn named_file(&self, file: usize) -> Result<NamedFile, AllocError>
+        ensures { IfOk result (λ named. named ≡ record { name = name_of self.now.files file; bytes = join (texts (lines_of self.now.files file)) }) }
+    {
+        Ok(NamedFile {
+            name: Items::from_slice(self.alloc, self.file_name(file))?,
+            bytes: Items::from_vec(self.text(file)?),
+        })
     }
 
     /// Returns how many lines the file with the number `file`, from 0, has.
