@@ -2,6 +2,7 @@ pub mod Lead
 pub mod Files
 pub mod Targets
 pub mod Walk
+pub mod FilePlaces
 pub mod Goes
 pub mod Load
 pub mod Physical

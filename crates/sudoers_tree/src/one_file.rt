@@ -25,9 +25,8 @@ use crate::fault::{ReadFault, SyntaxFault};
 use crate::index::Index;
 use crate::kind::LineKind;
 use crate::laws::{lines_are_short, lines_are_whole, read_is, whole_lines_are_read};
-use crate::line::{Line, LineRow};
+use crate::line::LineRow;
 use crate::line_change::LineChange;
-use crate::mention::append_mentions;
 use crate::passing::enter_lines;
 use crate::place::{Place, Span};
 use crate::texts::append_texts;
@@ -313,13 +312,7 @@ impl OneFile {
     pub fn mentions(&self, kind: Kind, name: &[u8]) -> Result<Vec<Span>, AllocError>
         ensures { IfOk result (λ spans. spans.items ≡ mentions kind name.now self.now) }
     {
-        let mut spans = Vec::new(self.alloc);
-        let lines = self.walk().lines();
-        for (number, row) in lines.rows.iter().enumerate() {
-            let line = Line::of(lines.tables, row);
-            append_mentions(self.alloc, kind, name, number, &line.node, &mut spans)?;
-        }
-        Ok(spans)
+        self.walk().mentions(self.alloc, kind, name)
     }
 }
 

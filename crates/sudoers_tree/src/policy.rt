@@ -1,17 +1,21 @@
 //! Policies of several files.
 
-ghost use Rattle.std.specs.Prelude.{◌≡◌, ◌⊎◌, ◌≤◌, ℕ, Some, length, option_map, slice_get, IfOk, OnOk, OnErr, MatchResult, Ok, Err};
+ghost use Rattle.std.specs.Prelude.{◌≡◌, ◌⊎◌, ◌≤◌, ◌∷◌, [], ℕ, Some, length, option_map, slice_get, IfOk, OnOk, OnErr, MatchResult, Ok, Err};
 ghost use Rattle.sudoers_text.specs.Fault.{text_limit};
 ghost use Rattle.sudoers_text.specs.Line.{join};
 ghost use Rattle.sudoers_tree.specs.declared.load_fault.LoadFault.TheVariants.{NoMemory};
+ghost use Rattle.sudoers_line_rows.specs.View.{node_shown};
+ghost use Rattle.sudoers_tree.specs.declared.line_change.LineChange.TheVariants.{Put, Swap, Take};
 ghost use Rattle.sudoers_tree.specs.ChangedFiles.{CanBeMade, files_changed};
 ghost use Rattle.sudoers_tree.specs.Files.{lines_of, name_of};
+ghost use Rattle.sudoers_tree.specs.Kind.{line_kind};
 ghost use Rattle.sudoers_tree.specs.Line.{Line as LineOf, line_shown, lines_shown};
 ghost use Rattle.sudoers_tree.specs.Load.{HasSpot, files_of, load_of, one_file};
 ghost use Rattle.sudoers_tree.specs.Policy.{texts};
 ghost use Rattle.sudoers_tree.specs.internal.Files.{AreFiles, files_shown};
 
 use crate::files::Files;
+use crate::kind::LineKind;
 use crate::laws::{loaded_files_are, loaded_is_walk, loaded_is_within, loaded_lines_stand};
 use crate::line::{Line, LineRow};
 use crate::line_change::LineChange;
@@ -25,7 +29,7 @@ use std::alloc::{AllocError, Global};
 use std::boxed::Box;
 use std::marker::Model;
 use sudoers_line::Items;
-use sudoers_line_rows::{Rows, Tables};
+use sudoers_line_rows::{Node, Rows, Tables};
 
 /// A policy of several files, and the walk over them: the lines of the first, each include line followed by the walk of the files to
 /// which it leads. Contracts see each file as it is read, the lines of the walk with what they say, where each stands, and the
@@ -109,6 +113,11 @@ impl Policy {
             tables: &self.walked.tables,
             files: self.walked.files.as_slice(),
         }
+    }
+
+    /// Returns the allocator of the lines.
+    pub fn allocator(&self) -> Global {
+        self.alloc
     }
 
     /// Returns the lines of the walk with what they say.
@@ -257,6 +266,53 @@ impl Policy {
         })
     }
 
+    /// Puts the line `line` before the line with the number `at` of the file with the number `file`, both from 0, or after its last line.
+    ///
+    /// # Errors
+    ///
+    /// Those of [`Policy::changed`]; the policy is then as it was.
+    pub fn with_line(&mut self, file: usize, at: usize, line: &[u8]) -> Result<(), LoadFault>
+        requires { CanBeMade (Put file at line.now ∷ []) self.old.files }
+        ensures outcome { MatchResult result (λ _. load_of (files_changed (Put file at line.now ∷ []) self.old.files) ≡ Ok self.new)
+            (λ fault. (fault ≡ NoMemory) ⊎ (load_of (files_changed (Put file at line.now ∷ []) self.old.files) ≡ Err fault)) }
+        ensures unchanged { OnErr result (self.new ≡ self.old) }
+    {
+        let text = Items::from_slice(self.alloc, line)?;
+        let changes = Items::one(self.alloc, LineChange::Put { file, at, text })?;
+        self.changed(changes.as_slice())
+    }
+
+    /// Removes the line with the number `at` of the file with the number `file`, both from 0.
+    ///
+    /// # Errors
+    ///
+    /// Those of [`Policy::changed`]; the policy is then as it was.
+    pub fn without_line(&mut self, file: usize, at: usize) -> Result<(), LoadFault>
+        requires { CanBeMade (Take file at ∷ []) self.old.files }
+        ensures outcome { MatchResult result (λ _. load_of (files_changed (Take file at ∷ []) self.old.files) ≡ Ok self.new)
+            (λ fault. (fault ≡ NoMemory) ⊎ (load_of (files_changed (Take file at ∷ []) self.old.files) ≡ Err fault)) }
+        ensures unchanged { OnErr result (self.new ≡ self.old) }
+    {
+        let changes = Items::one(self.alloc, LineChange::Take { file, at })?;
+        self.changed(changes.as_slice())
+    }
+
+    /// Replaces the line with the number `at` of the file with the number `file`, both from 0, by the line `line`.
+    ///
+    /// # Errors
+    ///
+    /// Those of [`Policy::changed`]; the policy is then as it was.
+    pub fn replaced(&mut self, file: usize, at: usize, line: &[u8]) -> Result<(), LoadFault>
+        requires { CanBeMade (Swap file at line.now ∷ []) self.old.files }
+        ensures outcome { MatchResult result (λ _. load_of (files_changed (Swap file at line.now ∷ []) self.old.files) ≡ Ok self.new)
+            (λ fault. (fault ≡ NoMemory) ⊎ (load_of (files_changed (Swap file at line.now ∷ []) self.old.files) ≡ Err fault)) }
+        ensures unchanged { OnErr result (self.new ≡ self.old) }
+    {
+        let text = Items::from_slice(self.alloc, line)?;
+        let changes = Items::one(self.alloc, LineChange::Swap { file, at, text })?;
+        self.changed(changes.as_slice())
+    }
+
     /// Returns how many lines the file with the number `file`, from 0, has.
     pub fn len(&self, file: usize) -> usize
         ensures { result ≡ length (lines_of self.now.files file) }
@@ -269,5 +325,19 @@ impl Policy {
         ensures { option_map line_shown result ≡ slice_get (lines_of self.now.files file) line }
     {
         self.read_files().line(file, line)
+    }
+
+    /// Returns the kind of the line with the number `line` of the file with the number `file`, both from 0.
+    pub fn line_kind(&self, file: usize, line: usize) -> Option<LineKind>
+        ensures { result ≡ option_map (λ (line : LineOf). line_kind line.node) (slice_get (lines_of self.now.files file) line) }
+    {
+        self.read_files().kind(file, line)
+    }
+
+    /// Returns what the line with the number `line` of the file with the number `file` says, both from 0.
+    pub fn node(&self, file: usize, line: usize) -> Option<Node<'_>>
+        ensures { option_map node_shown result ≡ option_map (λ (line : LineOf). line.node) (slice_get (lines_of self.now.files file) line) }
+    {
+        Some(self.line(file, line)?.node)
     }
 }

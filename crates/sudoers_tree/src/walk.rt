@@ -1,6 +1,6 @@
 //! The lines of a policy in the order of the walk, with the names that they define.
 
-ghost use Rattle.std.specs.Prelude.{◌≡◌, ◌≤◌, ◌*◌, length, slice_get};
+ghost use Rattle.std.specs.Prelude.{◌≡◌, ◌≤◌, ◌*◌, length, slice_get, IfOk};
 ghost use Rattle.std.specs.Option.{option_map};
 ghost use Rattle.sudoers_text.specs.Line.{join};
 ghost use Rattle.sudoers_text.specs.Fault.{text_limit};
@@ -9,12 +9,15 @@ ghost use Rattle.sudoers_line_rows.specs.View.{defs_shown, members_shown, node_s
 ghost use Rattle.sudoers_tree.specs.Line.{Line as LineOf, line_shown, lines_shown};
 ghost use Rattle.sudoers_tree.specs.Definition.{definitions, place_of, members_of};
 ghost use Rattle.sudoers_tree.specs.Index.{Indexes};
+ghost use Rattle.sudoers_tree.specs.Mention.{mentions};
 ghost use Rattle.sudoers_tree.specs.Load.{file_limit};
 ghost use Rattle.sudoers_tree.specs.Policy.{IsWalk, texts};
 
 use crate::index::Index;
 use crate::line::{Line, LineRow};
-use crate::place::Place;
+use crate::mention::append_mentions;
+use crate::place::{Place, Span};
+use std::alloc::{AllocError, Global};
 use std::marker::Model;
 use sudoers_line::Kind;
 use sudoers_line_rows::{DefRow, MemberRow, Node, Rows};
@@ -98,6 +101,28 @@ impl<'a> Walk<'a> {
         ensures { result ≡ place_of kind name.now self.now }
     {
         self.index.of(kind).get(name)
+    }
+
+    /// Returns where the name `name` stands as a member of a list of the kind `kind`, in the order of the lines.
+    ///
+    /// # Errors
+    ///
+    /// Memory ran out.
+    pub fn mentions(
+        &self,
+        alloc: Global,
+        kind: Kind,
+        name: &[u8],
+    ) -> Result<Vec<Span>, AllocError>
+        ensures { IfOk result (λ spans. spans.items ≡ mentions kind name.now self.now) }
+    {
+        let mut spans = Vec::new(alloc);
+        let lines = self.lines();
+        for (number, row) in lines.rows.iter().enumerate() {
+            let line = Line::of(lines.tables, row);
+            append_mentions(alloc, kind, name, number, &line.node, &mut spans)?;
+        }
+        Ok(spans)
     }
 
     /// Returns the members of the alias `name` of the kind `kind`.

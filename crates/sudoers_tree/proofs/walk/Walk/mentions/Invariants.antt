@@ -1,7 +1,7 @@
 use Rattle.std.proofs.Common.{◌≡◌, ◌++◌, drop, map}
 use Rattle.sudoers_tree.specs.Line.{line_in}
 use Rattle.sudoers_tree.specs.Mention.{mentions_since}
-use Rattle.sudoers_tree.proofs.one_file.OneFile.mentions.Given as goal
+use Rattle.sudoers_tree.proofs.walk.Walk.mentions.Given as goal
 
 abbrev pub invariant-loop-number : goal.invariant-loop-number
 invariant-loop-number l =
