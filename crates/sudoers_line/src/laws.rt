@@ -1,6 +1,6 @@
 //! Laws of lines, for the layers above. Each is the contract of a function that does nothing.
 
-ghost use Rattle.std.specs.Prelude.{◌≡◌, ℕ, List, length};
+ghost use Rattle.std.specs.Prelude.{◌≡◌, ℕ, List, map, length};
 ghost use Rattle.sudoers_line.specs.declared.fault.Why.{Why as WhyOf};
 ghost use Rattle.sudoers_line.specs.Node.{Def as DefOf, Node as NodeOf};
 ghost use Rattle.sudoers_line.specs.declared.node.Kind.{Kind as KindOf};
@@ -9,8 +9,12 @@ ghost use Rattle.sudoers_text.specs.Word.{is_among, is_tag, is_option_name, dige
 ghost use Rattle.sudoers_line.specs.Piece.{is_some, looked_up, option_names, tag_of_word, digest_kinds, include_words};
 ghost use Rattle.sudoers_line.specs.Line.{ReadsLine, IsFault};
 ghost use Rattle.sudoers_line.specs.Ascend.{DefsAscend};
+ghost use Rattle.sudoers_text.specs.Ended.{ends_in_lf};
+ghost use Rattle.sudoers_text.specs.Whole.{IsLogicalLine};
+ghost use Rattle.sudoers_text.specs.Renamed.{IsAliasName};
+ghost use Rattle.sudoers_line.specs.Renamed.{Named as NamedOf, renamed_node, node_places, renamed_text, change_of, put_all, shifted};
 
-use sudoers_text::laws::{one_token_list, tokens_ascend};
+use sudoers_text::laws::{one_token_list, renamed_tokens, tokens_ascend};
 
 /// A line that says something has no fault.
 pub fn no_fault()
@@ -41,4 +45,21 @@ pub fn definitions_ascend()
         → DefsAscend 0 (length line) defs }
 {
     tokens_ascend();
+}
+
+/// A line in which an alias is given another name where it is named in lists of these kinds, says what it said but for that name, and is
+/// one logical line if it was one; it ends in LF if it did. The old name given
+/// back where the new one stands gives the old line.
+pub fn renamed_line()
+    ensures same { (alias : NamedOf) (fresh line : List ℕ) (node : NodeOf) → IsAliasName alias.name → IsAliasName fresh → ReadsLine line node
+        → ReadsLine (renamed_text alias fresh node line) (renamed_node (change_of alias fresh node line) node)
+        × (IsLogicalLine line → IsLogicalLine (renamed_text alias fresh node line))
+        × (ends_in_lf line ≡ ends_in_lf (renamed_text alias fresh node line)) }
+    ensures back { (alias : NamedOf) (fresh line : List ℕ) (node : NodeOf) → IsAliasName alias.name → IsAliasName fresh → ReadsLine line node
+        → put_all (length fresh) alias.name
+        (map (shifted (length alias.name) (length fresh) (node_places alias node)) (node_places alias node))
+        (renamed_text alias fresh node line) ≡ line }
+{
+    tokens_ascend();
+    renamed_tokens();
 }

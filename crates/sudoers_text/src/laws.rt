@@ -19,7 +19,7 @@ ghost use Rattle.sudoers_text.specs.Token.{IsToken, LongestOrNone, HasTokens};
 ghost use Rattle.sudoers_text.specs.Ascend.{TokensAscend};
 ghost use Rattle.sudoers_text.specs.Found.{tokens_of};
 ghost use Rattle.sudoers_text.specs.LineMode.{line_mode};
-ghost use Rattle.sudoers_text.specs.Renamed.{IsAliasName, moved};
+ghost use Rattle.sudoers_text.specs.Renamed.{IsDefinableName, moved_tokens};
 
 /// A text has a list of logical lines.
 pub fn some_list()
@@ -149,20 +149,20 @@ pub fn tokens_ascend()
 /// Where a word that can name an alias is replaced by another that can, the tokens of the line are the same, those behind it
 /// moved, but for that one.
 pub fn renamed_tokens()
-    ensures same { (mode : ModeOf) (front word other rest : List ℕ) (before behind : List TokenOf) → IsAliasName word → IsAliasName other
+    ensures same { (mode : ModeOf) (front word other rest : List ℕ) (before behind : List TokenOf) → IsDefinableName word → IsDefinableName other
         → HasTokens mode (front ++ (word ++ rest))
         (before ++ record { kind = kind.Word; start = length front; stop = length front + length word } ∷ behind)
         → HasTokens mode (front ++ (other ++ rest))
         (before ++ record { kind = kind.Word; start = length front; stop = length front + length other }
-        ∷ moved (length word) (length other) behind) }
-    ensures mode { (mode : ModeOf) (front word other rest : List ℕ) (before behind : List TokenOf) → IsAliasName word → IsAliasName other
+        ∷ moved_tokens (length word) (length other) behind) }
+    ensures mode { (mode : ModeOf) (front word other rest : List ℕ) (before behind : List TokenOf) → IsDefinableName word → IsDefinableName other
         → HasTokens mode (front ++ (word ++ rest))
         (before ++ record { kind = kind.Word; start = length front; stop = length front + length word } ∷ behind)
         → line_mode (front ++ (word ++ rest)) ≡ line_mode (front ++ (other ++ rest)) }
-    ensures line { (mode : ModeOf) (front word other rest : List ℕ) (before behind : List TokenOf) → IsAliasName word → IsAliasName other
+    ensures line { (mode : ModeOf) (front word other rest : List ℕ) (before behind : List TokenOf) → IsDefinableName word → IsDefinableName other
         → HasTokens mode (front ++ (word ++ rest))
         (before ++ record { kind = kind.Word; start = length front; stop = length front + length word } ∷ behind)
         → IsLogicalLine (front ++ (word ++ rest)) → IsLogicalLine (front ++ (other ++ rest)) }
-    ensures ends { (front word other rest : List ℕ) → IsAliasName word → IsAliasName other
+    ensures ends { (front word other rest : List ℕ) → IsDefinableName word → IsDefinableName other
         → ends_in_lf (front ++ (word ++ rest)) ≡ ends_in_lf (front ++ (other ++ rest)) }
 {}
