@@ -1,13 +1,12 @@
 //! Laws of logical lines and tokens, for the layers above. Each is the contract of a function that does nothing.
 
-ghost use Rattle.std.specs.Prelude.{◌≡◌, ◌≢◌, ◌<◌, ◌≤◌, ℕ, ◌+◌, List, [], ◌∷◌, ◌++◌, length, Result, Ok, true, false};
+ghost use Rattle.std.specs.Prelude.{◌≡◌, ◌≢◌, ◌<◌, ◌≤◌, ℕ, List, [], ◌∷◌, ◌++◌, length, Result, Ok, true, false};
 ghost use Rattle.std.specs.List.{AllByRecursion};
 ghost use Rattle.sudoers_text.specs.declared.context.Context.{Context as ContextOf};
 ghost use Rattle.sudoers_text.specs.declared.fault.TextFault.{TextFault as Fault};
 ghost use Rattle.sudoers_text.specs.declared.token.Mode.{Mode as ModeOf};
 ghost use Rattle.sudoers_text.specs.declared.token.Token.{Token as TokenOf};
 ghost use Rattle.sudoers_text.specs.declared.token.TokenKind.{TokenKind as Kind};
-ghost use Rattle.sudoers_text.specs.declared.token.TokenKind.TheVariants as kind;
 ghost use Rattle.sudoers_text.specs.Unit.{LineUnit};
 ghost use Rattle.sudoers_text.specs.Line.{IsLine, IsOpen, Cuts, join};
 ghost use Rattle.sudoers_text.specs.Ended.{ends_in_lf, has_unended_inside};
@@ -19,7 +18,7 @@ ghost use Rattle.sudoers_text.specs.Token.{IsToken, LongestOrNone, HasTokens};
 ghost use Rattle.sudoers_text.specs.Ascend.{TokensAscend};
 ghost use Rattle.sudoers_text.specs.Found.{tokens_of};
 ghost use Rattle.sudoers_text.specs.LineMode.{line_mode};
-ghost use Rattle.sudoers_text.specs.Renamed.{IsDefinableName, moved_tokens};
+ghost use Rattle.sudoers_text.specs.Renamed.{IsDefinableName, name_token, moved_tokens};
 
 /// A text has a list of logical lines.
 pub fn some_list()
@@ -146,22 +145,17 @@ pub fn tokens_ascend()
     ensures { (mode : ModeOf) (line : List ℕ) (tokens : List TokenOf) → HasTokens mode line tokens → TokensAscend 0 (length line) tokens }
 {}
 
-/// Where a word that can name an alias is replaced by another that can, the tokens of the line are the same, those behind it
-/// moved, but for that one.
+/// Where a name that may define an alias is replaced by another, a line keeps what it was but for that name: its tokens, those behind the
+/// name moved; its mode; that it is one logical line, limits aside; and that it ends in LF.
 pub fn renamed_tokens()
     ensures same { (mode : ModeOf) (front word other rest : List ℕ) (before behind : List TokenOf) → IsDefinableName word → IsDefinableName other
-        → HasTokens mode (front ++ (word ++ rest))
-        (before ++ record { kind = kind.Word; start = length front; stop = length front + length word } ∷ behind)
-        → HasTokens mode (front ++ (other ++ rest))
-        (before ++ record { kind = kind.Word; start = length front; stop = length front + length other }
-        ∷ moved_tokens (length word) (length other) behind) }
+        → HasTokens mode (front ++ (word ++ rest)) (before ++ name_token front word ∷ behind)
+        → HasTokens mode (front ++ (other ++ rest)) (before ++ name_token front other ∷ moved_tokens (length word) (length other) behind) }
     ensures mode { (mode : ModeOf) (front word other rest : List ℕ) (before behind : List TokenOf) → IsDefinableName word → IsDefinableName other
-        → HasTokens mode (front ++ (word ++ rest))
-        (before ++ record { kind = kind.Word; start = length front; stop = length front + length word } ∷ behind)
+        → HasTokens mode (front ++ (word ++ rest)) (before ++ name_token front word ∷ behind)
         → line_mode (front ++ (word ++ rest)) ≡ line_mode (front ++ (other ++ rest)) }
     ensures line { (mode : ModeOf) (front word other rest : List ℕ) (before behind : List TokenOf) → IsDefinableName word → IsDefinableName other
-        → HasTokens mode (front ++ (word ++ rest))
-        (before ++ record { kind = kind.Word; start = length front; stop = length front + length word } ∷ behind)
+        → HasTokens mode (front ++ (word ++ rest)) (before ++ name_token front word ∷ behind)
         → IsLogicalLine (front ++ (word ++ rest)) → IsLogicalLine (front ++ (other ++ rest)) }
     ensures ends { (front word other rest : List ℕ) → IsDefinableName word → IsDefinableName other
         → ends_in_lf (front ++ (word ++ rest)) ≡ ends_in_lf (front ++ (other ++ rest)) }
