@@ -16,7 +16,8 @@ use Rattle.sudoers_text.proofs.NameLeft.{Alike, Never, onto}
 pub more_whole : (w : LineUnit) (b : List LineUnit) (after s : List ℕ) → s ≡ text_of w ++ after → spelled (w ∷ b) ++ after ≡ spelled b ++ s
 more_whole w b after s e = append_assoc (spelled b) (text_of w) after ∙ ap (λ (t : List ℕ). spelled b ++ t) (sym e)
 
-pub more_each : (w : LineUnit) (b : List LineUnit) (after s : List ℕ) → s ≡ text_of w ++ after → unit_at b s ≡ Some w → AreUnits b s → AreUnits (w ∷ b) after
+pub more_each : (w : LineUnit) (b : List LineUnit) (after s : List ℕ) → s ≡ text_of w ++ after → unit_at b s ≡ Some w → AreUnits b s
+    → AreUnits (w ∷ b) after
 more_each w b after s e is each = (subst (λ (t : List ℕ). unit_at b t ≡ Some w) e is, subst (λ (t : List ℕ). AreUnits b t) e each)
 
 -- ---- the name
@@ -29,7 +30,9 @@ pick us b rest ends backslash quote hash =
     else (if quote then Some (Quoted (quoted_part false rest))
     else (if hash then Some (Comment (up_to_line_end rest)) else Some (Byte b))))
 
-pub unit_is : (us : List LineUnit) (b : ℕ) (rest : List ℕ) (ends backslash quote hash : Bool) → begins_line_end (b ∷ rest) ≡ ends → (b == 92) ≡ backslash → (b == 34) ≡ quote → (b == 35 && begins_comment us rest) ≡ hash → unit_at us (b ∷ rest) ≡ pick us b rest ends backslash quote hash
+pub unit_is : (us : List LineUnit) (b : ℕ) (rest : List ℕ) (ends backslash quote hash : Bool) → begins_line_end (b ∷ rest) ≡ ends
+    → (b == 92) ≡ backslash → (b == 34) ≡ quote → (b == 35 && begins_comment us rest) ≡ hash
+    → unit_at us (b ∷ rest) ≡ pick us b rest ends backslash quote hash
 unit_is us b rest ends backslash quote hash e f g h =
     ap (λ (t : Bool). pick us b rest t (b == 92) (b == 34) (b == 35 && begins_comment us rest)) e
     ∙ ap (λ (t : Bool). pick us b rest ends t (b == 34) (b == 35 && begins_comment us rest)) f
@@ -41,11 +44,13 @@ name_unit us b rest h =
     let lf : (b == 10) ≡ false = differs is_alias_byte 10 b h refl in
     let cr : (b == 13) ≡ false = differs is_alias_byte 13 b h refl in
     let hash : (b == 35) ≡ false = differs is_alias_byte 35 b h refl in
-    unit_is us b rest false false false false (ap (λ (t : Bool). t || (b == 13 && begins_lf rest)) lf ∙ ap (λ (t : Bool). t && begins_lf rest) cr) (differs is_alias_byte 92 b h refl) (differs is_alias_byte 34 b h refl) (ap (λ (t : Bool). t && begins_comment us rest) hash)
+    unit_is us b rest false false false false (ap (λ (t : Bool). t || (b == 13 && begins_lf rest)) lf ∙ ap (λ (t : Bool). t && begins_lf rest) cr)
+    (differs is_alias_byte 92 b h refl) (differs is_alias_byte 34 b h refl) (ap (λ (t : Bool). t && begins_comment us rest) hash)
 
 pub name_each : (x s : List ℕ) (b : List LineUnit) → Plain x → AreUnits b (x ++ s) → AreUnits (onto x b) s
 name_each [] s b plain each = each
-name_each (a ∷ x) s b plain each = name_each x s (Byte a ∷ b) plain.1 (more_each (Byte a) b (x ++ s) (a ∷ (x ++ s)) refl (name_unit b a (x ++ s) plain.0) each)
+name_each (a ∷ x) s b plain each =
+    name_each x s (Byte a ∷ b) plain.1 (more_each (Byte a) b (x ++ s) (a ∷ (x ++ s)) refl (name_unit b a (x ++ s) plain.0) each)
 
 pub name_whole : (x s : List ℕ) (b : List LineUnit) → spelled (onto x b) ++ s ≡ spelled b ++ (x ++ s)
 name_whole [] s b = refl
@@ -92,7 +97,8 @@ record Marked (b : List LineUnit) (rest : List ℕ) : Type 0 where
   some : is_empty (begun b) ≡ false
   never : Never (begun b) rest
 
-marked : (w : LineUnit) (b : List LineUnit) (m : ℕ) (t rest : List ℕ) → is_gap w ≡ false → text_of w ≡ m ∷ t → Lacks m defaults_word → Marked (w ∷ b) rest
+marked : (w : LineUnit) (b : List LineUnit) (m : ℕ) (t rest : List ℕ) → is_gap w ≡ false → text_of w ≡ m ∷ t → Lacks m defaults_word
+    → Marked (w ∷ b) rest
 marked w b m t rest gap text lacks =
     let is : begun (w ∷ b) ≡ begun b ++ m ∷ t = begun_with w b gap ∙ ap (λ (x : List ℕ). begun b ++ x) text in
     record {
@@ -137,15 +143,19 @@ lf_through q x (t ∷ tail) u name = ends_append q u (x ++ t ∷ tail) ∙ ends_
 
 backslash_name : (x tail : List ℕ) → Plain x → ends_behind_backslash false (x ++ tail) ≡ ends_behind_backslash false tail
 backslash_name [] tail plain = refl
-backslash_name (a ∷ x) tail plain = ap (λ (t : Bool). ends_behind_backslash t (x ++ tail)) (differs is_alias_byte 92 a plain.0 refl) ∙ backslash_name x tail plain.1
+backslash_name (a ∷ x) tail plain =
+    ap (λ (t : Bool). ends_behind_backslash t (x ++ tail)) (differs is_alias_byte 92 a plain.0 refl) ∙ backslash_name x tail plain.1
 
-backslash_through : (t : Bool) (q x tail : List ℕ) (u : ℕ) → Name u x → ends_behind_backslash t (q ++ u ∷ (x ++ tail)) ≡ ends_behind_backslash false tail
+backslash_through : (t : Bool) (q x tail : List ℕ) (u : ℕ) → Name u x
+    → ends_behind_backslash t (q ++ u ∷ (x ++ tail)) ≡ ends_behind_backslash false tail
 backslash_through true [] x tail u name = backslash_name x tail name.others
-backslash_through false [] x tail u name = ap (λ (t : Bool). ends_behind_backslash t (x ++ tail)) (differs is_upper 92 u name.first refl) ∙ backslash_name x tail name.others
+backslash_through false [] x tail u name =
+    ap (λ (t : Bool). ends_behind_backslash t (x ++ tail)) (differs is_upper 92 u name.first refl) ∙ backslash_name x tail name.others
 backslash_through true (c ∷ q) x tail u name = backslash_through false q x tail u name
 backslash_through false (c ∷ q) x tail u name = backslash_through (c == 92) q x tail u name
 
-pub open_through : (b : List LineUnit) (q x tail : List ℕ) (u : ℕ) → Name u x → is_open (Quoted (q ++ u ∷ (x ++ tail)) ∷ b) ≡ (ends_in_lf tail || ends_behind_backslash false tail)
+pub open_through : (b : List LineUnit) (q x tail : List ℕ) (u : ℕ) → Name u x
+    → is_open (Quoted (q ++ u ∷ (x ++ tail)) ∷ b) ≡ (ends_in_lf tail || ends_behind_backslash false tail)
 open_through b q x tail u name =
     ap (λ (t : Bool). t || ends_behind_backslash false (q ++ u ∷ (x ++ tail))) (lf_through q x tail u name)
     ∙ ap (λ (t : Bool). ends_in_lf tail || t) (backslash_through false q x tail u name)

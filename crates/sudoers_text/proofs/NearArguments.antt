@@ -82,7 +82,8 @@ near_rest u v x y s nx ny q =
     (near_run rule.Clean q u v (x ++ s) (y ++ s) (record { one = nx.first; another = ny.first }))
   where
     by_run : (n m : ℕ) → Near (length q) n m
-        → Near (length q) (if begins_with 34 (drop n (q ++ u ∷ (x ++ s))) then n + 1 else n) (if begins_with 34 (drop m (q ++ v ∷ (y ++ s))) then m + 1 else m)
+        → Near (length q) (if begins_with 34 (drop n (q ++ u ∷ (x ++ s))) then n + 1 else n)
+        (if begins_with 34 (drop m (q ++ v ∷ (y ++ s))) then m + 1 else m)
     by_run n m (inr e) = by_tests (begins_with 34 (drop n (q ++ u ∷ (x ++ s)))) (begins_with 34 (drop m (q ++ v ∷ (y ++ s))))
       where
         by_tests : (s t : Bool) → Near (length q) (if s then n + 1 else n) (if t then m + 1 else m)

@@ -202,7 +202,8 @@ near_up (b ∷ q) u v xs ys is =
     by_test (begins_line_end (b ∷ q ++ u ∷ xs)) (begins_line_end (b ∷ q ++ v ∷ ys)) (line_end_same b q u v xs ys is) (near_up q u v xs ys is)
   where
     by_test : (s t : Bool) → s ≡ t → Near (length q) (length (up_to_line_end (q ++ u ∷ xs))) (length (up_to_line_end (q ++ v ∷ ys)))
-        → Near (suc (length q)) (length (if s then [] else b ∷ up_to_line_end (q ++ u ∷ xs))) (length (if t then [] else b ∷ up_to_line_end (q ++ v ∷ ys)))
+        → Near (suc (length q)) (length (if s then [] else b ∷ up_to_line_end (q ++ u ∷ xs)))
+        (length (if t then [] else b ∷ up_to_line_end (q ++ v ∷ ys)))
     by_test true true e later = near_nothing (suc (length q))
     by_test false false e later = near_suc (length q) (length (up_to_line_end (q ++ u ∷ xs))) (length (up_to_line_end (q ++ v ∷ ys))) later
     by_test true false e later = absurd (cc)
@@ -226,7 +227,8 @@ near_comment item first (b ∷ q) u v xs ys is =
 
 -- The text begins with the word, or does not, whatever letter stands at the place; where it does, the word ends before it.
 pub starts_same : (word q : List ℕ) (u v : ℕ) (xs ys : List ℕ) → Low word → Letters u v
-    → (starts_with nat_eq (q ++ u ∷ xs) word ≡ starts_with nat_eq (q ++ v ∷ ys) word) × (starts_with nat_eq (q ++ u ∷ xs) word ≡ true → length word ≤ length q)
+    → (starts_with nat_eq (q ++ u ∷ xs) word ≡ starts_with nat_eq (q ++ v ∷ ys) word)
+    × (starts_with nat_eq (q ++ u ∷ xs) word ≡ true → length word ≤ length q)
 starts_same [] q u v xs ys low is = (refl, λ e. omega arith)
 starts_same (c ∷ cs) [] u v xs ys low is =
     let a : nat_eq c u ≡ false = other_letter c u low.0 is.one in
@@ -235,8 +237,10 @@ starts_same (c ∷ cs) [] u v xs ys low is =
 starts_same (c ∷ cs) (b ∷ q) u v xs ys low is = by_test (nat_eq c b) (starts_same cs q u v xs ys low.1 is)
   where
     by_test : (t : Bool)
-        → (starts_with nat_eq (q ++ u ∷ xs) cs ≡ starts_with nat_eq (q ++ v ∷ ys) cs) × (starts_with nat_eq (q ++ u ∷ xs) cs ≡ true → length cs ≤ length q)
-        → ((t && starts_with nat_eq (q ++ u ∷ xs) cs) ≡ (t && starts_with nat_eq (q ++ v ∷ ys) cs)) × ((t && starts_with nat_eq (q ++ u ∷ xs) cs) ≡ true → suc (length cs) ≤ suc (length q))
+        → (starts_with nat_eq (q ++ u ∷ xs) cs ≡ starts_with nat_eq (q ++ v ∷ ys) cs)
+        × (starts_with nat_eq (q ++ u ∷ xs) cs ≡ true → length cs ≤ length q)
+        → ((t && starts_with nat_eq (q ++ u ∷ xs) cs) ≡ (t && starts_with nat_eq (q ++ v ∷ ys) cs))
+        × ((t && starts_with nat_eq (q ++ u ∷ xs) cs) ≡ true → suc (length cs) ≤ suc (length q))
     by_test true e = (e.0, λ h. omega (arith, e.1 h))
     by_test false e = (refl, λ h. absurd (cc))
 
