@@ -68,7 +68,7 @@ text_through q x tail rest s u e =
     ∙ ap (λ (t : List ℕ). q ++ u ∷ t) (sym (append_assoc x tail rest))
     ∙ sym (append_assoc q (u ∷ (x ++ tail)) rest)
 
--- A text with a byte that a word has not is not that word.
+-- A text that has a byte which a word lacks is not that word.
 Lacks : ℕ → List ℕ → Type 0
 Lacks b [] = Unit {0}
 Lacks b (c ∷ word) = (nat_eq b c ≡ false) × Lacks b word

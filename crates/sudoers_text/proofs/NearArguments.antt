@@ -1,5 +1,5 @@
--- Paths, quoted parts and arguments that begin before a name: they end before it, and are the same with another name, or do not
--- end before either.
+-- Paths, quoted parts and arguments that begin before a name. Each ends before the name and is the same with another one,
+-- or reaches into either.
 use Rattle.std.proofs.Common.{◌≡◌, inl, inr, ℕ, suc, ◌+◌, ◌<◌, Bool, true, false, ◌&&◌, not, List, [], ◌∷◌, ◌++◌, length, drop, refl, sym, ap, subst, ◌∙◌, arith}
 use Rattle.std.specs.Prelude.{◌==◌, if◌then◌else◌}
 use Rattle.std.proofs.lemmas.List.{length-drop, drop-append-le}

@@ -1,5 +1,5 @@
--- Marks, numbers, groups, comments and includes that begin before a name: they end before it, and are the same with another name,
--- or do not end before either.
+-- Marks, numbers, groups, comments and includes that begin before a name. Each ends before the name and is the same with another one,
+-- or reaches into either.
 use Rattle.std.proofs.Common.{◌≡◌, inl, inr, ℕ, zero, suc, ◌+◌, ◌≤◌, Bool, true, false, ◌&&◌, ◌||◌, not, List, [], ◌∷◌, ◌++◌, length, drop, refl, sym, ap, ◌∙◌, arith}
 use Rattle.std.specs.Prelude.{◌==◌, if◌then◌else◌, nat_eq}
 use Rattle.std.specs.List.{starts_with}
