@@ -10,9 +10,11 @@ use Rattle.sudoers_text.specs.Renamed.{IsDefinableName, moved_offset}
 use Rattle.sudoers_line.specs.Node.{Node}
 use Rattle.sudoers_line.specs.Piece.{Piece, piece, pieces}
 use Rattle.sudoers_line.specs.Line.{ReadsLine}
-use Rattle.sudoers_line.specs.Renamed.{NamedAlias, Change, Renames, done, keep, swap, node_starts, put_all, shifted, renamed_text, change_of}
+use Rattle.sudoers_line.specs.Renamed.{NamedAlias, node_starts, put_all, shifted, renamed_text}
 use Rattle.sudoers_line.proofs.RenamedNodes.{reads_renamed}
-use Rattle.sudoers_line.proofs.RenamedText.{AscendLaw, name_place, ascend_le, piece_parts, places_apart, some_name, Apart, apart_less, apart_le, put_front, OnePlace, whole, slice_front, shifted_below, shifted_above}
+use Rattle.sudoers_line.proofs.RenamedPieces.{Change, Renames, done, keep, swap}
+use Rattle.sudoers_line.proofs.RenamedStarts.{Apart, apart_less, apart_le, piece_parts, name_place, ascend_le, places_apart, shifted_below, shifted_above}
+use Rattle.sudoers_line.proofs.RenamedText.{AscendLaw, change_of, some_name, put_front, OnePlace, whole, slice_front}
 
 -- The name stands at each of these places.
 abbrev pub StandAt : List ℕ → List ℕ → List ℕ → Type 0

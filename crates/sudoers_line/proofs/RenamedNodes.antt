@@ -12,9 +12,12 @@ use Rattle.sudoers_line.specs.Node as node
 use Rattle.sudoers_line.specs.Piece.{Piece, is_word, is_punct, is_comment, is_the_word, kind_word, kind_words, include_word, include_words, looked_up, operator_of, scope_sign, scope_signs}
 use Rattle.sudoers_line.specs.Atom.{path_value}
 use Rattle.sudoers_line.specs.Grammar.{Separated, IsScopeCommand, IsScopeList, BeginsNoScope, PerhapsScope, IsParamWith, IsParam, IsDefaults, IsInclude, BeginsOther, BeginsSpec, is_defaults, IsEnd, Says, Reads}
-use Rattle.sudoers_line.specs.Renamed.{Change, moved_piece, renamed_piece, Renames, done, keep, swap, renamed_member, member_starts, renamed_members, starts_among, renamed_scope, scope_starts, renamed_node, node_starts, KeepsNext}
-use Rattle.sudoers_line.proofs.Renamed.{Turned, Turns, through_none, from_texts, separated_turn, front_kept, odd_same, signs_moved, members_turn}
-use Rattle.sudoers_line.proofs.RenamedSpecs.{unnamed, nowhere, command_turns, alias_turns, spec_turns}
+use Rattle.sudoers_line.specs.Renamed.{renamed_member, member_starts, renamed_members, starts_among, renamed_scope, scope_starts, renamed_node, node_starts}
+use Rattle.sudoers_line.proofs.RenamedPieces.{Change, renaming, moved_piece, renamed_piece, Renames, done, keep, swap, KeepsNext, Turned, Turns, through_none, from_texts, separated_turn, front_kept, unnamed, nowhere}
+use Rattle.sudoers_line.proofs.RenamedMembers.{odd_same, signs_moved, members_turn}
+use Rattle.sudoers_line.proofs.RenamedCommands.{command_turns}
+use Rattle.sudoers_line.proofs.RenamedDefs.{alias_turns}
+use Rattle.sudoers_line.proofs.RenamedSpecs.{spec_turns}
 
 -- ---- parameters
 

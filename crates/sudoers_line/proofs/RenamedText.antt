@@ -1,9 +1,9 @@
 -- The line whose tokens are the renamed ones.
-use Rattle.std.proofs.Common.{◌≡◌, ◌⊎◌, inl, inr, ℕ, ◌+◌, ◌-◌, ◌≤◌, ◌<◌, Bool, true, false, List, [], ◌∷◌, ◌++◌, map, length, take, drop, refl, sym, ap, ap₂, subst, ◌∙◌, arith, append_assoc}
-use Rattle.std.specs.Prelude.{◌==◌, nat_lt, if◌then◌else◌, slice_range}
-use Rattle.std.proofs.lemmas.List.{length-take-le, length-take, take-take, take-append-drop, drop-take, take-append-le, take_at, drop_at, drop-drop, length-drop}
+use Rattle.std.proofs.Common.{◌≡◌, inl, inr, ℕ, ◌+◌, ◌-◌, ◌≤◌, ◌<◌, Bool, true, false, List, [], ◌∷◌, ◌++◌, map, length, take, drop, refl, sym, ap, ap₂, subst, ◌∙◌, arith, append_assoc}
+use Rattle.std.specs.Prelude.{◌==◌, slice_range}
+use Rattle.std.proofs.lemmas.List.{length-take-le, length-take, take-take, take-append-drop, drop-take, take-append-le, take_at, drop_at, drop-drop}
 use Rattle.std.proofs.Math.Seq.{drop-append-add}
-use Rattle.std.proofs.lemmas.Bool.Decides.{nat_tests, eqb_tells, Decides-eqb}
+use Rattle.std.proofs.lemmas.Bool.Decides.{eqb_tells, Decides-eqb}
 use Rattle.sudoers_text.specs.declared.token.TokenKind.TheVariants as kind
 use Rattle.sudoers_text.specs.declared.token.Token.{Token}
 use Rattle.sudoers_text.specs.declared.token.Mode.{Mode}
@@ -12,103 +12,38 @@ use Rattle.sudoers_text.specs.Ascend.{TokensAscend}
 use Rattle.sudoers_text.specs.Ended.{ends_in_lf}
 use Rattle.sudoers_text.specs.LineMode.{line_mode}
 use Rattle.sudoers_text.specs.Whole.{IsLogicalLine}
-use Rattle.sudoers_text.specs.Renamed.{IsDefinableName, moved_offset, moved_token, moved}
+use Rattle.sudoers_text.specs.Renamed.{IsDefinableName, name_token, moved_offset, moved_token, moved_tokens}
 use Rattle.sudoers_line.specs.Node.{Node}
 use Rattle.sudoers_line.specs.Piece.{Piece, piece, pieces, ends_line}
 use Rattle.sudoers_line.specs.Grammar.{Reads}
 use Rattle.sudoers_line.specs.Line.{ReadsLine}
-use Rattle.sudoers_line.specs.Renamed.{NamedAlias, Change, Renames, done, keep, swap, moved_piece, renamed_piece, renamed_node, node_starts, KeepsNext, put_all, shifted, renamed_text, change_of}
+use Rattle.sudoers_line.specs.Renamed.{NamedAlias, renamed_node, node_starts, put_all, shifted, renamed_text, renaming_of}
 use Rattle.sudoers_line.proofs.RenamedNodes.{reads_renamed}
+use Rattle.sudoers_line.proofs.RenamedPieces.{Change, renaming, moved_piece, renamed_piece, Renames, done, keep, swap, KeepsNext}
+use Rattle.sudoers_line.proofs.RenamedStarts.{Apart, apart_less, apart_le, piece_parts, name_place, ascend_le, places_apart, shifted_below, shifted_above}
 
 -- ---- what sudoers_text says
 
 abbrev pub AscendLaw : Type 0
 AscendLaw = (mode : Mode) (line : List ℕ) (tokens : List Token) → HasTokens mode line tokens → TokensAscend 0 (length line) tokens
 
--- a token that is a name
-abbrev named_token : List ℕ → List ℕ → Token
-named_token front word = record { kind = kind.Word; start = length front; stop = length front + length word }
-
 abbrev pub SameLaw : Type 0
 SameLaw = (mode : Mode) (front word other rest : List ℕ) (before behind : List Token) → IsDefinableName word → IsDefinableName other
-    → HasTokens mode (front ++ (word ++ rest)) (before ++ record { kind = kind.Word; start = length front; stop = length front + length word } ∷ behind)
-    → HasTokens mode (front ++ (other ++ rest)) (before ++ record { kind = kind.Word; start = length front; stop = length front + length other } ∷ moved (length word) (length other) behind)
+    → HasTokens mode (front ++ (word ++ rest)) (before ++ name_token front word ∷ behind)
+    → HasTokens mode (front ++ (other ++ rest)) (before ++ name_token front other ∷ moved_tokens (length word) (length other) behind)
 
 abbrev pub ModeLaw : Type 0
 ModeLaw = (mode : Mode) (front word other rest : List ℕ) (before behind : List Token) → IsDefinableName word → IsDefinableName other
-    → HasTokens mode (front ++ (word ++ rest)) (before ++ record { kind = kind.Word; start = length front; stop = length front + length word } ∷ behind)
+    → HasTokens mode (front ++ (word ++ rest)) (before ++ name_token front word ∷ behind)
     → line_mode (front ++ (word ++ rest)) ≡ line_mode (front ++ (other ++ rest))
 
 abbrev pub LogicalLaw : Type 0
 LogicalLaw = (mode : Mode) (front word other rest : List ℕ) (before behind : List Token) → IsDefinableName word → IsDefinableName other
-    → HasTokens mode (front ++ (word ++ rest)) (before ++ record { kind = kind.Word; start = length front; stop = length front + length word } ∷ behind)
+    → HasTokens mode (front ++ (word ++ rest)) (before ++ name_token front word ∷ behind)
     → IsLogicalLine (front ++ (word ++ rest)) → IsLogicalLine (front ++ (other ++ rest))
 
 abbrev pub EndsLaw : Type 0
 EndsLaw = (front word other rest : List ℕ) → IsDefinableName word → IsDefinableName other → ends_in_lf (front ++ (word ++ rest)) ≡ ends_in_lf (front ++ (other ++ rest))
-
--- ---- places
-
--- The places stand one behind another, each with so many bytes.
-abbrev pub Apart : ℕ → ℕ → ℕ → List ℕ → Type 0
-Apart size from to [] = from ≤ to
-Apart size from to (p ∷ ps) = (from ≤ p) × Apart size (p + size) to ps
-
-pub apart_less : (size from less to : ℕ) (ps : List ℕ) → less ≤ from → Apart size from to ps → Apart size less to ps
-apart_less size from less to [] h a = omega (arith, h, a)
-apart_less size from less to (p ∷ ps) h a = (omega (arith, h, a.0), a.1)
-
-pub apart_le : (size from to : ℕ) (ps : List ℕ) → Apart size from to ps → from ≤ to
-apart_le size from to [] a = a
-apart_le size from to (p ∷ ps) a = omega (arith, a.0, apart_le size (p + size) to ps a.1)
-
-slice_size : (text : List ℕ) (from to : ℕ) → from ≤ to → to ≤ length text → length (slice_range text from to) ≡ to - from
-slice_size text from to h within = length-take-le (to - from) (drop from text) (omega (arith, h, within, length-drop from text))
-
-pub piece_parts : (t u : Piece) (ts us : List Piece) → t ∷ ts ≡ u ∷ us → (t ≡ u) × (ts ≡ us)
-piece_parts t u ts us e = (cc, cc)
-
--- where a name stands
-pub name_place : (c : Change) (line : List ℕ) (k : Token) (t : Piece) (place : ℕ) → k.start < k.stop → k.stop ≤ length line → t ≡ piece line k → t.text ≡ c.old.name → (place ≡ t.start) ⊎ (place ≡ t.stop - length c.old.name)
-    → (place ≡ k.start) × (length c.old.name ≡ k.stop - k.start)
-name_place c line k t place some within e named at =
-    let size : length c.old.name ≡ k.stop - k.start = ap length (sym named ∙ ap (λ (u : Piece). u.text) e) ∙ slice_size line k.start k.stop (omega (arith, some)) within in
-    (by_place at size, size)
-  where
-    by_place : (place ≡ t.start) ⊎ (place ≡ t.stop - length c.old.name) → length c.old.name ≡ k.stop - k.start → place ≡ k.start
-    by_place (inl h) size = h ∙ ap (λ (u : Piece). u.start) e
-    by_place (inr h) size = omega (arith, h, size, some, ap (λ (u : Piece). u.stop) e)
-
-pub ascend_le : (from to : ℕ) (ts : List Token) → TokensAscend from to ts → from ≤ to
-ascend_le from to [] a = a
-ascend_le from to (t ∷ ts) a = omega (arith, a.0, a.1, ascend_le t.stop to ts a.2)
-
-pub places_apart : (c : Change) (line : List ℕ) (ts us : List Piece) (ps : List ℕ) → Renames c ps ts [] us [] → (from : ℕ) (ks : List Token) → ts ≡ pieces line ks → TokensAscend from (length line) ks → Apart (length c.old.name) from (length line) ps
-places_apart c line ts us ps (done rest left) from ks e a = ascend_le from (length line) ks a
-places_apart c line ts us ps (keep places t tts rest uus left r) from [] e a = absurd (cc)
-places_apart c line ts us ps (keep places t tts rest uus left r) from (k ∷ ks) e a =
-    let parts = piece_parts t (piece line k) tts (pieces line ks) e in
-    apart_less (length c.old.name) k.stop from (length line) ps (omega (arith, a.0, a.1)) (places_apart c line tts uus ps r k.stop ks parts.1 a.2)
-places_apart c line ts us ps (swap place places t tts rest uus left w n p r) from [] e a = absurd (cc)
-places_apart c line ts us ps (swap place places t tts rest uus left w n p r) from (k ∷ ks) e a =
-    let parts = piece_parts t (piece line k) tts (pieces line ks) e in
-    let at = name_place c line k t place a.1 (ascend_le k.stop (length line) ks a.2) parts.0 n p in
-    let later = places_apart c line tts uus places r k.stop ks parts.1 a.2 in
-    (omega (arith, a.0, at.0), apart_less (length c.old.name) k.stop (place + length c.old.name) (length line) places (omega (arith, at.0, at.1, a.1)) later)
-
-lt_yes : (p x : ℕ) → p < x → nat_lt p x ≡ true
-lt_yes p x h = grind (arith, nat_tests)
-
-lt_no : (p x : ℕ) → x ≤ p → nat_lt p x ≡ false
-lt_no p x h = grind (arith, nat_tests)
-
--- a place before all of them
-pub shifted_below : (old new size from to : ℕ) (ps : List ℕ) (x : ℕ) → Apart size from to ps → x ≤ from → shifted old new ps x ≡ x
-shifted_below old new size from to [] x a h = refl
-shifted_below old new size from to (p ∷ ps) x a h = ap (λ (t : Bool). if t then moved_offset old new (shifted old new ps x) else x) (lt_no p x (omega (arith, h, a.0)))
-
-pub shifted_above : (old new p : ℕ) (ps : List ℕ) (x : ℕ) → p < x → shifted old new (p ∷ ps) x ≡ moved_offset old new (shifted old new ps x)
-shifted_above old new p ps x h = ap (λ (t : Bool). if t then moved_offset old new (shifted old new ps x) else x) (lt_yes p x h)
 
 -- ---- the text
 
@@ -187,7 +122,7 @@ text_behind L name fresh p one a b h l =
     ∙ drop-drop c (p + length name) L ∙ ap (λ (n : ℕ). drop n L) at)
 
 texts_behind : (L name fresh : List ℕ) (p : ℕ) → OnePlace L name p → (from to : ℕ) (ts : List Token) (us : List Piece) → p + length name ≤ from → TokensAscend from to ts → Texts L ts us
-    → Texts (take p L ++ (fresh ++ drop (p + length name) L)) (moved (length name) (length fresh) ts) us
+    → Texts (take p L ++ (fresh ++ drop (p + length name) L)) (moved_tokens (length name) (length fresh) ts) us
 texts_behind L name fresh p one from to [] [] h a is = tt
 texts_behind L name fresh p one from to [] (u ∷ us) h a is = absurd is
 texts_behind L name fresh p one from to (t ∷ ts) [] h a is = absurd is
@@ -212,7 +147,7 @@ suffix_ascends : (from to : ℕ) (before : List Token) (k : Token) (ks : List To
 suffix_ascends from to [] k ks a = a.2
 suffix_ascends from to (b ∷ before) k ks a = suffix_ascends b.stop to before k ks a.2
 
-moved_all : (old new p size from to : ℕ) (ps : List ℕ) (ks : List Token) → p < from → TokensAscend from to ks → moved old new (map (shift old new ps) ks) ≡ map (shift old new (p ∷ ps)) ks
+moved_all : (old new p size from to : ℕ) (ps : List ℕ) (ks : List Token) → p < from → TokensAscend from to ks → moved_tokens old new (map (shift old new ps) ks) ≡ map (shift old new (p ∷ ps)) ks
 moved_all old new p size from to ps [] h a = refl
 moved_all old new p size from to ps (k ∷ ks) h a =
     let start = sym (shifted_above old new p ps k.start (omega (arith, h, a.0))) in
@@ -271,12 +206,12 @@ module _ (ascend : AscendLaw) (same : SameLaw) (modes : ModeLaw) (logical : Logi
       let front = take place L in
       let rest = drop (place + N) L in
       let size = front_size L name place one in
-      let token : k ≡ record { kind = kind.Word; start = length front; stop = length front + N } =
+      let token : k ≡ name_token front name =
       (let kinds : k.kind ≡ kind.Word = sym (ap (λ (u : Piece). u.kind) parts.0) ∙ w in
       let starts : k.start ≡ length front = omega (arith, at.0, size) in
       let stops : k.stop ≡ length front + N = omega (arith, ends, size) in
       λ j. record { kind = kinds j; start = starts j; stop = stops j }) in
-      let there : HasTokens m (front ++ (name ++ rest)) (before ++ record { kind = kind.Word; start = length front; stop = length front + N } ∷ T) =
+      let there : HasTokens m (front ++ (name ++ rest)) (before ++ name_token front name ∷ T) =
       subst (λ (x : Token). HasTokens m (front ++ (name ++ rest)) (before ++ x ∷ T)) token
       (subst (λ (x : List ℕ). HasTokens m x (before ++ k ∷ T)) (whole L name place one)
       (subst (HasTokens m L) (append_assoc before (k ∷ []) T) later.tokens)) in
@@ -286,10 +221,10 @@ module _ (ascend : AscendLaw) (same : SameLaw) (modes : ModeLaw) (logical : Logi
       let sum : length front + F ≡ k.stop + F - N = omega (arith, size, ends) in
       sum ∙ sym (ap (moved_offset N F) below) ∙ sym (shifted_above N F place places k.stop (omega (arith, ends, some)))) in
       let kinds : kind.Word ≡ k.kind = sym w ∙ ap (λ (u : Piece). u.kind) parts.0 in
-      let first : record { kind = kind.Word; start = length front; stop = length front + F } ≡ shift N F (place ∷ places) k = λ j. record { kind = kinds j; start = start j; stop = stop j } in
-      let others : moved N F T ≡ map (shift N F (place ∷ places)) ks = moved_all N F place N k.stop (length line) places ks (omega (arith, ends, some)) a.2 in
+      let first : name_token front c.fresh ≡ shift N F (place ∷ places) k = λ j. record { kind = kinds j; start = start j; stop = stop j } in
+      let others : moved_tokens N F T ≡ map (shift N F (place ∷ places)) ks = moved_all N F place N k.stop (length line) places ks (omega (arith, ends, some)) a.2 in
       let new = front ++ (c.fresh ++ rest) in
-      let list : record { kind = kind.Word; start = length front; stop = length front + F } ∷ moved N F T ≡ map (shift N F (place ∷ places)) (k ∷ ks) = ap₂ (λ (x : Token) (xs : List Token). x ∷ xs) first others in
+      let list : name_token front c.fresh ∷ moved_tokens N F T ≡ map (shift N F (place ∷ places)) (k ∷ ks) = ap₂ (λ (x : Token) (xs : List Token). x ∷ xs) first others in
       let back = whole L name place one in
       record {
         tokens = subst (λ (x : List Token). HasTokens m new (before ++ x)) list (same m front name c.fresh rest before T named fresh there);
@@ -362,8 +297,17 @@ keeps_next c line new ts us ps named at (swap place places t tts rest uus left w
     let behind = at k.stop ∙ shifted_above N new place places k.stop (omega (arith, here.0, a.1)) ∙ ap (moved_offset N new) (shifted_below N new N l.start (length line) places k.stop apart (omega (arith, a.2.0))) in
     subst (KeepsNext c) (sym e) (ap₂ (λ (x y : ℕ). x == y) first behind ∙ moved_eq N new l.start k.stop (omega (arith, here.1, a.1, a.2.0)) (omega (arith, here.1, a.1)))
 
+-- another name for an alias in this line, which says this
+abbrev pub change_of : NamedAlias → List ℕ → Node → List ℕ → Change
+change_of old fresh n line = record {
+  old = old;
+  fresh = fresh;
+  at = shifted (length old.name) (length fresh) (node_starts old n);
+  last = λ t. ends_line (drop (shifted (length old.name) (length fresh) (node_starts old n) t.stop) (renamed_text old fresh n line));
+}
+
 module _ (ascend : AscendLaw) (same : SameLaw) (modes : ModeLaw) (logical : LogicalLaw) (endings : EndsLaw) (old : NamedAlias) (fresh line : List ℕ) (n : Node) (named : IsDefinableName old.name) (free : IsDefinableName fresh) (is : ReadsLine line n) where
-  pub reads_line : ReadsLine (renamed_text old fresh n line) (renamed_node (change_of old fresh n line) n) × (IsLogicalLine line → IsLogicalLine (renamed_text old fresh n line)) × (ends_in_lf line ≡ ends_in_lf (renamed_text old fresh n line))
+  pub reads_line : ReadsLine (renamed_text old fresh n line) (renamed_node (renaming_of old fresh n) n) × (IsLogicalLine line → IsLogicalLine (renamed_text old fresh n line)) × (ends_in_lf line ≡ ends_in_lf (renamed_text old fresh n line))
   reads_line =
       let c = change_of old fresh n line in
       let ts = pieces line is.tokens in

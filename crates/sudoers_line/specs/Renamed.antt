@@ -21,7 +21,7 @@ pub record Renaming : Type 0 where
   pub fresh : List ℕ
   pub at : ℕ → ℕ
 
--- WHERE THE NAME STANDS
+-- ---- where the name stands
 
 -- Each function gives the offsets at which the alias is named in a part of what a line says, in their order.
 
@@ -65,7 +65,7 @@ node_starts alias (node.Defaults scope params) = scope_starts alias scope
 node_starts alias (node.Alias k defs) = flat_map (def_starts alias k) defs
 node_starts alias (node.Spec users groups) = starts_among alias User users ++ flat_map (group_starts alias) groups
 
--- WHAT IS SAID WITH ANOTHER NAME
+-- ---- what is said with another name
 
 -- Each function gives a part of what a line says with the other name in place of the old one, where the old one means the alias.
 
@@ -124,14 +124,16 @@ renamed_node r (node.Defaults scope params) = node.Defaults (renamed_scope r sco
 renamed_node r (node.Alias k defs) = node.Alias k (map (renamed_def r k) defs)
 renamed_node r (node.Spec users groups) = node.Spec (renamed_members r User users) (map (renamed_group r) groups)
 
--- THE LINE WITH ANOTHER NAME
+-- ---- the line with another name
 
--- the bytes, with others in place of so many at each of these offsets
+-- the bytes with others in place of so many at this offset
+abbrev pub put : ℕ → List ℕ → ℕ → List ℕ → List ℕ
+put size fresh start line = take start line ++ (fresh ++ drop (start + size) line)
+
+-- the same at each of these offsets, the last one first
 abbrev pub put_all : ℕ → List ℕ → List ℕ → List ℕ → List ℕ
 put_all size fresh [] line = line
-put_all size fresh (start ∷ starts) line =
-    let behind = put_all size fresh starts line in
-    take start behind ++ (fresh ++ drop (start + size) behind)
+put_all size fresh (start ∷ starts) line = put size fresh start (put_all size fresh starts line)
 
 -- where an offset lies once a part of the one size, at each of these offsets, has the other size
 abbrev pub shifted : ℕ → ℕ → List ℕ → ℕ → ℕ

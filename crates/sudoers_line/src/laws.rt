@@ -11,8 +11,8 @@ ghost use Rattle.sudoers_line.specs.Line.{ReadsLine, IsFault};
 ghost use Rattle.sudoers_line.specs.Ascend.{DefsAscend};
 ghost use Rattle.sudoers_text.specs.Ended.{ends_in_lf};
 ghost use Rattle.sudoers_text.specs.Whole.{IsLogicalLine};
-ghost use Rattle.sudoers_text.specs.Renamed.{IsAliasName};
-ghost use Rattle.sudoers_line.specs.Renamed.{Named as NamedOf, renamed_node, node_places, renamed_text, change_of, put_all, shifted};
+ghost use Rattle.sudoers_text.specs.Renamed.{IsDefinableName};
+ghost use Rattle.sudoers_line.specs.Renamed.{NamedAlias as AliasOf, renamed_node, node_starts, renamed_text, renaming_of, put_all, shifted};
 
 use sudoers_text::laws::{one_token_list, renamed_tokens, tokens_ascend};
 
@@ -47,17 +47,16 @@ pub fn definitions_ascend()
     tokens_ascend();
 }
 
-/// A line in which an alias is given another name where it is named in lists of these kinds, says what it said but for that name, and is
-/// one logical line if it was one; it ends in LF if it did. The old name given
-/// back where the new one stands gives the old line.
+/// A line that says something, with another name for an alias at each place where the alias is named, says the same with that name. It is
+/// one logical line if it was, and ends in LF if it did. The old name, given back where the new one stands then, gives the old line.
 pub fn renamed_line()
-    ensures same { (alias : NamedOf) (fresh line : List ℕ) (node : NodeOf) → IsAliasName alias.name → IsAliasName fresh → ReadsLine line node
-        → ReadsLine (renamed_text alias fresh node line) (renamed_node (change_of alias fresh node line) node)
+    ensures same { (alias : AliasOf) (fresh line : List ℕ) (node : NodeOf) → IsDefinableName alias.name → IsDefinableName fresh → ReadsLine line node
+        → ReadsLine (renamed_text alias fresh node line) (renamed_node (renaming_of alias fresh node) node)
         × (IsLogicalLine line → IsLogicalLine (renamed_text alias fresh node line))
         × (ends_in_lf line ≡ ends_in_lf (renamed_text alias fresh node line)) }
-    ensures back { (alias : NamedOf) (fresh line : List ℕ) (node : NodeOf) → IsAliasName alias.name → IsAliasName fresh → ReadsLine line node
+    ensures back { (alias : AliasOf) (fresh line : List ℕ) (node : NodeOf) → IsDefinableName alias.name → IsDefinableName fresh → ReadsLine line node
         → put_all (length fresh) alias.name
-        (map (shifted (length alias.name) (length fresh) (node_places alias node)) (node_places alias node))
+        (map (shifted (length alias.name) (length fresh) (node_starts alias node)) (node_starts alias node))
         (renamed_text alias fresh node line) ≡ line }
 {
     tokens_ascend();
