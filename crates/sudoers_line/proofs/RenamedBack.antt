@@ -1,6 +1,7 @@
 -- The old name given back at the places where the new one stands.
-use Rattle.std.proofs.Common.{◌≡◌, ℕ, ◌+◌, ◌-◌, ◌≤◌, ◌<◌, List, [], ◌∷◌, ◌++◌, map, length, take, drop, refl, sym, ap, ap₂, subst, ◌∙◌, arith, append_assoc}
-use Rattle.std.specs.Prelude.{slice_range}
+use Rattle.std.proofs.Common.{◌≡◌, ◌⊎◌, inl, inr, false, ℕ, ◌+◌, ◌-◌, ◌≤◌, ◌<◌, List, [], ◌∷◌, ◌++◌, map, length, take, drop, refl, sym, ap, ap₂, subst, ◌∙◌, arith, append_assoc}
+use Rattle.std.specs.Prelude.{slice_range, codes}
+use Rattle.std.specs.List.{AllByRecursion}
 use Rattle.std.proofs.lemmas.List.{length-take-le, length-take, take_at, drop_at, drop-take, drop-drop, drop-append-le, length-append, length-drop}
 use Rattle.std.proofs.Math.Seq.{drop-append-add, take-append-add}
 use Rattle.sudoers_text.specs.declared.token.Token.{Token}
@@ -10,7 +11,8 @@ use Rattle.sudoers_text.specs.Renamed.{IsDefinableName, moved_offset}
 use Rattle.sudoers_line.specs.Node.{Node}
 use Rattle.sudoers_line.specs.Piece.{Piece, piece, pieces}
 use Rattle.sudoers_line.specs.Line.{ReadsLine}
-use Rattle.sudoers_line.specs.Renamed.{NamedAlias, node_starts, put_all, shifted, renamed_text}
+use Rattle.sudoers_line.specs.Renamed.{NamedAlias, renamed_node, renamed_alias, renaming_of, node_starts, put_all, shifted, renamed_text}
+use Rattle.sudoers_line.proofs.RenamedAgain.{Moves, all_move, node_again}
 use Rattle.sudoers_line.proofs.RenamedNodes.{reads_renamed}
 use Rattle.sudoers_line.proofs.RenamedPieces.{Change, Renames, done, keep, swap}
 use Rattle.sudoers_line.proofs.RenamedStarts.{Apart, apart_less, apart_le, piece_parts, name_place, ascend_le, places_apart, shifted_below, shifted_above}
@@ -139,13 +141,71 @@ places_stand c line ts us ps (swap place places t tts rest uus left w n q r) fro
     let ends : place + length c.old.name ≡ k.stop = omega (arith, at.0, at.1, a.1) in
     (ap₂ (λ (x y : ℕ). slice_range line x y) at.0 ends ∙ sym (ap (λ (u : Piece). u.text) parts.0) ∙ n, places_stand c line tts uus places r k.stop ks parts.1 a.2)
 
--- The old name given back at the places where the new one stands gives the old line.
-pub reads_back : AscendLaw → (old : NamedAlias) (fresh line : List ℕ) (n : Node) → IsDefinableName old.name → IsDefinableName fresh → ReadsLine line n
-    → put_all (length fresh) old.name (map (shifted (length old.name) (length fresh) (node_starts old n)) (node_starts old n)) (renamed_text old fresh n line) ≡ line
-reads_back ascend old fresh line n named free is =
-    let c = change_of old fresh n line in
+-- A name that stands somewhere is not empty.
+some_or_none : (c : Change) (line : List ℕ) (ts us : List Piece) (ps : List ℕ) → Renames c ps ts [] us [] → (from : ℕ) (ks : List Token)
+    → ts ≡ pieces line ks → TokensAscend from (length line) ks → (ps ≡ []) ⊎ (0 < length c.old.name)
+some_or_none c line ts us ps (done rest left) from ks e a = inl refl
+some_or_none c line ts us ps (keep places t tts rest uus left r) from [] e a = absurd (cc)
+some_or_none c line ts us ps (keep places t tts rest uus left r) from (k ∷ ks) e a =
+    some_or_none c line tts uus ps r k.stop ks (piece_parts t (piece line k) tts (pieces line ks) e).1 a.2
+some_or_none c line ts us ps (swap place places t tts rest uus left w n q r) from [] e a = absurd (cc)
+some_or_none c line ts us ps (swap place places t tts rest uus left w n q r) from (k ∷ ks) e a =
+    let parts = piece_parts t (piece line k) tts (pieces line ks) e in
+    let at = name_place c line k t place a.1 (ascend_le k.stop (length line) ks a.2) parts.0 n q in
+    inr (omega (arith, at.1, a.1))
+
+-- A name stands in a line at these offsets, one behind another.
+record Stands (line name : List ℕ) (ps : List ℕ) : Type 0 where
+  apart : Apart (length name) 0 (length line) ps
+  stand : StandAt line name ps
+  some : (ps ≡ []) ⊎ (0 < length name)
+
+-- An alias stands where the line says that it is named.
+stands : AscendLaw → (old : NamedAlias) (line : List ℕ) (n : Node) → ReadsLine line n → Stands line old.name (node_starts old n)
+stands ascend old line n is =
+    let c : Change = record { old = old; fresh = codes "A"; at = λ x. x; last = λ t. false } in
     let ts = pieces line is.tokens in
-    let turned = reads_renamed c ts n free is.reads in
+    let turned = reads_renamed c ts n (refl, refl) is.reads in
     let ps = node_starts old n in
     let a = ascend (line_mode line) line is.tokens is.has in
-    put_back old.name fresh line 0 ps (some_name old.name named) (places_apart c line ts turned.0 ps turned.2 0 is.tokens refl a) (places_stand c line ts turned.0 ps turned.2 0 is.tokens refl a)
+    record {
+      apart = places_apart c line ts turned.0 ps turned.2 0 is.tokens refl a;
+      stand = places_stand c line ts turned.0 ps turned.2 0 is.tokens refl a;
+      some = some_or_none c line ts turned.0 ps turned.2 0 is.tokens refl a;
+    }
+
+-- The old name given back at the places where the new one stands gives the old line.
+pub reads_back : AscendLaw → (old : NamedAlias) (fresh line : List ℕ) (n : Node) → ReadsLine line n
+    → put_all (length fresh) old.name (map (shifted (length old.name) (length fresh) (node_starts old n)) (node_starts old n))
+    (renamed_text old fresh n line) ≡ line
+reads_back ascend old fresh line n is = by_starts (node_starts old n) (stands ascend old line n is)
+  where
+    by_starts : (ps : List ℕ) → Stands line old.name ps
+        → put_all (length fresh) old.name (map (shifted (length old.name) (length fresh) ps) ps) (put_all (length old.name) fresh ps line) ≡ line
+    by_starts [] s = refl
+    by_starts (p ∷ ps) s =
+        elim s.some [
+          | inl none ↦ absurd (cc)
+          | inr some ↦ put_back old.name fresh line 0 (p ∷ ps) some s.apart s.stand
+        ]
+
+-- The new name stands where the old one stood, if it was not there.
+pub stands_again : AscendLaw → (old : NamedAlias) (fresh line : List ℕ) (n : Node) → ReadsLine line n → node_starts (renamed_alias old fresh) n ≡ []
+    → node_starts (renamed_alias old fresh) (renamed_node (renaming_of old fresh n) n)
+    ≡ map (shifted (length old.name) (length fresh) (node_starts old n)) (node_starts old n)
+stands_again ascend old fresh line n is none = node_again (renaming_of old fresh n) n none (by_starts (node_starts old n) (stands ascend old line n is))
+  where
+    by_starts : (ps : List ℕ) → Stands line old.name ps → AllByRecursion (Moves (length old.name) (length fresh) (shifted (length old.name) (length fresh) ps)) ps
+    by_starts [] s = tt
+    by_starts (p ∷ ps) s =
+        elim s.some [
+          | inl nothing ↦ absurd (cc)
+          | inr some ↦ all_move (length old.name) (length fresh) (length line) (p ∷ ps) some s.apart
+        ]
+
+-- The renamed line with the old name is the old line.
+pub renamed_back : AscendLaw → (old : NamedAlias) (fresh line : List ℕ) (n : Node) → ReadsLine line n → node_starts (renamed_alias old fresh) n ≡ []
+    → renamed_text (renamed_alias old fresh) old.name (renamed_node (renaming_of old fresh n) n) (renamed_text old fresh n line) ≡ line
+renamed_back ascend old fresh line n is none =
+    ap (λ (ps : List ℕ). put_all (length fresh) old.name ps (renamed_text old fresh n line)) (stands_again ascend old fresh line n is none)
+    ∙ reads_back ascend old fresh line n is

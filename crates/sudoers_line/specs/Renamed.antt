@@ -144,6 +144,10 @@ shifted old new (start ∷ starts) at = if nat_lt start at then moved_offset old
 abbrev pub renamed_text : NamedAlias → List ℕ → Node → List ℕ → List ℕ
 renamed_text alias fresh n line = put_all (length alias.name) fresh (node_starts alias n) line
 
+-- the alias with its new name
+abbrev pub renamed_alias : NamedAlias → List ℕ → NamedAlias
+renamed_alias alias fresh = record { name = fresh; kinds = alias.kinds }
+
 -- another name for an alias in a line that says this
 abbrev pub renaming_of : NamedAlias → List ℕ → Node → Renaming
 renaming_of alias fresh n = record {

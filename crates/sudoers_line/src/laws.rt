@@ -1,6 +1,6 @@
 //! Laws of lines, for the layers above. Each is the contract of a function that does nothing.
 
-ghost use Rattle.std.specs.Prelude.{◌≡◌, ℕ, List, map, length};
+ghost use Rattle.std.specs.Prelude.{◌≡◌, ℕ, List, [], map, length};
 ghost use Rattle.sudoers_line.specs.declared.fault.Why.{Why as WhyOf};
 ghost use Rattle.sudoers_line.specs.Node.{Def as DefOf, Node as NodeOf};
 ghost use Rattle.sudoers_line.specs.declared.node.Kind.{Kind as KindOf};
@@ -12,7 +12,7 @@ ghost use Rattle.sudoers_line.specs.Ascend.{DefsAscend};
 ghost use Rattle.sudoers_text.specs.Ended.{ends_in_lf};
 ghost use Rattle.sudoers_text.specs.Whole.{IsLogicalLine};
 ghost use Rattle.sudoers_text.specs.Renamed.{IsDefinableName};
-ghost use Rattle.sudoers_line.specs.Renamed.{NamedAlias as AliasOf, renamed_node, node_starts, renamed_text, renaming_of, put_all, shifted};
+ghost use Rattle.sudoers_line.specs.Renamed.{NamedAlias as AliasOf, renamed_alias, renamed_node, node_starts, renamed_text, renaming_of, put_all, shifted};
 
 use sudoers_text::laws::{one_token_list, renamed_tokens, tokens_ascend};
 
@@ -47,16 +47,23 @@ pub fn definitions_ascend()
     tokens_ascend();
 }
 
-/// A line that says something, with another name for an alias at each place where the alias is named, says the same with that name. It is
-/// one logical line if it was, and ends in LF if it did. The old name, given back where the new one stands then, gives the old line.
+/// A line that says something, with another name at each place where an alias is named, says the same with that name. It is one logical
+/// line if it was, and ends in LF if it did. The old name, given back at these places, gives the old line. If the new name was not there
+/// before, it stands at these places alone, so the same change from the new name to the old one undoes the first.
 pub fn renamed_line()
     ensures same { (alias : AliasOf) (fresh line : List ℕ) (node : NodeOf) → IsDefinableName alias.name → IsDefinableName fresh → ReadsLine line node
         → ReadsLine (renamed_text alias fresh node line) (renamed_node (renaming_of alias fresh node) node)
         × (IsLogicalLine line → IsLogicalLine (renamed_text alias fresh node line))
         × (ends_in_lf line ≡ ends_in_lf (renamed_text alias fresh node line)) }
-    ensures back { (alias : AliasOf) (fresh line : List ℕ) (node : NodeOf) → IsDefinableName alias.name → IsDefinableName fresh → ReadsLine line node
+    ensures back { (alias : AliasOf) (fresh line : List ℕ) (node : NodeOf) → ReadsLine line node
         → put_all (length fresh) alias.name
         (map (shifted (length alias.name) (length fresh) (node_starts alias node)) (node_starts alias node))
+        (renamed_text alias fresh node line) ≡ line }
+    ensures starts { (alias : AliasOf) (fresh line : List ℕ) (node : NodeOf) → ReadsLine line node → node_starts (renamed_alias alias fresh) node ≡ []
+        → node_starts (renamed_alias alias fresh) (renamed_node (renaming_of alias fresh node) node)
+        ≡ map (shifted (length alias.name) (length fresh) (node_starts alias node)) (node_starts alias node) }
+    ensures undone { (alias : AliasOf) (fresh line : List ℕ) (node : NodeOf) → ReadsLine line node → node_starts (renamed_alias alias fresh) node ≡ []
+        → renamed_text (renamed_alias alias fresh) alias.name (renamed_node (renaming_of alias fresh node) node)
         (renamed_text alias fresh node line) ≡ line }
 {
     tokens_ascend();
