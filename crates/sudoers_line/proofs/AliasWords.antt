@@ -68,15 +68,20 @@ group_other : (escaped : Bool) (text : List ℕ) → Other (group_atom escaped t
 unfolding Other
 group_other escaped [] = tt
 group_other escaped (b ∷ rest) =
-    other_if (b == 58) (option_map atom.NonUnix (filled (unescaped escaped rest))) (if b == 35 && are_digits rest then option_map atom.GroupId (up_to id_limit rest) else option_map atom.Group (filled (unescaped escaped (b ∷ rest))))
+    other_if (b == 58) (option_map atom.NonUnix (filled (unescaped escaped rest)))
+    (if b == 35 && are_digits rest then option_map atom.GroupId (up_to id_limit rest) else option_map atom.Group
+    (filled (unescaped escaped (b ∷ rest))))
     (other_map atom.NonUnix (λ x. refl) (filled (unescaped escaped rest)))
-    (other_if (b == 35 && are_digits rest) (option_map atom.GroupId (up_to id_limit rest)) (option_map atom.Group (filled (unescaped escaped (b ∷ rest))))
+    (other_if (b == 35 && are_digits rest) (option_map atom.GroupId (up_to id_limit rest))
+    (option_map atom.Group (filled (unescaped escaped (b ∷ rest))))
     (other_map atom.GroupId (λ x. refl) (up_to id_limit rest)) (other_map atom.Group (λ x. refl) (filled (unescaped escaped (b ∷ rest)))))
 
 number_other : (text : List ℕ) → Other (number_atom text)
 unfolding Other
 number_other [] = tt
-number_other (b ∷ rest) = other_if (are_digits (b ∷ rest)) (option_map atom.Id (up_to id_limit (b ∷ rest))) (Some (atom.Name (35 ∷ b ∷ rest))) (other_map atom.Id (λ x. refl) (up_to id_limit (b ∷ rest))) refl
+number_other (b ∷ rest) =
+    other_if (are_digits (b ∷ rest)) (option_map atom.Id (up_to id_limit (b ∷ rest))) (Some (atom.Name (35 ∷ b ∷ rest)))
+    (other_map atom.Id (λ x. refl) (up_to id_limit (b ∷ rest))) refl
 
 prefixed_other : (escaped : Bool) (text : List ℕ) → Other (prefixed_atom escaped text)
 unfolding Other
@@ -93,14 +98,16 @@ id_other : (text : List ℕ) → Other (id_atom text)
 unfolding Other
 id_other [] = tt
 id_other (b ∷ rest) =
-    other_if (b == 35) (Some (atom.Id (decimal 0 rest))) (if begins_with 35 rest then Some (atom.GroupId (decimal 0 (drop 1 rest))) else Some (atom.NonUnix (drop 1 rest))) refl
+    other_if (b == 35) (Some (atom.Id (decimal 0 rest)))
+    (if begins_with 35 rest then Some (atom.GroupId (decimal 0 (drop 1 rest))) else Some (atom.NonUnix (drop 1 rest))) refl
     (other_if (begins_with 35 rest) (Some (atom.GroupId (decimal 0 (drop 1 rest)))) (Some (atom.NonUnix (drop 1 rest))) refl refl)
 
 network_other : (text : List ℕ) → Other (network_of text)
 unfolding network_of
 network_other text =
     other_then (λ p. option_and_then (λ n. option_map (atom.Network (record { number = n })) (mask_of p.1)) (address_number p.0))
-    (λ p. other_then (λ n. option_map (atom.Network (record { number = n })) (mask_of p.1)) (λ n. other_map (atom.Network (record { number = n })) (λ x. refl) (mask_of p.1)) (address_number p.0))
+    (λ p. other_then (λ n. option_map (atom.Network (record { number = n })) (mask_of p.1))
+    (λ n. other_map (atom.Network (record { number = n })) (λ x. refl) (mask_of p.1)) (address_number p.0))
     (split_at 47 text)
 
 plain_other : (text : List ℕ) (number : Option ℕ) → Other (plain_host text number)
@@ -111,16 +118,19 @@ plain_other text None = other_if (is_slashed text) (network_of text) (Some (atom
 -- ---- aliases
 
 -- an alias among others
-by_name : (all name : Bool) (text w : List ℕ) (others : Option Atom) → Other others → (if all then Some atom.All else (if name then Some (atom.Alias text) else others)) ≡ Some (atom.Alias w) → text ≡ w
+by_name : (all name : Bool) (text w : List ℕ) (others : Option Atom) → Other others
+    → (if all then Some atom.All else (if name then Some (atom.Alias text) else others)) ≡ Some (atom.Alias w) → text ≡ w
 by_name true name text w others other e = absurd (cc)
 by_name false true text w others other e = cc
 by_name false false text w others other e = absurd (none_alias others w other e)
 
 user_alias : (k : TokenKind) (text w : List ℕ) → user_atom k text ≡ Some (atom.Alias w) → (k ≡ kind.Word) × (text ≡ w)
 unfolding user_atom user_word user_id Other
-user_alias kind.Word text w e = (refl, by_name (bytes_eq text (codes "ALL")) (is_name text) text w (prefixed_atom true text) (prefixed_other true text) e)
+user_alias kind.Word text w e =
+    (refl, by_name (bytes_eq text (codes "ALL")) (is_name text) text w (prefixed_atom true text) (prefixed_other true text) e)
 user_alias kind.Quoted text w e = absurd (none_alias (prefixed_atom false (value_of text)) w (prefixed_other false (value_of text)) e)
-user_alias kind.Id text w e = absurd (none_alias (if is_high_id text then None else id_atom text) w (other_if (is_high_id text) None (id_atom text) tt (id_other text)) e)
+user_alias kind.Id text w e =
+    absurd (none_alias (if is_high_id text then None else id_atom text) w (other_if (is_high_id text) None (id_atom text) tt (id_other text)) e)
 user_alias kind.Punct text w e = absurd (cc)
 user_alias kind.Comment text w e = absurd (cc)
 user_alias kind.Path text w e = absurd (cc)
@@ -134,12 +144,21 @@ host_alias : (k : TokenKind) (text w : List ℕ) → host_atom k text ≡ Some (
 unfolding host_atom unescaped_host Other
 host_alias kind.Word text w e = (refl, by_escape (has_byte 92 text) e)
   where
-    by_escape : (t : Bool) → (if t then Some (atom.Host (pattern_of HostName text)) else (if bytes_eq text (codes "ALL") then Some atom.All else (if is_name text then Some (atom.Alias text) else (if begins_with 43 text then option_map atom.Netgroup (filled (drop 1 text)) else plain_host text (address_number text))))) ≡ Some (atom.Alias w) → text ≡ w
+    by_escape : (t : Bool)
+        → (if t then Some (atom.Host (pattern_of HostName text)) else (if bytes_eq text
+        (codes "ALL") then Some atom.All else (if is_name text then Some
+        (atom.Alias text) else (if begins_with 43 text then option_map atom.Netgroup (filled (drop 1 text)) else plain_host text
+        (address_number text))))) ≡ Some (atom.Alias w)
+        → text ≡ w
     by_escape true e = absurd (cc)
     by_escape false e =
-        by_name (bytes_eq text (codes "ALL")) (is_name text) text w (if begins_with 43 text then option_map atom.Netgroup (filled (drop 1 text)) else plain_host text (address_number text))
-        (other_if (begins_with 43 text) (option_map atom.Netgroup (filled (drop 1 text))) (plain_host text (address_number text)) (other_map atom.Netgroup (λ x. refl) (filled (drop 1 text))) (plain_other text (address_number text))) e
-host_alias kind.Quoted text w e = absurd (none_alias (option_map atom.Host (filled (pattern_of QuotedHost text))) w (other_map atom.Host (λ x. refl) (filled (pattern_of QuotedHost text))) e)
+        by_name (bytes_eq text (codes "ALL")) (is_name text) text w
+        (if begins_with 43 text then option_map atom.Netgroup (filled (drop 1 text)) else plain_host text (address_number text))
+        (other_if (begins_with 43 text) (option_map atom.Netgroup (filled (drop 1 text))) (plain_host text (address_number text))
+        (other_map atom.Netgroup (λ x. refl) (filled (drop 1 text))) (plain_other text (address_number text))) e
+host_alias kind.Quoted text w e =
+    absurd (none_alias (option_map atom.Host (filled (pattern_of QuotedHost text))) w
+    (other_map atom.Host (λ x. refl) (filled (pattern_of QuotedHost text))) e)
 host_alias kind.Id text w e = absurd (cc)
 host_alias kind.Punct text w e = absurd (cc)
 host_alias kind.Comment text w e = absurd (cc)
@@ -151,9 +170,14 @@ host_alias kind.Value text w e = absurd (cc)
 host_alias kind.Bad text w e = absurd (cc)
 
 command_is : (text w : List ℕ) → command_word text ≡ Some (atom.Alias w) → text ≡ w
-command_is text w e = by_tests (bytes_eq text (codes "ALL")) (bytes_eq text (codes "list")) (bytes_eq text (codes "sudoedit")) (is_name text && not (is_reserved text)) e
+command_is text w e =
+    by_tests (bytes_eq text (codes "ALL")) (bytes_eq text (codes "list")) (bytes_eq text (codes "sudoedit"))
+    (is_name text && not (is_reserved text)) e
   where
-    by_tests : (a b c d : Bool) → (if a then Some atom.All else (if b then Some atom.Listing else (if c then Some (atom.Sudoedit Any) else (if d then Some (atom.Alias text) else None)))) ≡ Some (atom.Alias w) → text ≡ w
+    by_tests : (a b c d : Bool)
+        → (if a then Some atom.All else (if b then Some atom.Listing else (if c then Some
+        (atom.Sudoedit Any) else (if d then Some (atom.Alias text) else None)))) ≡ Some (atom.Alias w)
+        → text ≡ w
     by_tests true b c d e = absurd (cc)
     by_tests false true c d e = absurd (cc)
     by_tests false false true d e = absurd (cc)
@@ -203,7 +227,8 @@ no_escape : (w : List ℕ) → list_all is_alias_byte w ≡ true → has_byte 92
 no_escape [] h = refl
 no_escape (b ∷ w) h = by_test (is_alias_byte b) refl h (λ l. no_escape w l)
   where
-    by_test : (t : Bool) → is_alias_byte b ≡ t → (t && list_all is_alias_byte w) ≡ true → (list_all is_alias_byte w ≡ true → has_byte 92 w ≡ false) → (b == 92 || has_byte 92 w) ≡ false
+    by_test : (t : Bool) → is_alias_byte b ≡ t → (t && list_all is_alias_byte w) ≡ true → (list_all is_alias_byte w ≡ true → has_byte 92 w ≡ false)
+        → (b == 92 || has_byte 92 w) ≡ false
     by_test true e h later = ap (λ (t : Bool). t || has_byte 92 w) (differs is_alias_byte 92 b e refl) ∙ later h
     by_test false e h later = absurd (cc)
 
@@ -225,7 +250,8 @@ or_first false b h = refl
 not_all : (w : List ℕ) → IsDefinableName w → bytes_eq w (codes "ALL") ≡ false
 not_all w is = or_first (bytes_eq w (codes "ALL")) (is_tag w) (or_first (bytes_eq w (codes "ALL") || is_tag w) (is_option_name w) is.1)
 
-by_word : (all name : Bool) (text : List ℕ) (others : Option Atom) → all ≡ false → name ≡ true → (if all then Some atom.All else (if name then Some (atom.Alias text) else others)) ≡ Some (atom.Alias text)
+by_word : (all name : Bool) (text : List ℕ) (others : Option Atom) → all ≡ false → name ≡ true
+    → (if all then Some atom.All else (if name then Some (atom.Alias text) else others)) ≡ Some (atom.Alias text)
 by_word true name text others e f = absurd (cc)
 by_word false true text others e f = refl
 by_word false false text others e f = absurd (cc)
@@ -238,7 +264,8 @@ host_there : (w : List ℕ) → IsDefinableName w → host_atom kind.Word w ≡ 
 unfolding host_atom unescaped_host
 host_there w is =
     ap (λ (t : Bool). if t then Some (atom.Host (pattern_of HostName w)) else unescaped_host w) (no_escape_name w is.0)
-    ∙ by_word (bytes_eq w (codes "ALL")) (is_name w) w (if begins_with 43 w then option_map atom.Netgroup (filled (drop 1 w)) else plain_host w (address_number w)) (not_all w is) is.0
+    ∙ by_word (bytes_eq w (codes "ALL")) (is_name w) w
+    (if begins_with 43 w then option_map atom.Netgroup (filled (drop 1 w)) else plain_host w (address_number w)) (not_all w is) is.0
 
 command_there : (w : List ℕ) → IsDefinableName w → bare_command kind.Word w ≡ Some (atom.Alias w)
 unfolding bare_command
@@ -247,7 +274,8 @@ command_there w is =
     (not_all w is) (other_word w (codes "list") is.0 refl) (other_word w (codes "sudoedit") is.0 refl) is.0 is.1
   where
     by_tests : (a b c d r : Bool) → a ≡ false → b ≡ false → c ≡ false → d ≡ true → r ≡ false
-        → (if a then Some atom.All else (if b then Some atom.Listing else (if c then Some (atom.Sudoedit Any) else (if d && not r then Some (atom.Alias w) else None)))) ≡ Some (atom.Alias w)
+        → (if a then Some atom.All else (if b then Some atom.Listing else (if c then Some
+        (atom.Sudoedit Any) else (if d && not r then Some (atom.Alias w) else None)))) ≡ Some (atom.Alias w)
     by_tests false false false true false e f g h i = refl
     by_tests true b c d r e f g h i = absurd (cc)
     by_tests false true c d r e f g h i = absurd (cc)

@@ -1,13 +1,11 @@
 -- Where the new name stands in a renamed line: where the old one stood.
 use Rattle.std.proofs.Common.{◌≡◌, inl, inr, ℕ, ◌+◌, ◌-◌, ◌≤◌, ◌<◌, Bool, true, false, ◌&&◌, List, [], ◌∷◌, ◌++◌, map, length, Option, Some, None, refl, sym, ap, ap₂, ◌∙◌, arith}
-use Rattle.std.specs.Prelude.{if◌then◌else◌, nat_lt}
+use Rattle.std.specs.Prelude.{if◌then◌else◌}
 use Rattle.std.specs.List.{AllByRecursion, flat_map}
 use Rattle.std.specs.Str.{bytes_eq}
 use Rattle.std.proofs.lemmas.Slice.Eq.{bytes_eq-Decides}
 use Rattle.std.proofs.lemmas.List.{map-append}
-use Rattle.std.proofs.lemmas.Bool.Decides.{nat_tests}
 use Rattle.std.proofs.lemmas.Bool.{cases_lt}
-use Rattle.sudoers_text.specs.Renamed.{moved_offset}
 use Rattle.sudoers_line.specs.declared.node.Kind.{Kind}
 use Rattle.sudoers_line.specs.declared.node.Kind.TheVariants.{User, Runas, Host, Cmnd}
 use Rattle.sudoers_line.specs.declared.node.Atom.{Atom}
@@ -15,7 +13,7 @@ use Rattle.sudoers_line.specs.declared.node.Atom.TheVariants as atom
 use Rattle.sudoers_line.specs.Node.{Member, Def, RunasSpec, CmdSpec, HostGroup, Scope, Node}
 use Rattle.sudoers_line.specs.Node as node
 use Rattle.sudoers_line.specs.Renamed.{NamedAlias, Renaming, atom_starts, member_starts, starts_among, def_starts, runas_starts, runas_option_starts, command_starts, group_starts, scope_starts, node_starts, renamed_atom, renamed_member, renamed_members, renamed_def, renamed_runas, renamed_runas_option, renamed_command, renamed_group, renamed_scope, renamed_node, renamed_alias, shifted}
-use Rattle.sudoers_line.proofs.RenamedStarts.{Apart, apart_less, shifted_below, shifted_above}
+use Rattle.sudoers_line.proofs.RenamedStarts.{Apart, shifted_below, shifted_above}
 
 -- ---- offsets
 
@@ -65,7 +63,8 @@ overs old new from to (q ∷ qs) some a =
         }
 
 pub all_move : (old new to : ℕ) (ps : List ℕ) → 0 < old → Apart old 0 to ps → AllByRecursion (Moves old new (shifted old new ps)) ps
-all_move old new to ps some a = map_all (Over old new 0 ps) (Moves old new (shifted old new ps)) (λ p is. is.moves) ps (overs old new 0 to ps some a)
+all_move old new to ps some a =
+    map_all (Over old new 0 ps) (Moves old new (shifted old new ps)) (λ p is. is.moves) ps (overs old new 0 to ps some a)
 
 -- ---- lists
 
@@ -87,7 +86,8 @@ Again X P at g s t = (x : X) → t x ≡ [] → AllByRecursion P (s x) → t (g 
 two : (at : ℕ → ℕ) (a b c d : List ℕ) → a ≡ map at c → b ≡ map at d → a ++ b ≡ map at (c ++ d)
 two at a b c d e f = ap₂ (λ (x y : List ℕ). x ++ y) e f ∙ sym (map-append at c d)
 
-again_each : {X : Type 0} (P : ℕ → Type 0) (at : ℕ → ℕ) (g : X → X) (s t : X → List ℕ) → Again X P at g s t → Again (List X) P at (map g) (flat_map s) (flat_map t)
+again_each : {X : Type 0} (P : ℕ → Type 0) (at : ℕ → ℕ) (g : X → X) (s t : X → List ℕ) → Again X P at g s t
+    → Again (List X) P at (map g) (flat_map s) (flat_map t)
 again_each P at g s t again [] none all = refl
 again_each P at g s t again (x ∷ xs) none all =
     let no = none_front (t x) (flat_map t xs) none in
@@ -108,7 +108,8 @@ module _ (r : Renaming) where
   same_name = (bytes_eq-Decides r.fresh r.fresh).1 refl
 
   -- whether a name is the old one, and whether it is the new one
-  one_atom : (meant is other : Bool) (stop : ℕ) (word : List ℕ) → bytes_eq r.old.name word ≡ is → bytes_eq r.fresh word ≡ other → (let none : List ℕ = [] in (if meant && other then (stop - length r.fresh) ∷ [] else []) ≡ none)
+  one_atom : (meant is other : Bool) (stop : ℕ) (word : List ℕ) → bytes_eq r.old.name word ≡ is → bytes_eq r.fresh word ≡ other
+      → (let none : List ℕ = [] in (if meant && other then (stop - length r.fresh) ∷ [] else []) ≡ none)
       → AllByRecursion Here (if meant && is then (stop - length r.old.name) ∷ [] else [])
       → (if meant && bytes_eq r.fresh (if meant && is then r.fresh else word) then (r.at stop - length r.fresh) ∷ [] else [])
       ≡ map r.at (if meant && is then (stop - length r.old.name) ∷ [] else [])
@@ -141,8 +142,10 @@ module _ (r : Renaming) where
   members_again : (k : Kind) → Again (List Member) Here r.at (renamed_members r k) (starts_among r.old k) (starts_among back k)
   members_again k = again_each Here r.at (renamed_member r k) (member_starts r.old k) (member_starts back k) (member_again k)
 
-  one_def : (meant is other : Bool) (start : ℕ) (name : List ℕ) → bytes_eq r.old.name name ≡ is → bytes_eq r.fresh name ≡ other → (let none : List ℕ = [] in (if meant && other then start ∷ [] else []) ≡ none)
-      → (if meant && bytes_eq r.fresh (if meant && is then r.fresh else name) then r.at start ∷ [] else []) ≡ map r.at (if meant && is then start ∷ [] else [])
+  one_def : (meant is other : Bool) (start : ℕ) (name : List ℕ) → bytes_eq r.old.name name ≡ is → bytes_eq r.fresh name ≡ other
+      → (let none : List ℕ = [] in (if meant && other then start ∷ [] else []) ≡ none)
+      → (if meant && bytes_eq r.fresh (if meant && is then r.fresh else name) then r.at start ∷ [] else [])
+      ≡ map r.at (if meant && is then start ∷ [] else [])
   one_def false is other start name e f none = refl
   one_def true true other start name e f none = ap (λ (t : Bool). if t then r.at start ∷ [] else []) same_name
   one_def true false false start name e f none = ap (λ (t : Bool). if t then r.at start ∷ [] else []) f
@@ -164,7 +167,8 @@ module _ (r : Renaming) where
       let no = none_front (starts_among back Runas s.users) (starts_among back Runas s.groups) none in
       let are = all_front Here (starts_among r.old Runas s.users) (starts_among r.old Runas s.groups) all in
       two r.at (starts_among back Runas (renamed_members r Runas s.users)) (starts_among back Runas (renamed_members r Runas s.groups))
-      (starts_among r.old Runas s.users) (starts_among r.old Runas s.groups) (members_again Runas s.users no.0 are.0) (members_again Runas s.groups no.1 are.1)
+      (starts_among r.old Runas s.users) (starts_among r.old Runas s.groups) (members_again Runas s.users no.0 are.0)
+      (members_again Runas s.groups no.1 are.1)
 
   runas_option_again : Again (Option RunasSpec) Here r.at (renamed_runas_option r) (runas_option_starts r.old) (runas_option_starts back)
   runas_option_again None none all = refl
@@ -175,7 +179,8 @@ module _ (r : Renaming) where
       let no = none_front (runas_option_starts back s.runas) (member_starts back Cmnd s.member) none in
       let are = all_front Here (runas_option_starts r.old s.runas) (member_starts r.old Cmnd s.member) all in
       two r.at (runas_option_starts back (renamed_runas_option r s.runas)) (member_starts back Cmnd (renamed_member r Cmnd s.member))
-      (runas_option_starts r.old s.runas) (member_starts r.old Cmnd s.member) (runas_option_again s.runas no.0 are.0) (member_again Cmnd s.member no.1 are.1)
+      (runas_option_starts r.old s.runas) (member_starts r.old Cmnd s.member) (runas_option_again s.runas no.0 are.0)
+      (member_again Cmnd s.member no.1 are.1)
 
   group_again : Again HostGroup Here r.at (renamed_group r) (group_starts r.old) (group_starts back)
   group_again g none all =
@@ -194,7 +199,8 @@ module _ (r : Renaming) where
   node_again node.Comment none all = refl
   node_again (node.Include dir path) none all = refl
   node_again (node.Defaults scope params) none all = scope_again scope none all
-  node_again (node.Alias k defs) none all = again_each Here r.at (renamed_def r k) (def_starts r.old k) (def_starts back k) (def_again k) defs none all
+  node_again (node.Alias k defs) none all =
+      again_each Here r.at (renamed_def r k) (def_starts r.old k) (def_starts back k) (def_again k) defs none all
   node_again (node.Spec users groups) none all =
       let no = none_front (starts_among back User users) (flat_map (group_starts back) groups) none in
       let are = all_front Here (starts_among r.old User users) (flat_map (group_starts r.old) groups) all in

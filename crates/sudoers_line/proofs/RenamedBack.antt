@@ -7,7 +7,7 @@ use Rattle.std.proofs.Math.Seq.{drop-append-add, take-append-add}
 use Rattle.sudoers_text.specs.declared.token.Token.{Token}
 use Rattle.sudoers_text.specs.Ascend.{TokensAscend}
 use Rattle.sudoers_text.specs.LineMode.{line_mode}
-use Rattle.sudoers_text.specs.Renamed.{IsDefinableName, moved_offset}
+use Rattle.sudoers_text.specs.Renamed.{moved_offset}
 use Rattle.sudoers_line.specs.Node.{Node}
 use Rattle.sudoers_line.specs.Piece.{Piece, piece, pieces}
 use Rattle.sudoers_line.specs.Line.{ReadsLine}
@@ -16,7 +16,7 @@ use Rattle.sudoers_line.proofs.RenamedAgain.{Moves, all_move, node_again}
 use Rattle.sudoers_line.proofs.RenamedNodes.{reads_renamed}
 use Rattle.sudoers_line.proofs.RenamedPieces.{Change, Renames, done, keep, swap}
 use Rattle.sudoers_line.proofs.RenamedStarts.{Apart, apart_less, apart_le, piece_parts, name_place, ascend_le, places_apart, shifted_below, shifted_above}
-use Rattle.sudoers_line.proofs.RenamedText.{AscendLaw, change_of, some_name, put_front, OnePlace, whole, slice_front}
+use Rattle.sudoers_line.proofs.RenamedText.{AscendLaw, put_front, OnePlace, whole, slice_front}
 
 -- The name stands at each of these places.
 abbrev pub StandAt : List ℕ → List ℕ → List ℕ → Type 0
@@ -33,7 +33,8 @@ put_behind size word a b line (q ∷ qs) apart =
     let L = put_all size word qs (a ++ line) in
     let tail = drop A L in
     let within = apart_le size (q + size) (length (a ++ line)) qs apart.1 in
-    let later : put_all size word (map (moved_offset A B) qs) (b ++ line) ≡ b ++ tail = put_behind size word a b line qs (apart_less size (q + size) A (length (a ++ line)) qs (omega (arith, apart.0)) apart.1) in
+    let later : put_all size word (map (moved_offset A B) qs) (b ++ line) ≡ b ++ tail =
+    put_behind size word a b line qs (apart_less size (q + size) A (length (a ++ line)) qs (omega (arith, apart.0)) apart.1) in
     let c = q - A in
     let place : moved_offset A B q ≡ B + c = omega (arith, apart.0) in
     let behind : moved_offset A B q + size ≡ B + (c + size) = omega (arith, apart.0) in
@@ -46,7 +47,8 @@ put_behind size word a b line (q ∷ qs) apart =
     let back : drop (moved_offset A B q + size) (b ++ tail) ≡ drop (q + size) L =
     ap (λ (n : ℕ). drop n (b ++ tail)) behind ∙ drop-append-add b tail (c + size) ∙ drop-drop (c + size) A L ∙ ap (λ (n : ℕ). drop n L) sum in
     let there : drop A (take q L ++ rest) ≡ take c tail ++ rest =
-    drop-append-le A (take q L) rest (omega (arith, long, apart.0)) ∙ ap (λ (t : List ℕ). t ++ rest) (ap (λ (n : ℕ). drop A (take n L)) same ∙ drop-take A c L) in
+    drop-append-le A (take q L) rest (omega (arith, long, apart.0))
+    ∙ ap (λ (t : List ℕ). t ++ rest) (ap (λ (n : ℕ). drop A (take n L)) same ∙ drop-take A c L) in
     ap (λ (M : List ℕ). take (moved_offset A B q) M ++ (word ++ drop (moved_offset A B q + size) M)) later
     ∙ ap₂ (λ (x y : List ℕ). x ++ (word ++ y)) front back
     ∙ append_assoc b (take c tail) rest
@@ -54,18 +56,26 @@ put_behind size word a b line (q ∷ qs) apart =
 
 moved_more : (p old new : ℕ) (qs : List ℕ) → map (moved_offset (p + old) (p + new)) qs ≡ map (moved_offset old new) qs
 moved_more p old new [] = refl
-moved_more p old new (q ∷ qs) = ap₂ (λ (x : ℕ) (xs : List ℕ). x ∷ xs) (let e : moved_offset (p + old) (p + new) q ≡ moved_offset old new q = omega arith in e) (moved_more p old new qs)
+moved_more p old new (q ∷ qs) =
+    ap₂ (λ (x : ℕ) (xs : List ℕ). x ∷ xs) (let e : moved_offset (p + old) (p + new) q ≡ moved_offset old new q = omega arith in e)
+    (moved_more p old new qs)
 
 -- where the places lie then
-moved_shifts : (old new p from to : ℕ) (all ps : List ℕ) → p < from → Apart old from to ps → map (shifted old new (p ∷ all)) ps ≡ map (moved_offset old new) (map (shifted old new all) ps)
+moved_shifts : (old new p from to : ℕ) (all ps : List ℕ) → p < from → Apart old from to ps
+    → map (shifted old new (p ∷ all)) ps ≡ map (moved_offset old new) (map (shifted old new all) ps)
 moved_shifts old new p from to all [] h a = refl
 moved_shifts old new p from to all (q ∷ qs) h a =
-    ap₂ (λ (x : ℕ) (xs : List ℕ). x ∷ xs) (shifted_above old new p all q (omega (arith, h, a.0))) (moved_shifts old new p (q + old) to all qs (omega (arith, h, a.0)) a.1)
+    ap₂ (λ (x : ℕ) (xs : List ℕ). x ∷ xs) (shifted_above old new p all q (omega (arith, h, a.0)))
+    (moved_shifts old new p (q + old) to all qs (omega (arith, h, a.0)) a.1)
 
-moved_apart : (old new from to : ℕ) (qs : List ℕ) → old ≤ from → Apart new from to qs → Apart new (moved_offset old new from) (moved_offset old new to) (map (moved_offset old new) qs)
+moved_apart : (old new from to : ℕ) (qs : List ℕ) → old ≤ from → Apart new from to qs
+    → Apart new (moved_offset old new from) (moved_offset old new to) (map (moved_offset old new) qs)
 moved_apart old new from to [] h a = omega (arith, h, a)
-moved_apart old new from to (q ∷ qs) h a =
-    (omega (arith, h, a.0), apart_less new (moved_offset old new (q + new)) (moved_offset old new q + new) (moved_offset old new to) (map (moved_offset old new) qs) (omega (arith, h, a.0)) (moved_apart old new (q + new) to qs (omega (arith, h, a.0)) a.1))
+moved_apart old new from to (q ∷ qs) h a = (
+  omega (arith, h, a.0),
+  apart_less new (moved_offset old new (q + new)) (moved_offset old new q + new) (moved_offset old new to)
+      (map (moved_offset old new) qs) (omega (arith, h, a.0)) (moved_apart old new (q + new) to qs (omega (arith, h, a.0)) a.1),
+)
 
 shifts_apart : (name fresh line : List ℕ) (from : ℕ) (ps : List ℕ) → 0 < length name → Apart (length name) from (length line) ps
     → Apart (length fresh) from (length (put_all (length name) fresh ps line)) (map (shifted (length name) (length fresh) ps) ps)
@@ -79,16 +89,26 @@ shifts_apart name fresh line from (p ∷ ps) some a =
     let first : shifted N F (p ∷ ps) p ≡ p = shifted_below N F N p (length line) (p ∷ ps) p (omega arith, a.1) (omega arith) in
     let others = moved_shifts N F p (p + N) (length line) ps ps (omega (arith, some)) a.1 in
     let size : moved_offset N F (length L) ≡ length (take p L ++ (fresh ++ drop (p + N) L)) =
-    omega (arith, length-append (take p L) (fresh ++ drop (p + N) L), length-append fresh (drop (p + N) L), length-take-le p L (omega (arith, le)), length-drop (p + N) L, le) in
+    omega (
+      arith,
+      length-append (take p L) (fresh ++ drop (p + N) L),
+      length-append fresh (drop (p + N) L),
+      length-take-le p L
+          (omega (arith, le)),
+      length-drop (p + N) L,
+      le,
+    ) in
     let moved = moved_apart N F (p + N) (length L) (map (shifted N F ps) ps) (omega arith) later in (
       omega (arith, first, a.0),
       subst (λ (n : ℕ). Apart F (shifted N F (p ∷ ps) p + F) n (map (shifted N F (p ∷ ps)) ps)) size
           (subst (λ (qs : List ℕ). Apart F (shifted N F (p ∷ ps) p + F) (moved_offset N F (length L)) qs) (sym others)
-          (apart_less F (moved_offset N F (p + N)) (shifted N F (p ∷ ps) p + F) (moved_offset N F (length L)) (map (moved_offset N F) (map (shifted N F ps) ps)) (omega (arith, first)) moved)),
+          (apart_less F (moved_offset N F (p + N)) (shifted N F (p ∷ ps) p + F) (moved_offset N F (length L))
+          (map (moved_offset N F) (map (shifted N F ps) ps)) (omega (arith, first)) moved)),
     )
 
 -- The old name at the new places gives the old line.
-pub put_back : (name fresh line : List ℕ) (from : ℕ) (ps : List ℕ) → 0 < length name → Apart (length name) from (length line) ps → StandAt line name ps
+pub put_back : (name fresh line : List ℕ) (from : ℕ) (ps : List ℕ) → 0 < length name → Apart (length name) from (length line) ps
+    → StandAt line name ps
     → put_all (length fresh) name (map (shifted (length name) (length fresh) ps) ps) (put_all (length name) fresh ps line) ≡ line
 put_back name fresh line from [] some a is = refl
 put_back name fresh line from (p ∷ ps) some a is =
@@ -122,24 +142,31 @@ put_back name fresh line from (p ∷ ps) some a is =
     let inner : M ≡ (front ++ fresh) ++ tail =
     ap₂ (λ (xs t : List ℕ). put_all F name xs t) others (sym (append_assoc front fresh rest))
     ∙ put_behind F name (front ++ name) (front ++ fresh) rest qs apart
-    ∙ ap (λ (t : List ℕ). (front ++ fresh) ++ t) (ap₂ (λ (n : ℕ) (t : List ℕ). drop n (put_all F name qs t)) old_size whole_L ∙ ap (drop (p + N)) later) in
+    ∙ ap (λ (t : List ℕ). (front ++ fresh) ++ t)
+    (ap₂ (λ (n : ℕ) (t : List ℕ). drop n (put_all F name qs t)) old_size whole_L ∙ ap (drop (p + N)) later) in
     ap (λ (n : ℕ). take n M ++ (name ++ drop (n + F) M)) first
     ∙ ap (λ (t : List ℕ). take p t ++ (name ++ drop (p + F) t)) inner
-    ∙ ap₂ (λ (x y : List ℕ). x ++ (name ++ y)) (ap (take p) (append_assoc front fresh tail) ∙ take_at front (fresh ++ tail) p size) (drop_at (front ++ fresh) tail (p + F) new_size)
+    ∙ ap₂ (λ (x y : List ℕ). x ++ (name ++ y)) (ap (take p) (append_assoc front fresh tail) ∙ take_at front (fresh ++ tail) p size)
+    (drop_at (front ++ fresh) tail (p + F) new_size)
     ∙ ap (λ (t : List ℕ). t ++ (name ++ tail)) agree_front
     ∙ sym whole_line
 
 -- The name stands at its places.
-places_stand : (c : Change) (line : List ℕ) (ts us : List Piece) (ps : List ℕ) → Renames c ps ts [] us [] → (from : ℕ) (ks : List Token) → ts ≡ pieces line ks → TokensAscend from (length line) ks → StandAt line c.old.name ps
+places_stand : (c : Change) (line : List ℕ) (ts us : List Piece) (ps : List ℕ) → Renames c ps ts [] us [] → (from : ℕ) (ks : List Token)
+    → ts ≡ pieces line ks → TokensAscend from (length line) ks → StandAt line c.old.name ps
 places_stand c line ts us ps (done rest left) from ks e a = tt
 places_stand c line ts us ps (keep places t tts rest uus left r) from [] e a = absurd (cc)
-places_stand c line ts us ps (keep places t tts rest uus left r) from (k ∷ ks) e a = places_stand c line tts uus ps r k.stop ks (piece_parts t (piece line k) tts (pieces line ks) e).1 a.2
+places_stand c line ts us ps (keep places t tts rest uus left r) from (k ∷ ks) e a =
+    places_stand c line tts uus ps r k.stop ks (piece_parts t (piece line k) tts (pieces line ks) e).1 a.2
 places_stand c line ts us ps (swap place places t tts rest uus left w n q r) from [] e a = absurd (cc)
 places_stand c line ts us ps (swap place places t tts rest uus left w n q r) from (k ∷ ks) e a =
     let parts = piece_parts t (piece line k) tts (pieces line ks) e in
     let at = name_place c line k t place a.1 (ascend_le k.stop (length line) ks a.2) parts.0 n q in
-    let ends : place + length c.old.name ≡ k.stop = omega (arith, at.0, at.1, a.1) in
-    (ap₂ (λ (x y : ℕ). slice_range line x y) at.0 ends ∙ sym (ap (λ (u : Piece). u.text) parts.0) ∙ n, places_stand c line tts uus places r k.stop ks parts.1 a.2)
+    let ends : place + length c.old.name ≡ k.stop = omega (arith, at.0, at.1, a.1) in (
+      ap₂ (λ (x y : ℕ). slice_range line x y) at.0 ends ∙ sym (ap (λ (u : Piece). u.text) parts.0)
+          ∙ n,
+      places_stand c line tts uus places r k.stop ks parts.1 a.2,
+    )
 
 -- A name that stands somewhere is not empty.
 some_or_none : (c : Change) (line : List ℕ) (ts us : List Piece) (ps : List ℕ) → Renames c ps ts [] us [] → (from : ℕ) (ks : List Token)
@@ -193,9 +220,11 @@ reads_back ascend old fresh line n is = by_starts (node_starts old n) (stands as
 pub stands_again : AscendLaw → (old : NamedAlias) (fresh line : List ℕ) (n : Node) → ReadsLine line n → node_starts (renamed_alias old fresh) n ≡ []
     → node_starts (renamed_alias old fresh) (renamed_node (renaming_of old fresh n) n)
     ≡ map (shifted (length old.name) (length fresh) (node_starts old n)) (node_starts old n)
-stands_again ascend old fresh line n is none = node_again (renaming_of old fresh n) n none (by_starts (node_starts old n) (stands ascend old line n is))
+stands_again ascend old fresh line n is none =
+    node_again (renaming_of old fresh n) n none (by_starts (node_starts old n) (stands ascend old line n is))
   where
-    by_starts : (ps : List ℕ) → Stands line old.name ps → AllByRecursion (Moves (length old.name) (length fresh) (shifted (length old.name) (length fresh) ps)) ps
+    by_starts : (ps : List ℕ) → Stands line old.name ps
+        → AllByRecursion (Moves (length old.name) (length fresh) (shifted (length old.name) (length fresh) ps)) ps
     by_starts [] s = tt
     by_starts (p ∷ ps) s =
         elim s.some [

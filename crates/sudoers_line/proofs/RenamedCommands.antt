@@ -27,20 +27,44 @@ digest_turns : (c : Change) → Turns Digest c IsDigest (λ (d : Digest). d) (λ
 unfolding digest_kind
 digest_turns c ts rest left d is = record {
   new = moved_piece c is.word ∷ moved_piece c is.colon ∷ moved_piece c is.digest ∷ left;
-  is = record { word = moved_piece c is.word; colon = moved_piece c is.colon; digest = moved_piece c is.digest; split = refl; is_kind = is.is_kind; is_colon = mark_moved c 58 is.colon is.is_colon; is_digest = is.is_digest; text = is.text };
-  renames = from_texts c [] ts (is.word ∷ is.colon ∷ is.digest ∷ rest) rest (moved_piece c is.word ∷ moved_piece c is.colon ∷ moved_piece c is.digest ∷ left) left is.split
+  is = record {
+    word = moved_piece c is.word;
+    colon = moved_piece c is.colon;
+    digest = moved_piece c is.digest;
+    split = refl;
+    is_kind = is.is_kind;
+    is_colon = mark_moved c 58 is.colon is.is_colon;
+    is_digest = is.is_digest;
+    text = is.text;
+  };
+  renames =
+      from_texts c [] ts (is.word ∷ is.colon ∷ is.digest ∷ rest) rest
+      (moved_piece c is.word ∷ moved_piece c is.colon ∷ moved_piece c is.digest ∷ left) left is.split
       (front_kept c (is.word ∷ is.colon ∷ is.digest ∷ []) [] rest rest left left (done rest left));
 }
 
 digests_turn : (c : Change) → Turns (List Digest) c (Perhaps (Separated 44 IsDigest)) (λ (ds : List Digest). ds) (λ (ds : List Digest). [])
-digests_turn c = unnamed c (Perhaps (Separated 44 IsDigest)) (perhaps_turn c (Separated 44 IsDigest) (λ (d : Digest). d) (λ (d : Digest). []) (separated_turn c 44 IsDigest (λ (d : Digest). d) (λ (d : Digest). []) (digest_turns c)))
+digests_turn c =
+    unnamed c (Perhaps (Separated 44 IsDigest))
+    (perhaps_turn c (Separated 44 IsDigest) (λ (d : Digest). d) (λ (d : Digest). [])
+    (separated_turn c 44 IsDigest (λ (d : Digest). d) (λ (d : Digest). []) (digest_turns c)))
 
 pub option_turns : (c : Change) → Turns (OptionName × List ℕ) c IsOption (λ o. o) (λ o. [])
 unfolding option_name option_value
 option_turns c ts rest left o is = record {
   new = moved_piece c is.name ∷ moved_piece c is.equals ∷ moved_piece c is.value ∷ left;
-  is = record { name = moved_piece c is.name; equals = moved_piece c is.equals; value = moved_piece c is.value; split = refl; is_name = is.is_name; is_equals = mark_moved c 61 is.equals is.is_equals; is_value = is.is_value };
-  renames = from_texts c [] ts (is.name ∷ is.equals ∷ is.value ∷ rest) rest (moved_piece c is.name ∷ moved_piece c is.equals ∷ moved_piece c is.value ∷ left) left is.split
+  is = record {
+    name = moved_piece c is.name;
+    equals = moved_piece c is.equals;
+    value = moved_piece c is.value;
+    split = refl;
+    is_name = is.is_name;
+    is_equals = mark_moved c 61 is.equals is.is_equals;
+    is_value = is.is_value;
+  };
+  renames =
+      from_texts c [] ts (is.name ∷ is.equals ∷ is.value ∷ rest) rest
+      (moved_piece c is.name ∷ moved_piece c is.equals ∷ moved_piece c is.value ∷ left) left is.split
       (front_kept c (is.name ∷ is.equals ∷ is.value ∷ []) [] rest rest left left (done rest left));
 }
 
@@ -48,7 +72,13 @@ pub tag_turns : (c : Change) → Turns (Tag × Bool) c IsTag (λ o. o) (λ o. []
 unfolding tag_of
 tag_turns c ts rest left g is = record {
   new = moved_piece c is.word ∷ moved_piece c is.colon ∷ left;
-  is = record { word = moved_piece c is.word; colon = moved_piece c is.colon; split = refl; is_tag = is.is_tag; is_colon = mark_moved c 58 is.colon is.is_colon };
+  is = record {
+    word = moved_piece c is.word;
+    colon = moved_piece c is.colon;
+    split = refl;
+    is_tag = is.is_tag;
+    is_colon = mark_moved c 58 is.colon is.is_colon;
+  };
   renames = from_texts c [] ts (is.word ∷ is.colon ∷ rest) rest (moved_piece c is.word ∷ moved_piece c is.colon ∷ left) left is.split
       (front_kept c (is.word ∷ is.colon ∷ []) [] rest rest left left (done rest left));
 }
@@ -67,7 +97,8 @@ are_args_moved : (c : Change) (args : List Piece) → AllByRecursion IsArg args 
 are_args_moved c [] all = tt
 are_args_moved c (a ∷ args) all = (all.0, are_args_moved c args all.1)
 
-stop_same : (c : Change) (t new : Piece) (args : List Piece) → new.stop ≡ c.at t.stop → stop_of new (map (moved_piece c) args) ≡ c.at (stop_of t args)
+stop_same : (c : Change) (t new : Piece) (args : List Piece) → new.stop ≡ c.at t.stop
+    → stop_of new (map (moved_piece c) args) ≡ c.at (stop_of t args)
 stop_same c t new [] e = e
 stop_same c t new (a ∷ args) e = stop_same c a (moved_piece c a) args refl
 
@@ -77,15 +108,19 @@ record CommandTurned (c : Change) (t : Piece) (args : List Piece) (a : Atom) : T
   start : new.start ≡ c.at t.start
   stop : new.stop ≡ c.at t.stop
   atom : command_atom new (map (moved_piece c) args) ≡ Some (renamed_atom (renaming c) (c.old.kinds Cmnd) a)
-  renames : (rest left : List Piece) → Renames c (atom_starts c.old (c.old.kinds Cmnd) (stop_of t args) a) (t ∷ (args ++ rest)) rest (new ∷ (map (moved_piece c) args ++ left)) left
+  renames : (rest left : List Piece)
+      → Renames c (atom_starts c.old (c.old.kinds Cmnd) (stop_of t args) a) (t ∷ (args ++ rest)) rest (new ∷ (map (moved_piece c) args ++ left)) left
 
-command_kept : (c : Change) (t : Piece) (args : List Piece) (a : Atom) → command_atom (moved_piece c t) (map (moved_piece c) args) ≡ Some a → renamed_atom (renaming c) (c.old.kinds Cmnd) a ≡ a → atom_starts c.old (c.old.kinds Cmnd) (stop_of t args) a ≡ [] → CommandTurned c t args a
+command_kept : (c : Change) (t : Piece) (args : List Piece) (a : Atom) → command_atom (moved_piece c t) (map (moved_piece c) args) ≡ Some a
+    → renamed_atom (renaming c) (c.old.kinds Cmnd) a ≡ a → atom_starts c.old (c.old.kinds Cmnd) (stop_of t args) a ≡ [] → CommandTurned c t args a
 command_kept c t args a is same none = record {
   new = moved_piece c t;
   start = refl;
   stop = refl;
   atom = is ∙ ap (λ (b : Atom). Some b) (sym same);
-  renames = λ rest left. subst (λ (ps : List ℕ). Renames c ps (t ∷ (args ++ rest)) rest (moved_piece c t ∷ (map (moved_piece c) args ++ left)) left) (sym none) (front_kept c (t ∷ args) [] rest rest left left (done rest left));
+  renames =
+      λ rest left. subst (λ (ps : List ℕ). Renames c ps (t ∷ (args ++ rest)) rest (moved_piece c t ∷ (map (moved_piece c) args ++ left)) left)
+      (sym none) (front_kept c (t ∷ args) [] rest rest left left (done rest left));
 }
 
 -- a command with arguments is no alias
@@ -111,7 +146,8 @@ with_alias kind.Name text args w e = cc
 with_alias kind.Value text args w e = cc
 with_alias kind.Bad text args w e = cc
 
-kept_with : (c : Change) (t b : Piece) (args : List Piece) (a : Atom) → command_atom t (b ∷ args) ≡ Some a → command_atom (moved_piece c t) (map (moved_piece c) (b ∷ args)) ≡ Some a
+kept_with : (c : Change) (t b : Piece) (args : List Piece) (a : Atom) → command_atom t (b ∷ args) ≡ Some a
+    → command_atom (moved_piece c t) (map (moved_piece c) (b ∷ args)) ≡ Some a
 kept_with c t b args a is = ap (λ (x : Args). if begins_with 94 b.text then None else command_with t.kind t.text x) (args_same c b args) ∙ is
 
 with_turns : (c : Change) (t b : Piece) (args : List Piece) (a : Atom) → command_atom t (b ∷ args) ≡ Some a → CommandTurned c t (b ∷ args) a
@@ -142,7 +178,8 @@ bare_is : (t : Piece) (a : Atom) → command_atom t [] ≡ Some a → atom_of Cm
 unfolding atom_of
 bare_is t a is = is
 
-command_last : (c : Change) (t : Piece) (args : List Piece) (a : Atom) → IsDefinableName c.fresh → command_atom t args ≡ Some a → CommandTurned c t args a
+command_last : (c : Change) (t : Piece) (args : List Piece) (a : Atom) → IsDefinableName c.fresh → command_atom t args ≡ Some a
+    → CommandTurned c t args a
 command_last c t [] a fresh is = bare_turns c t a (last_turns c Cmnd t a fresh (bare_is t a is))
 command_last c t (b ∷ args) a fresh is = with_turns c t b args a is
 
@@ -168,7 +205,8 @@ suits_same c [] m is = tt
 suits_same c (d ∷ ds) m is = takes_same c (c.old.kinds Cmnd) m.atom is
 
 -- where the first token begins that is read
-pub start_there : (c : Change) (ps : List ℕ) (ts rest us left : List Piece) → Renames c ps ts rest us left → start_of left ≡ c.at (start_of rest) → start_of us ≡ c.at (start_of ts)
+pub start_there : (c : Change) (ps : List ℕ) (ts rest us left : List Piece) → Renames c ps ts rest us left → start_of left ≡ c.at (start_of rest)
+    → start_of us ≡ c.at (start_of ts)
 start_there c ps ts rest us left (done a b) e = e
 start_there c ps ts rest us left (keep places t a b x y r) e = refl
 start_there c ps ts rest us left (swap place places t a b x y k n p r) e = refl
@@ -179,9 +217,13 @@ command_turns c fresh ts rest left m is =
     let args = map (moved_piece c) is.args in
     let us = map (moved_piece c) is.signs ++ last.new ∷ (args ++ left) in
     let ps = atom_starts c.old (c.old.kinds Cmnd) (stop_of is.word is.args) m.atom in
-    let there = from_texts c ps is.behind (is.signs ++ (is.word ∷ (is.args ++ rest))) rest us left is.split (front_kept c is.signs ps (is.word ∷ (is.args ++ rest)) rest (last.new ∷ (args ++ left)) left (last.renames rest left)) in
+    let there =
+    from_texts c ps is.behind (is.signs ++ (is.word ∷ (is.args ++ rest))) rest us left is.split
+    (front_kept c is.signs ps (is.word ∷ (is.args ++ rest)) rest (last.new ∷ (args ++ left)) left (last.renames rest left)) in
     let digests = digests_turn c ts is.behind us m.digests is.digests in
-    let begun : start_of us ≡ c.at (start_of is.behind) = start_same c is.signs is.word last.new (is.args ++ rest) (args ++ left) last.start ∙ ap (λ (t : List Piece). c.at (start_of t)) (sym is.split) in
+    let begun : start_of us ≡ c.at (start_of is.behind) =
+    start_same c is.signs is.word last.new (is.args ++ rest) (args ++ left) last.start
+    ∙ ap (λ (t : List Piece). c.at (start_of t)) (sym is.split) in
     record {
       new = digests.new;
       is = record {
@@ -199,8 +241,11 @@ command_turns c fresh ts rest left m is =
         start = ap c.at is.start ∙ sym (start_there c [] ts is.behind digests.new us digests.renames begun);
         stop = ap c.at is.stop ∙ sym (stop_same c is.word last.new is.args last.stop);
       };
-      renames = subst (λ (n : ℕ). Renames c (atom_starts c.old (c.old.kinds Cmnd) n m.atom) ts rest digests.new left) (sym is.stop) (through c [] ps ts is.behind rest digests.new us left digests.renames there);
+      renames =
+          subst (λ (n : ℕ). Renames c (atom_starts c.old (c.old.kinds Cmnd) n m.atom) ts rest digests.new left) (sym is.stop)
+          (through c [] ps ts is.behind rest digests.new us left digests.renames there);
     }
 
-pub commands_turn : (c : Change) → IsDefinableName c.fresh → Turns (List Member) c AreCommands (renamed_members (renaming c) Cmnd) (starts_among c.old Cmnd)
+pub commands_turn : (c : Change) → IsDefinableName c.fresh
+    → Turns (List Member) c AreCommands (renamed_members (renaming c) Cmnd) (starts_among c.old Cmnd)
 commands_turn c fresh = separated_turn c 44 IsCommand (renamed_member (renaming c) Cmnd) (member_starts c.old Cmnd) (command_turns c fresh)

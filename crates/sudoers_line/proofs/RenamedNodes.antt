@@ -21,18 +21,40 @@ use Rattle.sudoers_line.proofs.RenamedSpecs.{spec_turns}
 
 -- ---- parameters
 
-param_with : (c : Change) (o : Option Setting) (ts rest left : List Piece) (p : Param) → IsParamWith o ts p rest → Turned c (IsParamWith o) [] ts p rest left
+param_with : (c : Change) (o : Option Setting) (ts rest left : List Piece) (p : Param) → IsParamWith o ts p rest
+    → Turned c (IsParamWith o) [] ts p rest left
 unfolding operator_of
 param_with c None ts rest left p is = record {
   new = map (moved_piece c) is.signs ++ moved_piece c is.name ∷ left;
-  is = record { signs = map (moved_piece c) is.signs; name = moved_piece c is.name; split = refl; are_signs = signs_moved c is.signs is.are_signs; is_name = is.is_name; negated = is.negated ∙ sym (odd_same c is.signs); same_name = is.same_name };
+  is = record {
+    signs = map (moved_piece c) is.signs;
+    name = moved_piece c is.name;
+    split = refl;
+    are_signs = signs_moved c is.signs is.are_signs;
+    is_name = is.is_name;
+    negated = is.negated ∙ sym (odd_same c is.signs);
+    same_name = is.same_name;
+  };
   renames = from_texts c [] ts (is.signs ++ is.name ∷ rest) rest (map (moved_piece c) is.signs ++ moved_piece c is.name ∷ left) left is.split
       (front_kept c is.signs [] (is.name ∷ rest) rest (moved_piece c is.name ∷ left) left (keep [] is.name rest rest left left (done rest left)));
 }
 param_with c (Some s) ts rest left p is = record {
   new = moved_piece c is.name ∷ moved_piece c is.operator ∷ moved_piece c is.value ∷ left;
-  is = record { name = moved_piece c is.name; operator = moved_piece c is.operator; value = moved_piece c is.value; split = refl; is_name = is.is_name; is_operator = is.is_operator; is_value = is.is_value; not_negated = is.not_negated; same_name = is.same_name; same_value = is.same_value };
-  renames = from_texts c [] ts (is.name ∷ is.operator ∷ is.value ∷ rest) rest (moved_piece c is.name ∷ moved_piece c is.operator ∷ moved_piece c is.value ∷ left) left is.split
+  is = record {
+    name = moved_piece c is.name;
+    operator = moved_piece c is.operator;
+    value = moved_piece c is.value;
+    split = refl;
+    is_name = is.is_name;
+    is_operator = is.is_operator;
+    is_value = is.is_value;
+    not_negated = is.not_negated;
+    same_name = is.same_name;
+    same_value = is.same_value;
+  };
+  renames =
+      from_texts c [] ts (is.name ∷ is.operator ∷ is.value ∷ rest) rest
+      (moved_piece c is.name ∷ moved_piece c is.operator ∷ moved_piece c is.value ∷ left) left is.split
       (front_kept c (is.name ∷ is.operator ∷ is.value ∷ []) [] rest rest left left (done rest left));
 }
 
@@ -46,18 +68,22 @@ params_turn c = unnamed c (Separated 44 IsParam) (separated_turn c 44 IsParam (�
 
 -- ---- scopes
 
-scope_command_turns : (c : Change) → IsDefinableName c.fresh → Turns Member c IsScopeCommand (renamed_member (renaming c) Cmnd) (member_starts c.old Cmnd)
+scope_command_turns : (c : Change) → IsDefinableName c.fresh
+    → Turns Member c IsScopeCommand (renamed_member (renaming c) Cmnd) (member_starts c.old Cmnd)
 scope_command_turns c fresh ts rest left m is =
     let all = command_turns c fresh ts rest left m is.1 in
     record { new = all.new; is = (is.0, all.is); renames = all.renames }
 
-scope_list_turns : (c : Change) (k : Kind) → IsDefinableName c.fresh → Turns (List Member) c (IsScopeList k) (renamed_members (renaming c) k) (starts_among c.old k)
+scope_list_turns : (c : Change) (k : Kind) → IsDefinableName c.fresh
+    → Turns (List Member) c (IsScopeList k) (renamed_members (renaming c) k) (starts_among c.old k)
 scope_list_turns c User fresh = members_turn c User fresh
 scope_list_turns c Runas fresh = members_turn c Runas fresh
 scope_list_turns c Host fresh = members_turn c Host fresh
-scope_list_turns c Cmnd fresh = separated_turn c 44 IsScopeCommand (renamed_member (renaming c) Cmnd) (member_starts c.old Cmnd) (scope_command_turns c fresh)
+scope_list_turns c Cmnd fresh =
+    separated_turn c 44 IsScopeCommand (renamed_member (renaming c) Cmnd) (member_starts c.old Cmnd) (scope_command_turns c fresh)
 
-sign_moved : (c : Change) (stop : ℕ) (t : Piece) → (c.at t.start == c.at stop) ≡ (t.start == stop) → scope_sign (c.at stop) (moved_piece c t) ≡ scope_sign stop t
+sign_moved : (c : Change) (stop : ℕ) (t : Piece) → (c.at t.start == c.at stop) ≡ (t.start == stop)
+    → scope_sign (c.at stop) (moved_piece c t) ≡ scope_sign stop t
 unfolding scope_sign
 sign_moved c stop t e = ap (λ (b : Bool). if is_punct t.kind && b then looked_up scope_signs t.text else None) e
 
@@ -70,7 +96,8 @@ abbrev Follows : Change → ℕ → List Piece → Type 0
 Follows c stop [] = Unit {0}
 Follows c stop (t ∷ ts) = (c.at t.start == c.at stop) ≡ (t.start == stop)
 
-no_scope_turn : (c : Change) (stop : ℕ) (ps : List ℕ) (ts rest us left : List Piece) → Renames c ps ts rest us left → BeginsNoScope (c.at stop) left → Follows c stop ts → BeginsNoScope stop ts → BeginsNoScope (c.at stop) us
+no_scope_turn : (c : Change) (stop : ℕ) (ps : List ℕ) (ts rest us left : List Piece) → Renames c ps ts rest us left
+    → BeginsNoScope (c.at stop) left → Follows c stop ts → BeginsNoScope stop ts → BeginsNoScope (c.at stop) us
 no_scope_turn c stop ps ts rest us left (done a b) after follows is = after
 no_scope_turn c stop ps ts rest us left (keep places t a b x y r) after follows is = sign_moved c stop t follows ∙ is
 no_scope_turn c stop ps ts rest us left (swap place places t a b x y k n p r) after follows is = sign_renamed c (c.at stop) t k
@@ -85,8 +112,10 @@ defaults_moved : (c : Change) (t : Piece) → is_defaults t ≡ true → is_defa
 unfolding is_the_word
 defaults_moved c t is = is
 
-scope_turns : (c : Change) (stop : ℕ) (o : Option Scope) (ts mid rest us left : List Piece) → IsDefinableName c.fresh → PerhapsScope stop ts o mid → BeginsNoScope (c.at stop) left → Renames c [] mid rest us left
-    → (new : List Piece) × (Follows c stop ts → PerhapsScope (c.at stop) new (renamed_scope (renaming c) o) us) × Renames c (scope_starts c.old o) ts rest new left
+scope_turns : (c : Change) (stop : ℕ) (o : Option Scope) (ts mid rest us left : List Piece) → IsDefinableName c.fresh → PerhapsScope stop ts o mid
+    → BeginsNoScope (c.at stop) left → Renames c [] mid rest us left
+    → (new : List Piece) × (Follows c stop ts → PerhapsScope (c.at stop) new (renamed_scope (renaming c) o) us)
+    × Renames c (scope_starts c.old o) ts rest new left
 scope_turns c stop None ts mid rest us left fresh is after params =
     let there = from_texts c [] ts mid rest us left is.0 params in
     (us, λ follows. (refl, no_scope_turn c stop [] ts rest us left there after follows is.1), there)
@@ -94,29 +123,49 @@ scope_turns c stop (Some s) ts mid rest us left fresh is after params =
     let members = scope_list_turns c s.kind fresh is.behind mid us s.members is.members in
     let ps = starts_among c.old s.kind s.members in (
       moved_piece c is.sign ∷ members.new,
-      λ follows. record { sign = moved_piece c is.sign; behind = members.new; split = refl; is_sign = sign_moved c stop is.sign (subst (Follows c stop) is.split follows) ∙ is.is_sign; members = members.is },
+      λ follows. record {
+        sign = moved_piece c is.sign;
+        behind = members.new;
+        split = refl;
+        is_sign = sign_moved c stop is.sign (subst (Follows c stop) is.split follows) ∙ is.is_sign;
+        members = members.is;
+      },
       from_texts c ps ts (is.sign ∷ is.behind) rest (moved_piece c is.sign ∷ members.new) left is.split
           (keep ps is.sign is.behind rest members.new left (through_none c ps is.behind mid rest members.new us left members.renames params)),
     )
 
-defaults_turns : (c : Change) (o : Option Scope) (ps : List Param) (ts rest left : List Piece) → IsDefinableName c.fresh → ((stop : ℕ) → BeginsNoScope stop left) → IsDefaults ts o ps rest
-    → (new : List Piece) × (KeepsNext c ts → IsDefaults new (renamed_scope (renaming c) o) ps left) × Renames c (scope_starts c.old o) ts rest new left
+defaults_turns : (c : Change) (o : Option Scope) (ps : List Param) (ts rest left : List Piece) → IsDefinableName c.fresh
+    → ((stop : ℕ) → BeginsNoScope stop left) → IsDefaults ts o ps rest
+    → (new : List Piece) × (KeepsNext c ts → IsDefaults new (renamed_scope (renaming c) o) ps left)
+    × Renames c (scope_starts c.old o) ts rest new left
 defaults_turns c o ps ts rest left fresh after is =
     let params = params_turn c is.behind_scope rest left ps is.params in
-    let scope = scope_turns c is.word.stop o is.behind is.behind_scope rest params.new left fresh is.in_scope (after (c.at is.word.stop)) params.renames in (
+    let scope =
+    scope_turns c is.word.stop o is.behind is.behind_scope rest params.new left fresh is.in_scope (after (c.at is.word.stop)) params.renames in (
       moved_piece c is.word ∷ scope.0,
-      λ keeps. record { word = moved_piece c is.word; behind = scope.0; behind_scope = params.new; split = refl; is_word = defaults_moved c is.word is.is_word; in_scope = scope.1 (follows_first c is.word is.behind (subst (KeepsNext c) is.split keeps)); params = params.is },
-      from_texts c (scope_starts c.old o) ts (is.word ∷ is.behind) rest (moved_piece c is.word ∷ scope.0) left is.split (keep (scope_starts c.old o) is.word is.behind rest scope.0 left scope.2),
+      λ keeps. record {
+        word = moved_piece c is.word;
+        behind = scope.0;
+        behind_scope = params.new;
+        split = refl;
+        is_word = defaults_moved c is.word is.is_word;
+        in_scope = scope.1 (follows_first c is.word is.behind (subst (KeepsNext c) is.split keeps));
+        params = params.is;
+      },
+      from_texts c (scope_starts c.old o) ts (is.word ∷ is.behind) rest (moved_piece c is.word ∷ scope.0) left is.split
+          (keep (scope_starts c.old o) is.word is.behind rest scope.0 left scope.2),
     )
 
 -- ---- lines
 
-include_turns : (c : Change) (dir : Bool) (path : List ℕ) (ts rest left : List Piece) → IsInclude dir path ts rest → (us : List Piece) × IsInclude dir path us left × Renames c [] ts rest us left
+include_turns : (c : Change) (dir : Bool) (path : List ℕ) (ts rest left : List Piece) → IsInclude dir path ts rest
+    → (us : List Piece) × IsInclude dir path us left × Renames c [] ts rest us left
 unfolding include_word path_value
 include_turns c dir path ts rest left is = (
   moved_piece c is.word ∷ moved_piece c is.name ∷ left,
   record { word = moved_piece c is.word; name = moved_piece c is.name; split = refl; is_include = is.is_include; is_path = is.is_path },
-  from_texts c [] ts (is.word ∷ is.name ∷ rest) rest (moved_piece c is.word ∷ moved_piece c is.name ∷ left) left is.split (front_kept c (is.word ∷ is.name ∷ []) [] rest rest left left (done rest left)),
+  from_texts c [] ts (is.word ∷ is.name ∷ rest) rest (moved_piece c is.word ∷ moved_piece c is.name ∷ left) left is.split
+      (front_kept c (is.word ∷ is.name ∷ []) [] rest rest left left (done rest left)),
 )
 
 comment_kind : (k : TokenKind) → is_comment k ≡ true → k ≡ kind.Comment
@@ -181,7 +230,9 @@ said c node.Blank ts rest fresh ends is = record {
 said c node.Comment ts rest fresh ends is = record {
   new = moved_piece c is.0 ∷ [];
   says = λ keeps. (moved_piece c is.0, refl, is.2, none_moved c rest is.3);
-  renames = subst (λ (x : List Piece). Renames c [] ts x (moved_piece c is.0 ∷ []) (map (moved_piece c) x)) (sym is.3) (from_texts c [] ts (is.0 ∷ []) [] (moved_piece c is.0 ∷ []) [] is.1 (keep [] is.0 [] [] [] [] (done [] [])));
+  renames =
+      subst (λ (x : List Piece). Renames c [] ts x (moved_piece c is.0 ∷ []) (map (moved_piece c) x)) (sym is.3)
+      (from_texts c [] ts (is.0 ∷ []) [] (moved_piece c is.0 ∷ []) [] is.1 (keep [] is.0 [] [] [] [] (done [] [])));
 }
 said c (node.Include dir path) ts rest fresh ends is =
     let all = include_turns c dir path ts rest (map (moved_piece c) rest) is in
@@ -197,7 +248,8 @@ said c (node.Spec users groups) ts rest fresh ends is =
     record { new = all.0; says = λ keeps. all.1; renames = all.2 }
 
 -- A line is read again, renamed.
-pub reads_renamed : (c : Change) (ts : List Piece) (n : Node) → IsDefinableName c.fresh → Reads ts n → (us : List Piece) × (KeepsNext c ts → Reads us (renamed_node (renaming c) n)) × Renames c (node_starts c.old n) ts [] us []
+pub reads_renamed : (c : Change) (ts : List Piece) (n : Node) → IsDefinableName c.fresh → Reads ts n
+    → (us : List Piece) × (KeepsNext c ts → Reads us (renamed_node (renaming c) n)) × Renames c (node_starts c.old n) ts [] us []
 reads_renamed c ts n fresh is =
     let all = said c n ts is.0 fresh is.2 is.1 in (
       all.new,

@@ -43,7 +43,8 @@ KeepsNext c (t ∷ u ∷ ts) = (c.at u.start == c.at t.stop) ≡ (u.start == t.s
 -- ---- one after another
 
 -- These tokens are read from as others were before, up to what is left.
-pub record Turned {X : Type 0} (c : Change) (P : List Piece → X → List Piece → Type 0) (places : List ℕ) (ts : List Piece) (y : X) (rest left : List Piece) : Type 0 where
+pub record Turned {X : Type 0} (c : Change) (P : List Piece → X → List Piece → Type 0) (places : List ℕ) (ts : List Piece) (y : X)
+    (rest left : List Piece) : Type 0 where
   pub new : List Piece
   pub is : P new y left
   pub renames : Renames c places ts rest new left
@@ -55,52 +56,74 @@ Turns X c P g s = (ts rest left : List Piece) (x : X) → P ts x rest → Turned
 pub through : (c : Change) (ps qs : List ℕ) (a b d x y z : List Piece) → Renames c ps a b x y → Renames c qs b d y z → Renames c (ps ++ qs) a d x z
 through c ps qs a b d x y z (done rest left) more = more
 through c ps qs a b d x y z (keep places t ts rest us left r) more = keep (places ++ qs) t ts d us z (through c places qs ts b d us y z r more)
-through c ps qs a b d x y z (swap place places t ts rest us left k n p r) more = swap place (places ++ qs) t ts d us z k n p (through c places qs ts b d us y z r more)
+through c ps qs a b d x y z (swap place places t ts rest us left k n p r) more =
+    swap place (places ++ qs) t ts d us z k n p (through c places qs ts b d us y z r more)
 
 -- where no name stands behind
 pub through_none : (c : Change) (ps : List ℕ) (a b d x y z : List Piece) → Renames c ps a b x y → Renames c [] b d y z → Renames c ps a d x z
 through_none c ps a b d x y z r more = subst (λ (qs : List ℕ). Renames c qs a d x z) (append-nil ps) (through c ps [] a b d x y z r more)
 
-pub from_texts : (c : Change) (ps : List ℕ) (ts ss rest us left : List Piece) → ts ≡ ss → Renames c ps ss rest us left → Renames c ps ts rest us left
+pub from_texts : (c : Change) (ps : List ℕ) (ts ss rest us left : List Piece) → ts ≡ ss → Renames c ps ss rest us left
+    → Renames c ps ts rest us left
 from_texts c ps ts ss rest us left e r = subst (λ (t : List Piece). Renames c ps t rest us left) (sym e) r
 
-pub many_turn : {X : Type 0} (c : Change) (P : List Piece → X → List Piece → Type 0) (g : X → X) (s : X → List ℕ) → Turns X c P g s → Turns (List X) c (Many P) (map g) (flat_map s)
+pub many_turn : {X : Type 0} (c : Change) (P : List Piece → X → List Piece → Type 0) (g : X → X) (s : X → List ℕ) → Turns X c P g s
+    → Turns (List X) c (Many P) (map g) (flat_map s)
 many_turn c P g s turns ts rest left [] is = record { new = left; is = refl; renames = from_texts c [] ts rest rest left left is (done rest left) }
 many_turn c P g s turns ts rest left (x ∷ xs) is =
     let others = many_turn c P g s turns is.0 rest left xs is.2 in
     let first = turns ts is.0 others.new x is.1 in
-    record { new = first.new; is = (others.new, first.is, others.is); renames = through c (s x) (flat_map s xs) ts is.0 rest first.new others.new left first.renames others.renames }
+    record {
+      new = first.new;
+      is = (others.new, first.is, others.is);
+      renames = through c (s x) (flat_map s xs) ts is.0 rest first.new others.new left first.renames others.renames;
+    }
 
 pub mark_moved : (c : Change) (b : ℕ) (t : Piece) → IsMark b t → IsMark b (moved_piece c t)
 unfolding is_mark
 mark_moved c b t is = is
 
-pub behind_turn : {X : Type 0} (c : Change) (b : ℕ) (P : List Piece → X → List Piece → Type 0) (g : X → X) (s : X → List ℕ) → Turns X c P g s → Turns X c (Behind b P) g s
+pub behind_turn : {X : Type 0} (c : Change) (b : ℕ) (P : List Piece → X → List Piece → Type 0) (g : X → X) (s : X → List ℕ) → Turns X c P g s
+    → Turns X c (Behind b P) g s
 behind_turn c b P g s turns ts rest left x is =
     let later = turns is.behind rest left x is.is in
     record {
       new = moved_piece c is.mark ∷ later.new;
       is = record { mark = moved_piece c is.mark; behind = later.new; split = refl; is_mark = mark_moved c b is.mark is.is_mark; is = later.is };
-      renames = from_texts c (s x) ts (is.mark ∷ is.behind) rest (moved_piece c is.mark ∷ later.new) left is.split (keep (s x) is.mark is.behind rest later.new left later.renames);
+      renames =
+          from_texts c (s x) ts (is.mark ∷ is.behind) rest (moved_piece c is.mark ∷ later.new) left is.split
+          (keep (s x) is.mark is.behind rest later.new left later.renames);
     }
 
-pub separated_turn : {X : Type 0} (c : Change) (b : ℕ) (P : List Piece → X → List Piece → Type 0) (g : X → X) (s : X → List ℕ) → Turns X c P g s → Turns (List X) c (Separated b P) (map g) (flat_map s)
+pub separated_turn : {X : Type 0} (c : Change) (b : ℕ) (P : List Piece → X → List Piece → Type 0) (g : X → X) (s : X → List ℕ) → Turns X c P g s
+    → Turns (List X) c (Separated b P) (map g) (flat_map s)
 separated_turn c b P g s turns ts rest left [] is = absurd is
 separated_turn c b P g s turns ts rest left (x ∷ xs) is =
     let others = many_turn c (Behind b P) g s (behind_turn c b P g s turns) is.0 rest left xs is.2 in
     let first = turns ts is.0 others.new x is.1 in
-    record { new = first.new; is = (others.new, first.is, others.is); renames = through c (s x) (flat_map s xs) ts is.0 rest first.new others.new left first.renames others.renames }
+    record {
+      new = first.new;
+      is = (others.new, first.is, others.is);
+      renames = through c (s x) (flat_map s xs) ts is.0 rest first.new others.new left first.renames others.renames;
+    }
 
-pub perhaps_turn : {X : Type 0} (c : Change) (P : List Piece → List X → List Piece → Type 0) (g : X → X) (s : X → List ℕ) → Turns (List X) c P (map g) (flat_map s) → Turns (List X) c (Perhaps P) (map g) (flat_map s)
-perhaps_turn c P g s turns ts rest left [] is = record { new = left; is = refl; renames = from_texts c [] ts rest rest left left is (done rest left) }
+pub perhaps_turn : {X : Type 0} (c : Change) (P : List Piece → List X → List Piece → Type 0) (g : X → X) (s : X → List ℕ)
+    → Turns (List X) c P (map g) (flat_map s) → Turns (List X) c (Perhaps P) (map g) (flat_map s)
+perhaps_turn c P g s turns ts rest left [] is = record {
+  new = left;
+  is = refl;
+  renames = from_texts c [] ts rest rest left left is (done rest left);
+}
 perhaps_turn c P g s turns ts rest left (x ∷ xs) is =
     let all = turns ts rest left (x ∷ xs) is in
     record { new = all.new; is = all.is; renames = all.renames }
 
 -- tokens that stand as they are, moved
-pub front_kept : (c : Change) (front : List Piece) (ps : List ℕ) (ts rest us left : List Piece) → Renames c ps ts rest us left → Renames c ps (front ++ ts) rest (map (moved_piece c) front ++ us) left
+pub front_kept : (c : Change) (front : List Piece) (ps : List ℕ) (ts rest us left : List Piece) → Renames c ps ts rest us left
+    → Renames c ps (front ++ ts) rest (map (moved_piece c) front ++ us) left
 front_kept c [] ps ts rest us left r = r
-front_kept c (t ∷ front) ps ts rest us left r = keep ps t (front ++ ts) rest (map (moved_piece c) front ++ us) left (front_kept c front ps ts rest us left r)
+front_kept c (t ∷ front) ps ts rest us left r =
+    keep ps t (front ++ ts) rest (map (moved_piece c) front ++ us) left (front_kept c front ps ts rest us left r)
 
 -- ---- what has no names in it
 
@@ -117,7 +140,8 @@ no_places [] = refl
 no_places (x ∷ xs) = no_places xs
 
 -- a list of things without names is read as it was
-pub unnamed : {X : Type 0} (c : Change) (P : List Piece → List X → List Piece → Type 0) → Turns (List X) c P (map (λ (x : X). x)) (flat_map nowhere) → Turns (List X) c P (λ (xs : List X). xs) (λ (xs : List X). [])
+pub unnamed : {X : Type 0} (c : Change) (P : List Piece → List X → List Piece → Type 0)
+    → Turns (List X) c P (map (λ (x : X). x)) (flat_map nowhere) → Turns (List X) c P (λ (xs : List X). xs) (λ (xs : List X). [])
 unnamed c P turns ts rest left xs is =
     let all = turns ts rest left xs is in
     record {

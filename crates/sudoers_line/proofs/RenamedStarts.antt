@@ -30,10 +30,12 @@ pub piece_parts : (t u : Piece) (ts us : List Piece) → t ∷ ts ≡ u ∷ us �
 piece_parts t u ts us e = (cc, cc)
 
 -- where a name stands
-pub name_place : (c : Change) (line : List ℕ) (k : Token) (t : Piece) (place : ℕ) → k.start < k.stop → k.stop ≤ length line → t ≡ piece line k → t.text ≡ c.old.name → (place ≡ t.start) ⊎ (place ≡ t.stop - length c.old.name)
+pub name_place : (c : Change) (line : List ℕ) (k : Token) (t : Piece) (place : ℕ) → k.start < k.stop → k.stop ≤ length line → t ≡ piece line k
+    → t.text ≡ c.old.name → (place ≡ t.start) ⊎ (place ≡ t.stop - length c.old.name)
     → (place ≡ k.start) × (length c.old.name ≡ k.stop - k.start)
 name_place c line k t place some within e named at =
-    let size : length c.old.name ≡ k.stop - k.start = ap length (sym named ∙ ap (λ (u : Piece). u.text) e) ∙ slice_size line k.start k.stop (omega (arith, some)) within in
+    let size : length c.old.name ≡ k.stop - k.start =
+    ap length (sym named ∙ ap (λ (u : Piece). u.text) e) ∙ slice_size line k.start k.stop (omega (arith, some)) within in
     (by_place at size, size)
   where
     by_place : (place ≡ t.start) ⊎ (place ≡ t.stop - length c.old.name) → length c.old.name ≡ k.stop - k.start → place ≡ k.start
@@ -44,7 +46,8 @@ pub ascend_le : (from to : ℕ) (ts : List Token) → TokensAscend from to ts �
 ascend_le from to [] a = a
 ascend_le from to (t ∷ ts) a = omega (arith, a.0, a.1, ascend_le t.stop to ts a.2)
 
-pub places_apart : (c : Change) (line : List ℕ) (ts us : List Piece) (ps : List ℕ) → Renames c ps ts [] us [] → (from : ℕ) (ks : List Token) → ts ≡ pieces line ks → TokensAscend from (length line) ks → Apart (length c.old.name) from (length line) ps
+pub places_apart : (c : Change) (line : List ℕ) (ts us : List Piece) (ps : List ℕ) → Renames c ps ts [] us [] → (from : ℕ) (ks : List Token)
+    → ts ≡ pieces line ks → TokensAscend from (length line) ks → Apart (length c.old.name) from (length line) ps
 places_apart c line ts us ps (done rest left) from ks e a = ascend_le from (length line) ks a
 places_apart c line ts us ps (keep places t tts rest uus left r) from [] e a = absurd (cc)
 places_apart c line ts us ps (keep places t tts rest uus left r) from (k ∷ ks) e a =
@@ -54,8 +57,11 @@ places_apart c line ts us ps (swap place places t tts rest uus left w n p r) fro
 places_apart c line ts us ps (swap place places t tts rest uus left w n p r) from (k ∷ ks) e a =
     let parts = piece_parts t (piece line k) tts (pieces line ks) e in
     let at = name_place c line k t place a.1 (ascend_le k.stop (length line) ks a.2) parts.0 n p in
-    let later = places_apart c line tts uus places r k.stop ks parts.1 a.2 in
-    (omega (arith, a.0, at.0), apart_less (length c.old.name) k.stop (place + length c.old.name) (length line) places (omega (arith, at.0, at.1, a.1)) later)
+    let later = places_apart c line tts uus places r k.stop ks parts.1 a.2 in (
+      omega (arith, a.0, at.0),
+      apart_less (length c.old.name) k.stop (place + length c.old.name) (length line) places
+          (omega (arith, at.0, at.1, a.1)) later,
+    )
 
 lt_yes : (p x : ℕ) → p < x → nat_lt p x ≡ true
 lt_yes p x h = grind (arith, nat_tests)
@@ -66,7 +72,8 @@ lt_no p x h = grind (arith, nat_tests)
 -- a place before all of them
 pub shifted_below : (old new size from to : ℕ) (ps : List ℕ) (x : ℕ) → Apart size from to ps → x ≤ from → shifted old new ps x ≡ x
 shifted_below old new size from to [] x a h = refl
-shifted_below old new size from to (p ∷ ps) x a h = ap (λ (t : Bool). if t then moved_offset old new (shifted old new ps x) else x) (lt_no p x (omega (arith, h, a.0)))
+shifted_below old new size from to (p ∷ ps) x a h =
+    ap (λ (t : Bool). if t then moved_offset old new (shifted old new ps x) else x) (lt_no p x (omega (arith, h, a.0)))
 
 pub shifted_above : (old new p : ℕ) (ps : List ℕ) (x : ℕ) → p < x → shifted old new (p ∷ ps) x ≡ moved_offset old new (shifted old new ps x)
 shifted_above old new p ps x h = ap (λ (t : Bool). if t then moved_offset old new (shifted old new ps x) else x) (lt_yes p x h)
