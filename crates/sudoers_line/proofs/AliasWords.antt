@@ -68,13 +68,12 @@ group_other : (escaped : Bool) (text : List ℕ) → Other (group_atom escaped t
 unfolding Other
 group_other escaped [] = tt
 group_other escaped (b ∷ rest) =
-    other_if (b == 58) (option_map atom.NonUnix (filled (unescaped escaped rest)))
-    (if b == 35 && are_digits rest then option_map atom.GroupId (up_to id_limit rest) else option_map atom.Group
-    (filled (unescaped escaped (b ∷ rest))))
+    let groups = option_map atom.Group (filled (unescaped escaped (b ∷ rest))) in
+    let numbers = option_map atom.GroupId (up_to id_limit rest) in
+    other_if (b == 58) (option_map atom.NonUnix (filled (unescaped escaped rest))) (if b == 35 && are_digits rest then numbers else groups)
     (other_map atom.NonUnix (λ x. refl) (filled (unescaped escaped rest)))
-    (other_if (b == 35 && are_digits rest) (option_map atom.GroupId (up_to id_limit rest))
-    (option_map atom.Group (filled (unescaped escaped (b ∷ rest))))
-    (other_map atom.GroupId (λ x. refl) (up_to id_limit rest)) (other_map atom.Group (λ x. refl) (filled (unescaped escaped (b ∷ rest)))))
+    (other_if (b == 35 && are_digits rest) numbers groups (other_map atom.GroupId (λ x. refl) (up_to id_limit rest))
+    (other_map atom.Group (λ x. refl) (filled (unescaped escaped (b ∷ rest)))))
 
 number_other : (text : List ℕ) → Other (number_atom text)
 unfolding Other
@@ -144,18 +143,14 @@ host_alias : (k : TokenKind) (text w : List ℕ) → host_atom k text ≡ Some (
 unfolding host_atom unescaped_host Other
 host_alias kind.Word text w e = (refl, by_escape (has_byte 92 text) e)
   where
-    by_escape : (t : Bool)
-        → (if t then Some (atom.Host (pattern_of HostName text)) else (if bytes_eq text
-        (codes "ALL") then Some atom.All else (if is_name text then Some
-        (atom.Alias text) else (if begins_with 43 text then option_map atom.Netgroup (filled (drop 1 text)) else plain_host text
-        (address_number text))))) ≡ Some (atom.Alias w)
-        → text ≡ w
+    by_escape : (t : Bool) → (if t then Some (atom.Host (pattern_of HostName text)) else unescaped_host text) ≡ Some (atom.Alias w) → text ≡ w
     by_escape true e = absurd (cc)
     by_escape false e =
-        by_name (bytes_eq text (codes "ALL")) (is_name text) text w
-        (if begins_with 43 text then option_map atom.Netgroup (filled (drop 1 text)) else plain_host text (address_number text))
-        (other_if (begins_with 43 text) (option_map atom.Netgroup (filled (drop 1 text))) (plain_host text (address_number text))
-        (other_map atom.Netgroup (λ x. refl) (filled (drop 1 text))) (plain_other text (address_number text))) e
+        let netgroup = option_map atom.Netgroup (filled (drop 1 text)) in
+        let plain = plain_host text (address_number text) in
+        by_name (bytes_eq text (codes "ALL")) (is_name text) text w (if begins_with 43 text then netgroup else plain)
+        (other_if (begins_with 43 text) netgroup plain (other_map atom.Netgroup (λ x. refl) (filled (drop 1 text))) (plain_other text (address_number text)))
+        e
 host_alias kind.Quoted text w e =
     absurd (none_alias (option_map atom.Host (filled (pattern_of QuotedHost text))) w
     (other_map atom.Host (λ x. refl) (filled (pattern_of QuotedHost text))) e)
@@ -169,15 +164,20 @@ host_alias kind.Name text w e = absurd (cc)
 host_alias kind.Value text w e = absurd (cc)
 host_alias kind.Bad text w e = absurd (cc)
 
+-- a command, by what its word is
+abbrev by_word_is : Bool → Bool → Bool → Bool → List ℕ → Option Atom
+by_word_is all listing sudoedit name text =
+    if all then Some atom.All
+    else (if listing then Some atom.Listing
+    else (if sudoedit then Some (atom.Sudoedit Any)
+    else (if name then Some (atom.Alias text) else None)))
+
 command_is : (text w : List ℕ) → command_word text ≡ Some (atom.Alias w) → text ≡ w
 command_is text w e =
     by_tests (bytes_eq text (codes "ALL")) (bytes_eq text (codes "list")) (bytes_eq text (codes "sudoedit"))
     (is_name text && not (is_reserved text)) e
   where
-    by_tests : (a b c d : Bool)
-        → (if a then Some atom.All else (if b then Some atom.Listing else (if c then Some
-        (atom.Sudoedit Any) else (if d then Some (atom.Alias text) else None)))) ≡ Some (atom.Alias w)
-        → text ≡ w
+    by_tests : (a b c d : Bool) → by_word_is a b c d text ≡ Some (atom.Alias w) → text ≡ w
     by_tests true b c d e = absurd (cc)
     by_tests false true c d e = absurd (cc)
     by_tests false false true d e = absurd (cc)
@@ -215,7 +215,7 @@ differs test a b h none =
       | inr w ↦ w.0
     ]
 
--- A name is no word that isn't one.
+-- A name is not a word that is no name.
 pub other_word : (w word : List ℕ) → is_name w ≡ true → is_name word ≡ false → bytes_eq w word ≡ false
 other_word w word is isnt = by_test (bytes_eq w word) refl
   where
@@ -274,8 +274,7 @@ command_there w is =
     (not_all w is) (other_word w (codes "list") is.0 refl) (other_word w (codes "sudoedit") is.0 refl) is.0 is.1
   where
     by_tests : (a b c d r : Bool) → a ≡ false → b ≡ false → c ≡ false → d ≡ true → r ≡ false
-        → (if a then Some atom.All else (if b then Some atom.Listing else (if c then Some
-        (atom.Sudoedit Any) else (if d && not r then Some (atom.Alias w) else None)))) ≡ Some (atom.Alias w)
+        → by_word_is a b c (d && not r) w ≡ Some (atom.Alias w)
     by_tests false false false true false e f g h i = refl
     by_tests true b c d r e f g h i = absurd (cc)
     by_tests false true c d r e f g h i = absurd (cc)

@@ -17,7 +17,7 @@ use Rattle.sudoers_line.proofs.RenamedStarts.{Apart, shifted_below, shifted_abov
 
 -- ---- offsets
 
--- The name that ends here and begins at this offset is moved with its beginning.
+-- A name that begins at this offset is moved whole.
 abbrev pub Moves : ℕ → ℕ → (ℕ → ℕ) → ℕ → Type 0
 Moves old new at p = (e : ℕ) → e - old ≡ p → at e - new ≡ at p
 
@@ -78,8 +78,8 @@ all_front P (x ∷ xs) ys all =
     let more = all_front P xs ys all.1 in
     ((all.0, more.0), more.1)
 
--- Where the other name does not stand in a part, and each beginning of the old one moves with its end, the other stands in the renamed
--- part where the old one stood.
+-- Where the new name stands nowhere in a part, and the old one is moved whole, the new one stands in the renamed part where the old one
+-- stood.
 abbrev pub Again : (X : Type 0) → (ℕ → Type 0) → (ℕ → ℕ) → (X → X) → (X → List ℕ) → (X → List ℕ) → Type 0
 Again X P at g s t = (x : X) → t x ≡ [] → AllByRecursion P (s x) → t (g x) ≡ map at (s x)
 

@@ -1,4 +1,4 @@
--- Tokens that are read by a rule of the grammar are read by it again with another name: by one rule after another.
+-- Tokens that are read by a rule of the grammar are read by it again with another name.
 use Rattle.std.proofs.Common.{◌≡◌, ◌⊎◌, ℕ, ◌-◌, Bool, List, [], ◌∷◌, ◌++◌, map, length, refl, sym, ap, subst, append-nil}
 use Rattle.std.specs.Prelude.{◌==◌}
 use Rattle.std.specs.List.{flat_map}
@@ -24,8 +24,8 @@ moved_piece c t = record { kind = t.kind; text = t.text; start = c.at t.start; s
 abbrev pub renamed_piece : Change → Piece → Piece
 renamed_piece c t = record { kind = t.kind; text = c.fresh; start = c.at t.start; stop = c.at t.stop; last = c.last t }
 
--- Tokens up to the rest, and others up to what is left there. At each of these offsets, in their order, a token is the old name and its
--- counterpart the new one; each other token is moved alone.
+-- Tokens up to a rest, and renamed ones up to what is left of them. At each of these offsets, in their order, the old name stands and
+-- becomes the new one. Every other token is only moved.
 pub data Renames (c : Change) : List ℕ → List Piece → List Piece → List Piece → List Piece → Type 0 where
   done : (rest left : List Piece) → Renames c [] rest rest left left
   keep : (starts : List ℕ) (t : Piece) (ts rest us left : List Piece) → Renames c starts ts rest us left
@@ -42,14 +42,14 @@ KeepsNext c (t ∷ u ∷ ts) = (c.at u.start == c.at t.stop) ≡ (u.start == t.s
 
 -- ---- one after another
 
--- These tokens are read from as others were before, up to what is left.
+-- New tokens are read by this rule up to what is left of them, and are the renamed ones.
 pub record Turned {X : Type 0} (c : Change) (P : List Piece → X → List Piece → Type 0) (places : List ℕ) (ts : List Piece) (y : X)
     (rest left : List Piece) : Type 0 where
   pub new : List Piece
   pub is : P new y left
   pub renames : Renames c places ts rest new left
 
--- What is read by this rule is read so again, renamed.
+-- What this rule reads, it reads again in renamed tokens: renamed by g; s gives where the name stands in it.
 abbrev pub Turns : (X : Type 0) → Change → (List Piece → X → List Piece → Type 0) → (X → X) → (X → List ℕ) → Type 0
 Turns X c P g s = (ts rest left : List Piece) (x : X) → P ts x rest → Turned c P (s x) ts (g x) rest left
 
@@ -139,7 +139,7 @@ pub no_places : {X : Type 0} (xs : List X) → flat_map nowhere xs ≡ []
 no_places [] = refl
 no_places (x ∷ xs) = no_places xs
 
--- a list of things without names is read as it was
+-- A list of things without names is read as it was.
 pub unnamed : {X : Type 0} (c : Change) (P : List Piece → List X → List Piece → Type 0)
     → Turns (List X) c P (map (λ (x : X). x)) (flat_map nowhere) → Turns (List X) c P (λ (xs : List X). xs) (λ (xs : List X). [])
 unnamed c P turns ts rest left xs is =

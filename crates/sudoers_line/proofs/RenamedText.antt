@@ -139,7 +139,7 @@ texts_behind L name fresh p one from to (t ∷ ts) (u ∷ us) h a is = (
 
 -- ---- all of them
 
--- what becomes of tokens from a place on
+-- the line with another name at these offsets, by its tokens from one on: those before it are as they were
 record Swaps (m : Mode) (line name fresh : List ℕ) (ps : List ℕ) (before ks : List Token) (us : List Piece) : Type 0 where
   tokens : HasTokens m (put_all (length name) fresh ps line) (before ++ map (shift (length name) (length fresh) ps) ks)
   mode : line_mode line ≡ line_mode (put_all (length name) fresh ps line)
