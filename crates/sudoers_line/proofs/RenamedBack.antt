@@ -1,27 +1,17 @@
--- The old name given back at the places where the new one stands.
-use Rattle.std.proofs.Common.{◌≡◌, ◌⊎◌, inl, inr, false, ℕ, ◌+◌, ◌-◌, ◌≤◌, ◌<◌, List, [], ◌∷◌, ◌++◌, map, length, take, drop, refl, sym, ap, ap₂, subst, ◌∙◌, arith, append_assoc}
-use Rattle.std.specs.Prelude.{slice_range, codes}
+-- The old name given back where the new one stands.
+use Rattle.std.proofs.Common.{◌≡◌, inl, inr, ℕ, ◌+◌, ◌-◌, ◌≤◌, ◌<◌, List, [], ◌∷◌, ◌++◌, map, length, take, drop, refl, sym, ap, ap₂, subst, ◌∙◌, arith, append_assoc}
 use Rattle.std.specs.List.{AllByRecursion}
 use Rattle.std.proofs.lemmas.List.{length-take-le, length-take, take_at, drop_at, drop-take, drop-drop, drop-append-le, length-append, length-drop}
 use Rattle.std.proofs.Math.Seq.{drop-append-add, take-append-add}
-use Rattle.sudoers_text.specs.declared.token.Token.{Token}
-use Rattle.sudoers_text.specs.Ascend.{TokensAscend}
-use Rattle.sudoers_text.specs.LineMode.{line_mode}
 use Rattle.sudoers_text.specs.Renamed.{moved_offset}
 use Rattle.sudoers_line.specs.Node.{Node}
-use Rattle.sudoers_line.specs.Piece.{Piece, piece, pieces}
 use Rattle.sudoers_line.specs.Line.{ReadsLine}
-use Rattle.sudoers_line.specs.Renamed.{NamedAlias, renamed_node, renamed_alias, renaming_of, node_starts, put_all, shifted, renamed_text}
+use Rattle.sudoers_line.specs.Renamed.{NamedAlias, StandsAt, renamed_node, renamed_alias, renaming_of, node_starts, put_all, shifted, renamed_text}
 use Rattle.sudoers_line.proofs.RenamedAgain.{Moves, all_move, node_again}
-use Rattle.sudoers_line.proofs.RenamedNodes.{reads_renamed}
-use Rattle.sudoers_line.proofs.RenamedPieces.{Change, Renames, done, keep, swap}
-use Rattle.sudoers_line.proofs.RenamedStarts.{Apart, apart_less, apart_le, piece_parts, name_place, ascend_le, places_apart, shifted_below, shifted_above}
-use Rattle.sudoers_line.proofs.RenamedText.{AscendLaw, put_front, OnePlace, whole, slice_front}
-
--- The name stands at each of these places.
-abbrev pub StandAt : List ℕ → List ℕ → List ℕ → Type 0
-StandAt line name [] = Unit {0}
-StandAt line name (p ∷ ps) = (slice_range line p (p + length name) ≡ name) × StandAt line name ps
+use Rattle.sudoers_line.proofs.RenamedStarts.{Apart, apart_less, apart_le, shifted_below, shifted_above}
+use Rattle.sudoers_line.proofs.NamesStand.{Stands, stands}
+use Rattle.sudoers_line.proofs.Ascending.{AscendLaw}
+use Rattle.sudoers_line.proofs.RenamedText.{put_front, OnePlace, whole, slice_front}
 
 -- Behind another front the same is put at the places behind it.
 put_behind : (size : ℕ) (word a b line : List ℕ) (qs : List ℕ) → Apart size (length a) (length (a ++ line)) qs
@@ -108,7 +98,7 @@ shifts_apart name fresh line from (p ∷ ps) some a =
 
 -- The old name at the new places gives the old line.
 pub put_back : (name fresh line : List ℕ) (from : ℕ) (ps : List ℕ) → 0 < length name → Apart (length name) from (length line) ps
-    → StandAt line name ps
+    → AllByRecursion (StandsAt line name) ps
     → put_all (length fresh) name (map (shifted (length name) (length fresh) ps) ps) (put_all (length name) fresh ps line) ≡ line
 put_back name fresh line from [] some a is = refl
 put_back name fresh line from (p ∷ ps) some a is =
@@ -150,56 +140,6 @@ put_back name fresh line from (p ∷ ps) some a is =
     (drop_at (front ++ fresh) tail (p + F) new_size)
     ∙ ap (λ (t : List ℕ). t ++ (name ++ tail)) agree_front
     ∙ sym whole_line
-
--- The name stands at its places.
-places_stand : (c : Change) (line : List ℕ) (ts us : List Piece) (ps : List ℕ) → Renames c ps ts [] us [] → (from : ℕ) (ks : List Token)
-    → ts ≡ pieces line ks → TokensAscend from (length line) ks → StandAt line c.old.name ps
-places_stand c line ts us ps (done rest left) from ks e a = tt
-places_stand c line ts us ps (keep places t tts rest uus left r) from [] e a = absurd (cc)
-places_stand c line ts us ps (keep places t tts rest uus left r) from (k ∷ ks) e a =
-    places_stand c line tts uus ps r k.stop ks (piece_parts t (piece line k) tts (pieces line ks) e).1 a.2
-places_stand c line ts us ps (swap place places t tts rest uus left w n q r) from [] e a = absurd (cc)
-places_stand c line ts us ps (swap place places t tts rest uus left w n q r) from (k ∷ ks) e a =
-    let parts = piece_parts t (piece line k) tts (pieces line ks) e in
-    let at = name_place c line k t place a.1 (ascend_le k.stop (length line) ks a.2) parts.0 n q in
-    let ends : place + length c.old.name ≡ k.stop = omega (arith, at.0, at.1, a.1) in (
-      ap₂ (λ (x y : ℕ). slice_range line x y) at.0 ends ∙ sym (ap (λ (u : Piece). u.text) parts.0)
-          ∙ n,
-      places_stand c line tts uus places r k.stop ks parts.1 a.2,
-    )
-
--- A name that stands somewhere is not empty.
-some_or_none : (c : Change) (line : List ℕ) (ts us : List Piece) (ps : List ℕ) → Renames c ps ts [] us [] → (from : ℕ) (ks : List Token)
-    → ts ≡ pieces line ks → TokensAscend from (length line) ks → (ps ≡ []) ⊎ (0 < length c.old.name)
-some_or_none c line ts us ps (done rest left) from ks e a = inl refl
-some_or_none c line ts us ps (keep places t tts rest uus left r) from [] e a = absurd (cc)
-some_or_none c line ts us ps (keep places t tts rest uus left r) from (k ∷ ks) e a =
-    some_or_none c line tts uus ps r k.stop ks (piece_parts t (piece line k) tts (pieces line ks) e).1 a.2
-some_or_none c line ts us ps (swap place places t tts rest uus left w n q r) from [] e a = absurd (cc)
-some_or_none c line ts us ps (swap place places t tts rest uus left w n q r) from (k ∷ ks) e a =
-    let parts = piece_parts t (piece line k) tts (pieces line ks) e in
-    let at = name_place c line k t place a.1 (ascend_le k.stop (length line) ks a.2) parts.0 n q in
-    inr (omega (arith, at.1, a.1))
-
--- A name stands in a line at these offsets, one behind another.
-record Stands (line name : List ℕ) (ps : List ℕ) : Type 0 where
-  apart : Apart (length name) 0 (length line) ps
-  stand : StandAt line name ps
-  some : (ps ≡ []) ⊎ (0 < length name)
-
--- An alias stands where the line says that it is named.
-stands : AscendLaw → (old : NamedAlias) (line : List ℕ) (n : Node) → ReadsLine line n → Stands line old.name (node_starts old n)
-stands ascend old line n is =
-    let c : Change = record { old = old; fresh = codes "A"; at = λ x. x; last = λ t. false } in
-    let ts = pieces line is.tokens in
-    let turned = reads_renamed c ts n (refl, refl) is.reads in
-    let ps = node_starts old n in
-    let a = ascend (line_mode line) line is.tokens is.has in
-    record {
-      apart = places_apart c line ts turned.0 ps turned.2 0 is.tokens refl a;
-      stand = places_stand c line ts turned.0 ps turned.2 0 is.tokens refl a;
-      some = some_or_none c line ts turned.0 ps turned.2 0 is.tokens refl a;
-    }
 
 -- The old name given back at the places where the new one stands gives the old line.
 pub reads_back : AscendLaw → (old : NamedAlias) (fresh line : List ℕ) (n : Node) → ReadsLine line n

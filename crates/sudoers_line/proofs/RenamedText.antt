@@ -18,34 +18,11 @@ use Rattle.sudoers_line.specs.Piece.{Piece, piece, pieces, ends_line}
 use Rattle.sudoers_line.specs.Grammar.{Reads}
 use Rattle.sudoers_line.specs.Line.{ReadsLine}
 use Rattle.sudoers_line.specs.Renamed.{NamedAlias, renamed_node, node_starts, put_all, shifted, renamed_text, renaming_of}
+use Rattle.sudoers_line.proofs.Ascending.{AscendLaw}
+use Rattle.sudoers_line.proofs.TextLaws.{SameLaw, ModeLaw, LogicalLaw, EndsLaw}
 use Rattle.sudoers_line.proofs.RenamedNodes.{reads_renamed}
 use Rattle.sudoers_line.proofs.RenamedPieces.{Change, renaming, moved_piece, renamed_piece, Renames, done, keep, swap, KeepsNext}
 use Rattle.sudoers_line.proofs.RenamedStarts.{Apart, apart_less, apart_le, piece_parts, name_place, ascend_le, places_apart, shifted_below, shifted_above}
-
--- ---- what sudoers_text says
-
-abbrev pub AscendLaw : Type 0
-AscendLaw = (mode : Mode) (line : List ℕ) (tokens : List Token) → HasTokens mode line tokens → TokensAscend 0 (length line) tokens
-
-abbrev pub SameLaw : Type 0
-SameLaw = (mode : Mode) (front word other rest : List ℕ) (before behind : List Token) → IsDefinableName word → IsDefinableName other
-    → HasTokens mode (front ++ (word ++ rest)) (before ++ name_token front word ∷ behind)
-    → HasTokens mode (front ++ (other ++ rest)) (before ++ name_token front other ∷ moved_tokens (length word) (length other) behind)
-
-abbrev pub ModeLaw : Type 0
-ModeLaw = (mode : Mode) (front word other rest : List ℕ) (before behind : List Token) → IsDefinableName word → IsDefinableName other
-    → HasTokens mode (front ++ (word ++ rest)) (before ++ name_token front word ∷ behind)
-    → line_mode (front ++ (word ++ rest)) ≡ line_mode (front ++ (other ++ rest))
-
-abbrev pub LogicalLaw : Type 0
-LogicalLaw = (mode : Mode) (front word other rest : List ℕ) (before behind : List Token) → IsDefinableName word → IsDefinableName other
-    → HasTokens mode (front ++ (word ++ rest)) (before ++ name_token front word ∷ behind)
-    → IsLogicalLine (front ++ (word ++ rest)) → IsLogicalLine (front ++ (other ++ rest))
-
-abbrev pub EndsLaw : Type 0
-EndsLaw =
-    (front word other rest : List ℕ) → IsDefinableName word → IsDefinableName other → ends_in_lf (front ++ (word ++ rest)) ≡ ends_in_lf
-    (front ++ (other ++ rest))
 
 -- ---- the text
 

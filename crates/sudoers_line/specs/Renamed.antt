@@ -1,5 +1,5 @@
 -- A line in which the name of an alias is replaced by another, and what it says.
-use Rattle.std.specs.Prelude.{ℕ, ◌+◌, ◌-◌, nat_lt, Bool, ◌&&◌, List, [], ◌∷◌, ◌++◌, take, drop, map, length, Option, Some, None, if◌then◌else◌}
+use Rattle.std.specs.Prelude.{◌≡◌, ℕ, ◌+◌, ◌-◌, nat_lt, Bool, ◌&&◌, List, [], ◌∷◌, ◌++◌, take, drop, slice_range, map, length, Option, Some, None, if◌then◌else◌}
 use Rattle.std.specs.List.{flat_map}
 use Rattle.std.specs.Str.{bytes_eq}
 use Rattle.sudoers_text.specs.Renamed.{moved_offset}
@@ -64,6 +64,10 @@ node_starts alias (node.Include dir path) = []
 node_starts alias (node.Defaults scope params) = scope_starts alias scope
 node_starts alias (node.Alias k defs) = flat_map (def_starts alias k) defs
 node_starts alias (node.Spec users groups) = starts_among alias User users ++ flat_map (group_starts alias) groups
+
+-- The name stands in the line at this offset.
+abbrev pub StandsAt : List ℕ → List ℕ → ℕ → Type 0
+StandsAt line name start = slice_range line start (start + length name) ≡ name
 
 -- ---- what is said with another name
 

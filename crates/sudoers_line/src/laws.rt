@@ -1,6 +1,7 @@
 //! Laws of lines, for the layers above. Each is the contract of a function that does nothing.
 
 ghost use Rattle.std.specs.Prelude.{◌≡◌, ℕ, List, [], map, length};
+ghost use Rattle.std.specs.List.{AllByRecursion};
 ghost use Rattle.sudoers_line.specs.declared.fault.Why.{Why as WhyOf};
 ghost use Rattle.sudoers_line.specs.Node.{Def as DefOf, Node as NodeOf};
 ghost use Rattle.sudoers_line.specs.declared.node.Kind.{Kind as KindOf};
@@ -8,11 +9,11 @@ ghost use Rattle.sudoers_line.specs.Node as node_of;
 ghost use Rattle.sudoers_text.specs.Word.{is_among, is_tag, is_option_name, digest_kinds as digest_words, include_words as words_of_includes};
 ghost use Rattle.sudoers_line.specs.Piece.{is_some, looked_up, option_names, tag_of_word, digest_kinds, include_words};
 ghost use Rattle.sudoers_line.specs.Line.{ReadsLine, IsFault};
-ghost use Rattle.sudoers_line.specs.Ascend.{DefsAscend};
+ghost use Rattle.sudoers_line.specs.Ascend.{DefsAscend, NamesAscend};
 ghost use Rattle.sudoers_text.specs.Ended.{ends_in_lf};
 ghost use Rattle.sudoers_text.specs.Whole.{IsLogicalLine};
 ghost use Rattle.sudoers_text.specs.Renamed.{IsDefinableName};
-ghost use Rattle.sudoers_line.specs.Renamed.{NamedAlias as AliasOf, renamed_alias, renamed_node, node_starts, renamed_text, renaming_of, put_all, shifted};
+ghost use Rattle.sudoers_line.specs.Renamed.{NamedAlias as AliasOf, StandsAt, renamed_alias, renamed_node, node_starts, renamed_text, renaming_of, put_all, shifted};
 
 use sudoers_text::laws::{one_token_list, renamed_tokens, tokens_ascend};
 
@@ -43,6 +44,16 @@ pub fn words_agree()
 pub fn definitions_ascend()
     ensures { (line : List ℕ) (kind : KindOf) (defs : List DefOf) → ReadsLine line (node_of.Alias kind defs)
         → DefsAscend 0 (length line) defs }
+{
+    tokens_ascend();
+}
+
+/// Where a line says that an alias is named, the name stands in it; and the names stand one behind another.
+pub fn names_stand()
+    ensures stands { (alias : AliasOf) (line : List ℕ) (node : NodeOf) → ReadsLine line node
+        → AllByRecursion (StandsAt line alias.name) (node_starts alias node) }
+    ensures ascend { (alias : AliasOf) (line : List ℕ) (node : NodeOf) → ReadsLine line node
+        → NamesAscend (length alias.name) 0 (length line) (node_starts alias node) }
 {
     tokens_ascend();
 }
