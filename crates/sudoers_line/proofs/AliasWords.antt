@@ -149,8 +149,8 @@ host_alias kind.Word text w e = (refl, by_escape (has_byte 92 text) e)
         let netgroup = option_map atom.Netgroup (filled (drop 1 text)) in
         let plain = plain_host text (address_number text) in
         by_name (bytes_eq text (codes "ALL")) (is_name text) text w (if begins_with 43 text then netgroup else plain)
-        (other_if (begins_with 43 text) netgroup plain (other_map atom.Netgroup (λ x. refl) (filled (drop 1 text))) (plain_other text (address_number text)))
-        e
+        (other_if (begins_with 43 text) netgroup plain (other_map atom.Netgroup (λ x. refl) (filled (drop 1 text)))
+        (plain_other text (address_number text))) e
 host_alias kind.Quoted text w e =
     absurd (none_alias (option_map atom.Host (filled (pattern_of QuotedHost text))) w
     (other_map atom.Host (λ x. refl) (filled (pattern_of QuotedHost text))) e)

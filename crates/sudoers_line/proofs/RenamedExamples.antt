@@ -153,4 +153,4 @@ shells = record { name = codes "SH"; kinds = is_command_kind }
 pub renamed : ReadsLine (codes "bob SH = SHELLS" ++ 10 ∷ []) (said (codes "SHELLS") 15)
 renamed =
     let old = said (codes "SH") 11 in
-    (reads_line tokens_ascend renamed_tokens renamed_mode renamed_line renamed_end shells (codes "SHELLS") line old (refl, refl) (refl, refl) reads).0
+    reads_line tokens_ascend renamed_tokens renamed_mode renamed_line renamed_end shells (codes "SHELLS") line old (refl, refl) (refl, refl) reads

@@ -334,8 +334,16 @@ change_of old fresh n line = record {
 
 module _ (ascend : AscendLaw) (same : SameLaw) (modes : ModeLaw) (logical : LogicalLaw) (endings : EndsLaw) (old : NamedAlias)
     (fresh line : List ℕ) (n : Node) (named : IsDefinableName old.name) (free : IsDefinableName fresh) (is : ReadsLine line n) where
+  -- what the line's tokens become
+  all : Swaps (line_mode line) line old.name fresh (node_starts old n) [] is.tokens
+      (reads_renamed (change_of old fresh n line) (pieces line is.tokens) n free is.reads).0
+  all =
+      let c = change_of old fresh n line in
+      let turned = reads_renamed c (pieces line is.tokens) n free is.reads in
+      swaps ascend same modes logical endings c named free (line_mode line) line (pieces line is.tokens) turned.0 (node_starts old n) turned.2 []
+      is.tokens refl 0 (ascend (line_mode line) line is.tokens is.has) is.has
+
   pub reads_line : ReadsLine (renamed_text old fresh n line) (renamed_node (renaming_of old fresh n) n)
-      × (IsLogicalLine line → IsLogicalLine (renamed_text old fresh n line)) × (ends_in_lf line ≡ ends_in_lf (renamed_text old fresh n line))
   reads_line =
       let c = change_of old fresh n line in
       let ts = pieces line is.tokens in
@@ -343,15 +351,16 @@ module _ (ascend : AscendLaw) (same : SameLaw) (modes : ModeLaw) (logical : Logi
       let ps = node_starts old n in
       let N = length old.name in
       let F = length fresh in
-      let a = ascend (line_mode line) line is.tokens is.has in
-      let all = swaps ascend same modes logical endings c named free (line_mode line) line ts turned.0 ps turned.2 [] is.tokens refl 0 a is.has in
       let us = pieces_are c line (renamed_text old fresh n line) N F ps (λ x. refl) (λ t. refl) ts turned.0 ps turned.2 is.tokens refl all.texts in
-      let keeps = keeps_next c line F ts turned.0 ps named (λ x. refl) turned.2 is.tokens refl a in (
-        record {
-          tokens = map (shift N F ps) is.tokens;
-          has = subst (λ (m : Mode). HasTokens m (renamed_text old fresh n line) (map (shift N F ps) is.tokens)) all.mode all.tokens;
-          reads = subst (λ (x : List Piece). Reads x (renamed_node (renaming c) n)) us (turned.1 keeps);
-        },
-        all.logical,
-        all.ends,
-      )
+      let keeps = keeps_next c line F ts turned.0 ps named (λ x. refl) turned.2 is.tokens refl (ascend (line_mode line) line is.tokens is.has) in
+      record {
+        tokens = map (shift N F ps) is.tokens;
+        has = subst (λ (m : Mode). HasTokens m (renamed_text old fresh n line) (map (shift N F ps) is.tokens)) all.mode all.tokens;
+        reads = subst (λ (x : List Piece). Reads x (renamed_node (renaming c) n)) us (turned.1 keeps);
+      }
+
+  pub stays_logical : IsLogicalLine line → IsLogicalLine (renamed_text old fresh n line)
+  stays_logical = all.logical
+
+  pub ends_same : ends_in_lf line ≡ ends_in_lf (renamed_text old fresh n line)
+  ends_same = all.ends

@@ -23,40 +23,48 @@ pub record Renaming : Type 0 where
 
 -- ---- where the name stands
 
--- Each function gives the offsets at which the alias is named in a part of what a line says, in their order.
+-- Each function gives the offsets at which an alias is named in a part of what a line says, in their order.
 
 -- in an atom that ends at this offset; meant: the name means the alias here
 abbrev pub atom_starts : NamedAlias → Bool → ℕ → Atom → List ℕ
 atom_starts alias meant stop (atom.Alias word) = if meant && bytes_eq alias.name word then (stop - length alias.name) ∷ [] else []
 atom_starts alias meant stop a = []
 
+-- in a member of a list of this kind
 abbrev pub member_starts : NamedAlias → Kind → Member → List ℕ
 member_starts alias k m = atom_starts alias (alias.kinds k) m.stop m.atom
 
+-- in the members of such a list
 abbrev pub starts_among : NamedAlias → Kind → List Member → List ℕ
 starts_among alias k ms = flat_map (member_starts alias k) ms
 
--- the name that is defined, and the members
+-- in a definition of an alias of this kind: as its name, and in its members
 abbrev pub def_starts : NamedAlias → Kind → Def → List ℕ
 def_starts alias k d = (if alias.kinds k && bytes_eq alias.name d.name then d.start ∷ [] else []) ++ starts_among alias k d.members
 
+-- in the users and groups before a command
 abbrev pub runas_starts : NamedAlias → RunasSpec → List ℕ
 runas_starts alias r = starts_among alias Runas r.users ++ starts_among alias Runas r.groups
 
+-- in these, where some stand there
 abbrev pub runas_option_starts : NamedAlias → Option RunasSpec → List ℕ
 runas_option_starts alias None = []
 runas_option_starts alias (Some r) = runas_starts alias r
 
+-- in a command, with what stands before it
 abbrev pub command_starts : NamedAlias → CmdSpec → List ℕ
 command_starts alias s = runas_option_starts alias s.runas ++ member_starts alias Cmnd s.member
 
+-- in hosts and the commands on them
 abbrev pub group_starts : NamedAlias → HostGroup → List ℕ
 group_starts alias g = starts_among alias Host g.hosts ++ flat_map (command_starts alias) g.commands
 
+-- in what a Defaults line is for
 abbrev pub scope_starts : NamedAlias → Option Scope → List ℕ
 scope_starts alias None = []
 scope_starts alias (Some s) = starts_among alias s.kind s.members
 
+-- in what a line says
 abbrev pub node_starts : NamedAlias → Node → List ℕ
 node_starts alias node.Blank = []
 node_starts alias node.Comment = []
@@ -71,13 +79,14 @@ StandsAt line name start = slice_range line start (start + length name) ≡ name
 
 -- ---- what is said with another name
 
--- Each function gives a part of what a line says with the other name in place of the old one, where the old one means the alias.
+-- Each function gives a part of what a line says, with the other name wherever the old one means the alias.
 
 -- an atom; meant: the name means the alias here
 abbrev pub renamed_atom : Renaming → Bool → Atom → Atom
 renamed_atom r meant (atom.Alias word) = atom.Alias (if meant && bytes_eq r.old.name word then r.fresh else word)
 renamed_atom r meant a = a
 
+-- a member of a list of this kind
 abbrev pub renamed_member : Renaming → Kind → Member → Member
 renamed_member r k m = record {
   start = r.at m.start;
@@ -87,9 +96,11 @@ renamed_member r k m = record {
   atom = renamed_atom r (r.old.kinds k) m.atom;
 }
 
+-- the members of such a list
 abbrev pub renamed_members : Renaming → Kind → List Member → List Member
 renamed_members r k ms = map (renamed_member r k) ms
 
+-- a definition of an alias of this kind
 abbrev pub renamed_def : Renaming → Kind → Def → Def
 renamed_def r k d = record {
   name = if r.old.kinds k && bytes_eq r.old.name d.name then r.fresh else d.name;
@@ -98,13 +109,16 @@ renamed_def r k d = record {
   members = renamed_members r k d.members;
 }
 
+-- the users and groups before a command
 abbrev pub renamed_runas : Renaming → RunasSpec → RunasSpec
 renamed_runas r s = record { users = renamed_members r Runas s.users; groups = renamed_members r Runas s.groups }
 
+-- these, where some stand there
 abbrev pub renamed_runas_option : Renaming → Option RunasSpec → Option RunasSpec
 renamed_runas_option r None = None
 renamed_runas_option r (Some s) = Some (renamed_runas r s)
 
+-- a command, with what stands before it
 abbrev pub renamed_command : Renaming → CmdSpec → CmdSpec
 renamed_command r s = record {
   runas = renamed_runas_option r s.runas;
@@ -113,13 +127,16 @@ renamed_command r s = record {
   member = renamed_member r Cmnd s.member;
 }
 
+-- hosts and the commands on them
 abbrev pub renamed_group : Renaming → HostGroup → HostGroup
 renamed_group r g = record { hosts = renamed_members r Host g.hosts; commands = map (renamed_command r) g.commands }
 
+-- what a Defaults line is for
 abbrev pub renamed_scope : Renaming → Option Scope → Option Scope
 renamed_scope r None = None
 renamed_scope r (Some s) = Some (record { kind = s.kind; members = renamed_members r s.kind s.members })
 
+-- what a line says
 abbrev pub renamed_node : Renaming → Node → Node
 renamed_node r node.Blank = node.Blank
 renamed_node r node.Comment = node.Comment

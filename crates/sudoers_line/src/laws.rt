@@ -59,13 +59,15 @@ pub fn names_stand()
 }
 
 /// A line that says something, with another name at each place where an alias is named, says the same with that name. It is one logical
-/// line if it was, and ends in LF if it did. The old name, given back at these places, gives the old line. If the new name was not there
-/// before, it stands at these places alone, so the same change from the new name to the old one undoes the first.
+/// line if it was, and ends in LF if it did. The old name, given back at these places, gives the old line. If the line did not name it
+/// before, the new name stands at these places alone. So a rename back gives the old line.
 pub fn renamed_line()
     ensures same { (alias : AliasOf) (fresh line : List ℕ) (node : NodeOf) → IsDefinableName alias.name → IsDefinableName fresh → ReadsLine line node
-        → ReadsLine (renamed_text alias fresh node line) (renamed_node (renaming_of alias fresh node) node)
-        × (IsLogicalLine line → IsLogicalLine (renamed_text alias fresh node line))
-        × (ends_in_lf line ≡ ends_in_lf (renamed_text alias fresh node line)) }
+        → ReadsLine (renamed_text alias fresh node line) (renamed_node (renaming_of alias fresh node) node) }
+    ensures line { (alias : AliasOf) (fresh line : List ℕ) (node : NodeOf) → IsDefinableName alias.name → IsDefinableName fresh → ReadsLine line node
+        → IsLogicalLine line → IsLogicalLine (renamed_text alias fresh node line) }
+    ensures ends { (alias : AliasOf) (fresh line : List ℕ) (node : NodeOf) → IsDefinableName alias.name → IsDefinableName fresh → ReadsLine line node
+        → ends_in_lf line ≡ ends_in_lf (renamed_text alias fresh node line) }
     ensures back { (alias : AliasOf) (fresh line : List ℕ) (node : NodeOf) → ReadsLine line node
         → put_all (length fresh) alias.name
         (map (shifted (length alias.name) (length fresh) (node_starts alias node)) (node_starts alias node))

@@ -145,8 +145,8 @@ pub fn tokens_ascend()
     ensures { (mode : ModeOf) (line : List ℕ) (tokens : List TokenOf) → HasTokens mode line tokens → TokensAscend 0 (length line) tokens }
 {}
 
-/// Where a name that may define an alias is replaced by another, a line keeps what it was but for that name: its tokens, those behind the
-/// name moved; its mode; that it is one logical line, limits aside; and that it ends in LF.
+/// A name in a line is replaced by another, and an alias may be defined by each. The tokens of the line are the same but for that one;
+/// those behind it are moved. The line has the same mode. It is one logical line if it was, limits aside, and ends in LF if it did.
 pub fn renamed_tokens()
     ensures same { (mode : ModeOf) (front word other rest : List ℕ) (before behind : List TokenOf) → IsDefinableName word → IsDefinableName other
         → HasTokens mode (front ++ (word ++ rest)) (before ++ name_token front word ∷ behind)
