@@ -1,6 +1,6 @@
 -- A line in which a name means a host and a command, and as a command it is replaced by another.
 use Rattle.std.proofs.Common.{◌≡◌, ℕ, Bool, true, false, List, [], ◌∷◌, ◌++◌, refl, sym, subst, Some, None}
-use Rattle.std.specs.Prelude.{codes}
+use Rattle.std.specs.Prelude.{codes, slice_range}
 use Rattle.sudoers_text.specs.declared.token.Token.{Token}
 use Rattle.sudoers_text.specs.declared.token.Mode.{Mode}
 use Rattle.sudoers_text.specs.declared.token.Mode.TheVariants.{Commands}
@@ -28,8 +28,10 @@ use Rattle.sudoers_line.specs.Number.{address_number}
 use Rattle.sudoers_line.specs.Piece.{Piece, piece, pieces, is_mark, is_the_word, kind_word, include_word}
 use Rattle.sudoers_line.specs.Grammar.{IsMember, IsCommand, Says}
 use Rattle.sudoers_line.specs.Line.{ReadsLine}
-use Rattle.sudoers_line.specs.Renamed.{NamedAlias}
+use Rattle.sudoers_line.specs.Renamed.{NamedAlias, renamed_alias, renamed_text}
+use Rattle.sudoers_line.proofs.NamesStand.{names_stand}
 use Rattle.sudoers_line.proofs.RenamedText.{reads_line}
+use Rattle.sudoers_line.proofs.RenamedBack.{renamed_back}
 
 abbrev line : List ℕ
 line = codes "bob SH = SH" ++ 10 ∷ []
@@ -149,8 +151,18 @@ is_command_kind k = false
 abbrev shells : NamedAlias
 shells = record { name = codes "SH"; kinds = is_command_kind }
 
+abbrev old : Node
+old = said (codes "SH") 11
+
+-- As a command the name stands at byte 9.
+stands : slice_range line 9 11 ≡ codes "SH"
+stands = (names_stand tokens_ascend shells line old reads).0
+
 -- The command has the new name, and the host has the old one.
-pub renamed : ReadsLine (codes "bob SH = SHELLS" ++ 10 ∷ []) (said (codes "SHELLS") 15)
+renamed : ReadsLine (codes "bob SH = SHELLS" ++ 10 ∷ []) (said (codes "SHELLS") 15)
 renamed =
-    let old = said (codes "SH") 11 in
     reads_line tokens_ascend renamed_tokens renamed_mode renamed_line renamed_end shells (codes "SHELLS") line old (refl, refl) (refl, refl) reads
+
+-- The old name given back gives the old line.
+given_back : renamed_text (renamed_alias shells (codes "SHELLS")) (codes "SH") (said (codes "SHELLS") 15) (codes "bob SH = SHELLS" ++ 10 ∷ []) ≡ line
+given_back = renamed_back tokens_ascend shells (codes "SHELLS") line old reads refl
