@@ -1,9 +1,8 @@
 -- Which tokens are aliases as members of lists.
-use Rattle.std.proofs.Common.{◌≡◌, inl, inr, ℕ, Bool, true, false, ◌&&◌, ◌||◌, not, List, [], ◌∷◌, drop, refl, sym, ap, subst, ◌∙◌, Option, Some, None}
+use Rattle.std.proofs.Common.{◌≡◌, ℕ, Bool, true, false, ◌&&◌, ◌||◌, not, List, [], ◌∷◌, drop, refl, sym, ap, ◌∙◌, Option, Some, None}
 use Rattle.std.specs.Prelude.{◌==◌, if◌then◌else◌, option_map, option_and_then, codes}
 use Rattle.std.specs.Str.{bytes_eq}
 use Rattle.std.specs.List.{list_all}
-use Rattle.std.proofs.lemmas.Bool.Decides.{eqb_tells}
 use Rattle.std.proofs.lemmas.Slice.Eq.{bytes_eq-Decides}
 use Rattle.sudoers_text.specs.declared.token.TokenKind.{TokenKind}
 use Rattle.sudoers_text.specs.declared.token.TokenKind.TheVariants as kind
@@ -11,6 +10,8 @@ use Rattle.sudoers_text.specs.Part.{is_upper}
 use Rattle.sudoers_text.specs.Word.{is_name, is_alias_byte, is_reserved, is_tag, is_option_name}
 use Rattle.sudoers_text.specs.Value.{value_of}
 use Rattle.sudoers_text.specs.Renamed.{IsDefinableName}
+use Rattle.sudoers_text.proofs.Units.{and_parts}
+use Rattle.sudoers_text.proofs.Ahead.{differs}
 use Rattle.sudoers_line.specs.declared.node.Kind.{Kind}
 use Rattle.sudoers_line.specs.declared.node.Kind.TheVariants.{User, Runas, Host, Cmnd}
 use Rattle.sudoers_line.specs.declared.node.Args.TheVariants.{Any}
@@ -208,13 +209,6 @@ alias_word Cmnd t w e = command_is_alias t.kind t.text w e
 
 -- ---- names
 
-differs : (test : ℕ → Bool) (a b : ℕ) → test b ≡ true → test a ≡ false → (b == a) ≡ false
-differs test a b h none =
-    elim (eqb_tells b a) [
-      | inl w ↦ let same : test a ≡ true = subst (λ (x : ℕ). test x ≡ true) w.1 h in absurd (cc)
-      | inr w ↦ w.0
-    ]
-
 -- A name is not a word that is no name.
 pub other_word : (w word : List ℕ) → is_name w ≡ true → is_name word ≡ false → bytes_eq w word ≡ false
 other_word w word is isnt = by_test (bytes_eq w word) refl
@@ -232,14 +226,10 @@ no_escape (b ∷ w) h = by_test (is_alias_byte b) refl h (λ l. no_escape w l)
     by_test true e h later = ap (λ (t : Bool). t || has_byte 92 w) (differs is_alias_byte 92 b e refl) ∙ later h
     by_test false e h later = absurd (cc)
 
-and_both : (a b : Bool) → (a && b) ≡ true → (a ≡ true) × (b ≡ true)
-and_both true b h = (refl, h)
-and_both false b h = absurd (cc)
-
 no_escape_name : (w : List ℕ) → is_name w ≡ true → has_byte 92 w ≡ false
 no_escape_name [] h = refl
 no_escape_name (b ∷ w) h =
-    let parts = and_both (is_upper b) (list_all is_alias_byte w) h in
+    let parts = and_parts (is_upper b) (list_all is_alias_byte w) h in
     ap (λ (t : Bool). t || has_byte 92 w) (differs is_upper 92 b parts.0 refl) ∙ no_escape w parts.1
 
 or_first : (a b : Bool) → (a || b) ≡ false → a ≡ false

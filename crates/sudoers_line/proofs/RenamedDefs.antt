@@ -8,6 +8,7 @@ use Rattle.sudoers_text.specs.declared.token.TokenKind.{TokenKind}
 use Rattle.sudoers_text.specs.declared.token.TokenKind.TheVariants as kind
 use Rattle.sudoers_text.specs.Word.{is_name}
 use Rattle.sudoers_text.specs.Renamed.{IsDefinableName}
+use Rattle.sudoers_text.proofs.Units.{and_parts}
 use Rattle.sudoers_line.specs.declared.node.Kind.{Kind}
 use Rattle.sudoers_line.specs.declared.node.Kind.TheVariants.{User, Runas, Host, Cmnd}
 use Rattle.sudoers_line.specs.Piece.{Piece, is_word, is_alias_name, kind_word}
@@ -54,10 +55,6 @@ word_kind kind.Name e = absurd (cc)
 word_kind kind.Value e = absurd (cc)
 word_kind kind.Bad e = absurd (cc)
 
-and_both : (a b : Bool) → (a && b) ≡ true → (a ≡ true) × (b ≡ true)
-and_both true b h = (refl, h)
-and_both false b h = absurd (cc)
-
 -- the token of a name that is defined
 record NameTurned (c : Change) (b : Bool) (t : Piece) (name : List ℕ) : Type 0 where
   new : Piece
@@ -78,7 +75,7 @@ name_turns c false t name fresh is text named = record {
   renames = λ start e ps ts rest us left r. keep ps t ts rest us left r;
 }
 name_turns c true t name fresh is text named =
-    let word = and_both (is_word t.kind) (is_name t.text) is in
+    let word = and_parts (is_word t.kind) (is_name t.text) is in
     record {
       new = renamed_piece c t;
       start = refl;
@@ -93,7 +90,7 @@ def_turns c k fresh ts rest left d is =
     let b = c.old.kinds k && bytes_eq c.old.name d.name in
     let name =
     name_turns c b is.name d.name fresh is.is_name is.same_name
-    (λ e. (bytes_eq-Decides c.old.name d.name).0 (and_both (c.old.kinds k) (bytes_eq c.old.name d.name) e).1) in
+    (λ e. (bytes_eq-Decides c.old.name d.name).0 (and_parts (c.old.kinds k) (bytes_eq c.old.name d.name) e).1) in
     let us = name.new ∷ moved_piece c is.equals ∷ members.new in
     let ps = starts_among c.old k d.members in
     record {
