@@ -1,5 +1,5 @@
--- Members and definitions that stand one behind another.
-use Rattle.std.specs.Prelude.{ℕ, List}
+-- Members, definitions and names that stand one behind another.
+use Rattle.std.specs.Prelude.{ℕ, ◌+◌, List}
 use Rattle.std.specs.List.{AllByRecursion}
 use Rattle.sudoers_text.specs.Ascend.{Ascend}
 use Rattle.sudoers_line.specs.Node.{Def, Member}
@@ -16,3 +16,7 @@ HoldsMembers d = MembersAscend d.start d.stop d.members
 abbrev pub DefsAscend : ℕ → ℕ → List Def → Type 0
 DefsAscend from to defs =
     Ascend (λ (d : Def). d.start) (λ (d : Def). d.stop) from to defs × AllByRecursion HoldsMembers defs
+
+-- Names of so many bytes begin at these offsets, and stand one behind another between the two places.
+abbrev pub NamesAscend : ℕ → ℕ → ℕ → List ℕ → Type 0
+NamesAscend size = Ascend (λ (start : ℕ). start) (λ (start : ℕ). start + size)

@@ -11,3 +11,4 @@ pub mod Line
 pub mod Arguments
 pub mod Listed
 pub mod Ascend
+pub mod Renamed

@@ -1,6 +1,7 @@
 //! Laws of lines, for the layers above. Each is the contract of a function that does nothing.
 
-ghost use Rattle.std.specs.Prelude.{◌≡◌, ℕ, List, length};
+ghost use Rattle.std.specs.Prelude.{◌≡◌, ℕ, List, [], map, length};
+ghost use Rattle.std.specs.List.{AllByRecursion};
 ghost use Rattle.sudoers_line.specs.declared.fault.Why.{Why as WhyOf};
 ghost use Rattle.sudoers_line.specs.Node.{Def as DefOf, Node as NodeOf};
 ghost use Rattle.sudoers_line.specs.declared.node.Kind.{Kind as KindOf};
@@ -8,9 +9,13 @@ ghost use Rattle.sudoers_line.specs.Node as node_of;
 ghost use Rattle.sudoers_text.specs.Word.{is_among, is_tag, is_option_name, digest_kinds as digest_words, include_words as words_of_includes};
 ghost use Rattle.sudoers_line.specs.Piece.{is_some, looked_up, option_names, tag_of_word, digest_kinds, include_words};
 ghost use Rattle.sudoers_line.specs.Line.{ReadsLine, IsFault};
-ghost use Rattle.sudoers_line.specs.Ascend.{DefsAscend};
+ghost use Rattle.sudoers_line.specs.Ascend.{DefsAscend, NamesAscend};
+ghost use Rattle.sudoers_text.specs.Ended.{ends_in_lf};
+ghost use Rattle.sudoers_text.specs.Whole.{IsLogicalLine};
+ghost use Rattle.sudoers_text.specs.Renamed.{IsDefinableName};
+ghost use Rattle.sudoers_line.specs.Renamed.{NamedAlias as AliasOf, StandsAt, renamed_alias, renamed_node, node_starts, renamed_text, renaming_of, put_all, shifted};
 
-use sudoers_text::laws::{one_token_list, tokens_ascend};
+use sudoers_text::laws::{one_token_list, renamed_tokens, tokens_ascend};
 
 /// A line that says something has no fault.
 pub fn no_fault()
@@ -41,4 +46,39 @@ pub fn definitions_ascend()
         → DefsAscend 0 (length line) defs }
 {
     tokens_ascend();
+}
+
+/// Where a line says that an alias is named, the name stands in it; and the names stand one behind another.
+pub fn names_stand()
+    ensures stands { (alias : AliasOf) (line : List ℕ) (node : NodeOf) → ReadsLine line node
+        → AllByRecursion (StandsAt line alias.name) (node_starts alias node) }
+    ensures ascend { (alias : AliasOf) (line : List ℕ) (node : NodeOf) → ReadsLine line node
+        → NamesAscend (length alias.name) 0 (length line) (node_starts alias node) }
+{
+    tokens_ascend();
+}
+
+/// A line that says something, with another name at each place where an alias is named, says the same with that name. It is one logical
+/// line if it was, and ends in LF if it did. The old name, given back at these places, gives the old line. If the line did not name it
+/// before, the new name stands at these places alone. So a rename back gives the old line.
+pub fn renamed_line()
+    ensures same { (alias : AliasOf) (fresh line : List ℕ) (node : NodeOf) → IsDefinableName alias.name → IsDefinableName fresh → ReadsLine line node
+        → ReadsLine (renamed_text alias fresh node line) (renamed_node (renaming_of alias fresh node) node) }
+    ensures line { (alias : AliasOf) (fresh line : List ℕ) (node : NodeOf) → IsDefinableName alias.name → IsDefinableName fresh → ReadsLine line node
+        → IsLogicalLine line → IsLogicalLine (renamed_text alias fresh node line) }
+    ensures ends { (alias : AliasOf) (fresh line : List ℕ) (node : NodeOf) → IsDefinableName alias.name → IsDefinableName fresh → ReadsLine line node
+        → ends_in_lf line ≡ ends_in_lf (renamed_text alias fresh node line) }
+    ensures back { (alias : AliasOf) (fresh line : List ℕ) (node : NodeOf) → ReadsLine line node
+        → put_all (length fresh) alias.name
+        (map (shifted (length alias.name) (length fresh) (node_starts alias node)) (node_starts alias node))
+        (renamed_text alias fresh node line) ≡ line }
+    ensures starts { (alias : AliasOf) (fresh line : List ℕ) (node : NodeOf) → ReadsLine line node → node_starts (renamed_alias alias fresh) node ≡ []
+        → node_starts (renamed_alias alias fresh) (renamed_node (renaming_of alias fresh node) node)
+        ≡ map (shifted (length alias.name) (length fresh) (node_starts alias node)) (node_starts alias node) }
+    ensures undone { (alias : AliasOf) (fresh line : List ℕ) (node : NodeOf) → ReadsLine line node → node_starts (renamed_alias alias fresh) node ≡ []
+        → renamed_text (renamed_alias alias fresh) alias.name (renamed_node (renaming_of alias fresh node) node)
+        (renamed_text alias fresh node line) ≡ line }
+{
+    tokens_ascend();
+    renamed_tokens();
 }

@@ -24,7 +24,7 @@ and_left true b h = refl
 and_left false b h = h
 
 -- A unit that begins a text stands there.
-up_to_line_end-front : (xs : List ℕ) → (rest : List ℕ) × (xs ≡ up_to_line_end xs ++ rest)
+pub up_to_line_end-front : (xs : List ℕ) → (rest : List ℕ) × (xs ≡ up_to_line_end xs ++ rest)
 up_to_line_end-front [] = ([], refl)
 up_to_line_end-front (b ∷ xs) =
     let later = up_to_line_end-front xs in
@@ -42,7 +42,7 @@ pub by_cond : {A F : Type 0} (t : Bool) (x y z : A) → (if t then x else y) ≡
 by_cond true x y z h g k = g refl h
 by_cond false x y z h g k = k refl h
 
-quoted-front : (behind : Bool) (xs : List ℕ) → (rest : List ℕ) × (xs ≡ quoted_part behind xs ++ rest)
+pub quoted-front : (behind : Bool) (xs : List ℕ) → (rest : List ℕ) × (xs ≡ quoted_part behind xs ++ rest)
 quoted-front behind [] = ([], refl)
 quoted-front true (b ∷ xs) =
     let later = quoted-front (b == 13 && begins_lf xs) xs in

@@ -11,7 +11,7 @@ use Rattle.sudoers_text.specs.Token.{bad_size}
 use Rattle.sudoers_text.specs.Found.{hash_number_size, colon_number_size, number_size, colon_word_size, group_size, comment_at, include_at, command_path_size, argument_size, tokens_from, tokens_of}
 use Rattle.sudoers_text.specs.Value.{value_of}
 
-abbrev token : TokenKind → ℕ → ℕ → Token
+abbrev pub token : TokenKind → ℕ → ℕ → Token
 token kind start stop = record { kind = kind; start = start; stop = stop }
 
 -- A number behind a command is a comment.

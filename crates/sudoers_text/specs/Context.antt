@@ -1,5 +1,5 @@
 -- What may stand at a place of a line, by the tokens before it.
-use Rattle.std.specs.Prelude.{ℕ, ◌==◌, ◌&&◌, ◌||◌, Bool, true, false, List, [], ◌∷◌, length, if◌then◌else◌, codes}
+use Rattle.std.specs.Prelude.{ℕ, ◌==◌, ◌&&◌, ◌||◌, Bool, true, false, List, [], ◌∷◌, if◌then◌else◌, codes}
 use Rattle.std.specs.Str.{bytes_eq}
 use Rattle.sudoers_text.specs.declared.part.Rule.TheVariants as rule
 use Rattle.sudoers_text.specs.declared.token.TokenKind.{TokenKind}

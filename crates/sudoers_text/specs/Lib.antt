@@ -14,4 +14,5 @@ pub mod LineMode
 pub mod Found
 pub mod Value
 pub mod Whole
+pub mod Renamed
 pub mod internal

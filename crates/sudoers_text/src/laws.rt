@@ -1,23 +1,24 @@
-//! Laws of logical lines, for the layers above. Each is the contract of a function that does nothing.
+//! Laws of logical lines and tokens, for the layers above. Each is the contract of a function that does nothing.
 
-ghost use Rattle.std.specs.Prelude.{◌≡◌, ℕ, List, length};
+ghost use Rattle.std.specs.Prelude.{◌≡◌, ◌≢◌, ◌<◌, ◌≤◌, ℕ, List, [], ◌∷◌, ◌++◌, length, Result, Ok, true, false};
+ghost use Rattle.std.specs.List.{AllByRecursion};
+ghost use Rattle.sudoers_text.specs.declared.context.Context.{Context as ContextOf};
+ghost use Rattle.sudoers_text.specs.declared.fault.TextFault.{TextFault as Fault};
 ghost use Rattle.sudoers_text.specs.declared.token.Mode.{Mode as ModeOf};
 ghost use Rattle.sudoers_text.specs.declared.token.Token.{Token as TokenOf};
 ghost use Rattle.sudoers_text.specs.declared.token.TokenKind.{TokenKind as Kind};
-ghost use Rattle.sudoers_text.specs.declared.context.Context.{Context as ContextOf};
 ghost use Rattle.sudoers_text.specs.Unit.{LineUnit};
-ghost use Rattle.sudoers_text.specs.Context.{forms};
-ghost use Rattle.sudoers_text.specs.Token.{IsToken, LongestOrNone, HasTokens};
-ghost use Rattle.sudoers_text.specs.Ascend.{TokensAscend};
-ghost use Rattle.sudoers_text.specs.Found.{tokens_of};
-ghost use Rattle.std.specs.Prelude.{◌≡◌, ◌≢◌, ◌<◌, ◌≤◌, ℕ, List, [], ◌∷◌, ◌++◌, length, Result, Ok, true, false};
-ghost use Rattle.std.specs.List.{AllByRecursion};
 ghost use Rattle.sudoers_text.specs.Line.{IsLine, IsOpen, Cuts, join};
 ghost use Rattle.sudoers_text.specs.Ended.{ends_in_lf, has_unended_inside};
 ghost use Rattle.sudoers_text.specs.Fault.{IsOutcome, text_limit, line_limit};
 ghost use Rattle.sudoers_text.specs.Cut.{cut_of, StandAlone};
 ghost use Rattle.sudoers_text.specs.Whole.{IsLogicalLine, is_logical_line};
-ghost use Rattle.sudoers_text.specs.declared.fault.TextFault.{TextFault as Fault};
+ghost use Rattle.sudoers_text.specs.Context.{forms};
+ghost use Rattle.sudoers_text.specs.Token.{IsToken, LongestOrNone, HasTokens};
+ghost use Rattle.sudoers_text.specs.Ascend.{TokensAscend};
+ghost use Rattle.sudoers_text.specs.Found.{tokens_of};
+ghost use Rattle.sudoers_text.specs.LineMode.{line_mode};
+ghost use Rattle.sudoers_text.specs.Renamed.{IsDefinableName, name_token, moved_tokens};
 
 /// A text has a list of logical lines.
 pub fn some_list()
@@ -142,4 +143,20 @@ pub fn longest_or_none()
 /// The tokens of a line stand one behind another in it, and none is empty.
 pub fn tokens_ascend()
     ensures { (mode : ModeOf) (line : List ℕ) (tokens : List TokenOf) → HasTokens mode line tokens → TokensAscend 0 (length line) tokens }
+{}
+
+/// A name in a line is replaced by another, and an alias may be defined by each. The tokens of the line are the same but for that one;
+/// those behind it are moved. The line has the same mode. It is one logical line if it was, limits aside, and ends in LF if it did.
+pub fn renamed_tokens()
+    ensures same { (mode : ModeOf) (front word other rest : List ℕ) (before behind : List TokenOf) → IsDefinableName word → IsDefinableName other
+        → HasTokens mode (front ++ (word ++ rest)) (before ++ name_token front word ∷ behind)
+        → HasTokens mode (front ++ (other ++ rest)) (before ++ name_token front other ∷ moved_tokens (length word) (length other) behind) }
+    ensures mode { (mode : ModeOf) (front word other rest : List ℕ) (before behind : List TokenOf) → IsDefinableName word → IsDefinableName other
+        → HasTokens mode (front ++ (word ++ rest)) (before ++ name_token front word ∷ behind)
+        → line_mode (front ++ (word ++ rest)) ≡ line_mode (front ++ (other ++ rest)) }
+    ensures line { (mode : ModeOf) (front word other rest : List ℕ) (before behind : List TokenOf) → IsDefinableName word → IsDefinableName other
+        → HasTokens mode (front ++ (word ++ rest)) (before ++ name_token front word ∷ behind)
+        → IsLogicalLine (front ++ (word ++ rest)) → IsLogicalLine (front ++ (other ++ rest)) }
+    ensures ends { (front word other rest : List ℕ) → IsDefinableName word → IsDefinableName other
+        → ends_in_lf (front ++ (word ++ rest)) ≡ ends_in_lf (front ++ (other ++ rest)) }
 {}
