@@ -6,8 +6,8 @@ ghost use Rattle.sudoers_tree.specs.Changed.{file_of, next_place, place_of, text
 
 use sudoers_line::Items;
 
-/// A change of the lines of a policy. `file` is the number of the file whose line it changes, from 0. `at` is the number of a line of that
-/// file before the change, from 0.
+/// A change of the lines of a policy. `file` is the number of the file whose line it changes, and `at` the number of a line of that file
+/// before the change, both from 0.
 #[derive(Debug, Drop)]
 pub enum LineChange {
     /// Puts the line `text` before the line with the number `at`, or after the last line.
