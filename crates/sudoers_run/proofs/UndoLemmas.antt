@@ -1,5 +1,5 @@
 -- The edits that stand after some were taken back, and some of these made again.
-use Rattle.std.proofs.Common.{◌≡◌, ◌∙◌, ℕ, ◌+◌, ◌-◌, List, [], ◌∷◌, ◌++◌, length, min, take, refl, sym, ap, append_assoc, append-nil, length-append, arith}
+use Rattle.std.proofs.Common.{◌≡◌, ◌∙◌, ℕ, ◌+◌, ◌-◌, List, [], ◌∷◌, ◌++◌, length, min, take, refl, sym, ap, append_assoc, append-nil, length-append, add_comm, arith}
 use Rattle.std.proofs.lemmas.List.{map-append, length-map}
 use Rattle.std.proofs.Math.Seq.{take-append_seam}
 use Rattle.sudoers_edit_script.specs.declared.edit.Edit.{Edit}
@@ -46,7 +46,7 @@ pub redo_lengthens : (old new : Desk) → MakesAgain old new → length new.jour
 redo_lengthens old new made = ap length made.journal ∙ length-append old.journal _
 
 pub redo_leaves : (old new : Desk) → MakesAgain old new → length new.undone + 1 ≡ length old.undone
-redo_leaves old new made = sym (ap length made.undone)
+redo_leaves old new made = sym (ap length made.undone ∙ length-append (made.edit ∷ []) new.undone ∙ add_comm 1 (length new.undone))
 
 -- ALL OF THEM
 

@@ -8,6 +8,7 @@ use Rattle.sudoers_edit.specs.Redoing.{undone_behind}
 use Rattle.sudoers_run.specs.Program.{edited_output, output_of_edits, output_text, edits_that_stand, by_edit, ◌>>=◌, TellsLayer}
 use Rattle.sudoers_run.proofs.UndoLemmas.{all_edits, none_behind, stand, named_front}
 use Rattle.sudoers_run.proofs.program.edited.Goals as goal
+use Rattle.sudoers_run.proofs.program.edited.Goals.{In_ok-inverse}
 
 -- What is known of the editor once edits were taken back and made again.
 record IsReady (edits stood : List Edit) (lines : List (List ℕ)) (made redone : Desk) : Type 0 where
@@ -16,7 +17,7 @@ record IsReady (edits stood : List Edit) (lines : List (List ℕ)) (made redone 
   stands : edits_of redone.journal ≡ stood
   first : first_of redone ≡ lines
 
-ready : (c : goal.After-redo_up_to) → IsReady c.args.edits.now (edits_that_stand c.args.undo c.args.redo c.args.edits.now) (texts c.args.policy) c.apply_all.new.self c.redo_up_to.new.editor
+ready : (c : In_ok-inverse) → IsReady c.args.edits.now (edits_that_stand c.args.undo c.args.redo c.args.edits.now) (texts c.args.policy) c.apply_all.new.self c.redo_up_to.new.editor
 ready c =
     let edits : List Edit = c.args.edits.now in
     let lines : List (List ℕ) = texts c.args.policy in
@@ -39,4 +40,27 @@ ready c =
     }
 
 pub returns-clause-output : goal.returns-clause-output
-returns-clause-output c = ?
+returns-clause-output c =
+    let edits : List Edit = c.args.edits.now in
+    let lines : List (List ℕ) = texts c.args.policy in
+    let stood : List Edit = edits_that_stand c.args.undo c.args.redo edits in
+    let redone : Desk = c.redo_up_to.new.editor in
+    let now : List (List ℕ) = texts c.policy.result.now in
+    let r = ready (goal.at.returns-clause-output c).In_ok-inverse in
+    let inverse : c.in_ok-inverse.inverse ≡ inv_run stood lines =
+    c.in_ok-inverse.ensures.exact ∙ ap (λ es. inv_run es (first_of redone)) r.stands ∙ ap (inv_run stood) r.first in
+    let run : run_all 0 stood lines ≡ Ok now =
+    sym (ap (λ es. run_all 0 es (first_of redone)) r.stands ∙ ap (run_all 0 stood) r.first) ∙ c.policy.ensures.accepted in
+    let same : output_text c.in_ok-inverse.inverse now ≡ edited_output c.args.undo c.args.redo edits lines =
+    ap (λ es. output_text es now) inverse
+    ∙ sym (ap (λ r. by_edit r >>= output_text (inv_run stood lines)) run)
+    ∙ sym (ap (λ r. by_edit r >>= (λ _. output_of_edits stood lines)) r.accepted) in
+    subst (λ (z : Result (List ℕ) LayerFault). MatchResult c.output.result (λ out. z ≡ Ok out.items) (λ fault. TellsLayer fault z)) same c.output.ensures.output
+
+pub output-requires : goal.output-requires
+output-requires c =
+    let edits : List Edit = c.args.edits.now in
+    let stood : List Edit = edits_of c.redo_up_to.new.editor.journal in
+    let named : AreNamed stood =
+    named_front stood c.redo_up_to.new.editor.undone (subst AreNamed (sym (ready (goal.at.output-requires c).In_ok-inverse).whole) c.requires) in
+    subst AreNamed (sym c.in_ok-inverse.ensures.exact) (c.named_are_written.ensures.back stood (first_of c.redo_up_to.new.editor) named)
