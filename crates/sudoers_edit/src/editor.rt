@@ -137,11 +137,11 @@ impl Editor {
         // What stands still leads back to the same lines.
         ensures begun { first_of self.new ≡ first_of self.old }
     {
-        let Some(entry) = self.journal.last() else {
+        let Some(last) = self.journal.last() else {
             return Ok(false);
         };
         self.undone.reserve(1)?;
-        make_all(&mut self.policy, entry.inverse.as_slice())?;
+        make_all(&mut self.policy, last.inverse.as_slice())?;
         let entry = self.journal.pop().unwrap();
         self.undone.push(entry.edit).unwrap();
         Ok(true)
@@ -165,11 +165,11 @@ impl Editor {
         // What stands still leads back to the same lines.
         ensures begun { first_of self.new ≡ first_of self.old }
     {
-        let Some(edit) = self.undone.last() else {
+        let Some(undone) = self.undone.last() else {
             return Ok(false);
         };
         self.journal.reserve(1)?;
-        let inverse = make(&mut self.policy, edit)?;
+        let inverse = make(&mut self.policy, undone)?;
         let edit = self.undone.pop().unwrap();
         self.journal.push(Entry { edit, inverse }).unwrap();
         Ok(true)

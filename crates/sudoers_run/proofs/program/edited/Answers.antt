@@ -35,7 +35,7 @@ ready c =
       accepted = ap (run_all 0 edits) (sym c.new-editor.ensures.lines) ∙ c.in_ok-apply_all.ensures.accepted;
       whole = c.in_ok-redo_up_to.ensures.edits ∙ c.in_ok-undo_up_to.ensures.edits ∙ are;
       stands = stand c.args.undo c.args.redo edits made undone redone are none
-      c.in_ok-undo_up_to.ensures.edits c.in_ok-undo_up_to.ensures.count c.in_ok-redo_up_to.ensures.edits c.in_ok-redo_up_to.ensures.count;
+          c.in_ok-undo_up_to.ensures.edits c.in_ok-undo_up_to.ensures.count c.in_ok-redo_up_to.ensures.edits c.in_ok-redo_up_to.ensures.count;
       first = c.in_ok-redo_up_to.ensures.begun ∙ c.in_ok-undo_up_to.ensures.begun ∙ first;
     }
 
