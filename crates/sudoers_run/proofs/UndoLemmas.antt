@@ -1,5 +1,5 @@
 -- The edits that stand after some were taken back, and some of these made again.
-use Rattle.std.proofs.Common.{◌≡◌, ◌∙◌, ℕ, ◌+◌, ◌-◌, List, [], ◌∷◌, ◌++◌, length, min, take, refl, sym, ap, append_assoc, append-nil, length-append, add_comm, arith}
+use Rattle.std.proofs.Common.{◌≡◌, ◌∙◌, ℕ, ◌+◌, ◌-◌, List, [], ◌∷◌, ◌++◌, length, min, take, refl, sym, ap, append_assoc, length-append, add_comm, arith}
 use Rattle.std.proofs.lemmas.List.{map-append, length-map}
 use Rattle.std.proofs.Math.Seq.{take-append_seam}
 use Rattle.sudoers_edit_script.specs.declared.edit.Edit.{Edit}

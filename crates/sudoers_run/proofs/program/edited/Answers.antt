@@ -1,4 +1,4 @@
-use Rattle.std.proofs.Common.{◌≡◌, ◌∙◌, ◌++◌, List, [], ℕ, Result, Ok, length, reverse, append-nil, ap, sym, subst, MatchResult}
+use Rattle.std.proofs.Common.{◌≡◌, ◌∙◌, ◌++◌, List, [], ℕ, Result, Ok, reverse, append-nil, ap, sym, subst, MatchResult}
 use Rattle.sudoers_tree.specs.Policy.{texts}
 use Rattle.sudoers_edit_script.specs.declared.edit.Edit.{Edit}
 use Rattle.sudoers_run.specs.declared.fault.LayerFault.{LayerFault}
