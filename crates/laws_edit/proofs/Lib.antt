@@ -1,0 +1,11 @@
+mod NameParts
+mod Whole
+mod WithoutLine
+mod OwnedBytes
+mod DropDef
+mod PruneSplice
+mod RunEnds
+mod FormEnds
+mod TokenEnds
+mod LineTokens
+mod DefEnds

@@ -1,0 +1,52 @@
+//! Laws of edits of policies. Each is the contract of a function that does nothing.
+
+ghost use Rattle.std.specs.Prelude.{◌≡◌, ◌<◌, length, remove, ℕ, List, Ok, Err};
+ghost use Rattle.sudoers_text.specs.Line.{join};
+ghost use Rattle.sudoers_tree.specs.Line.{Line as LineOf};
+ghost use Rattle.sudoers_tree.specs.Policy.{texts};
+ghost use Rattle.sudoers_tree.specs.Reading.{read_of};
+ghost use Rattle.sudoers_edit.specs.Editing.{step as step_of};
+ghost use Rattle.sudoers_edit.specs.declared.fault.EditFault.{EditFault as EditFaultOf};
+
+use sudoers_edit::{Edit, EditFault};
+use sudoers_line::laws::definitions_ascend;
+use sudoers_line_reader::laws::outcome_is;
+use sudoers_text::laws::{
+    cut_is, line_alone_is_whole, line_alone_size, lines_of_join, lines_stand_alone,
+};
+use sudoers_tree::laws::{one_outcome, policy_is_cut, read_is};
+
+/// A policy without one of its lines is a policy: what is left of it.
+pub fn policy_without_line_is_one()
+    ensures { (policy : List LineOf) (at : ℕ) → read_of (join (texts policy)) ≡ Ok policy → at < length policy
+        → read_of (join (texts (remove policy at))) ≡ Ok (remove policy at) }
+{
+    cut_is();
+    lines_of_join();
+    lines_stand_alone();
+    line_alone_size();
+    line_alone_is_whole();
+    outcome_is();
+    definitions_ascend();
+    read_is();
+    one_outcome();
+    policy_is_cut();
+}
+
+/// A prune of a policy that is refused is refused for a splice: a line would not read as before but for the one definition less, or
+/// this would not own exactly the bytes that go with it.
+pub fn prune_is_refused_for_a_splice_alone()
+    ensures { (policy : List LineOf) (fault : EditFaultOf) → read_of (join (texts policy)) ≡ Ok policy
+        → step_of Edit.Prune (texts policy) ≡ Err fault → fault ≡ EditFault.BadSplice }
+{
+    cut_is();
+    lines_of_join();
+    lines_stand_alone();
+    line_alone_size();
+    line_alone_is_whole();
+    outcome_is();
+    definitions_ascend();
+    read_is();
+    one_outcome();
+    policy_is_cut();
+}
