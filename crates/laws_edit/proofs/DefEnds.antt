@@ -162,11 +162,13 @@ digest_keeps last ts rest d e is =
     let three = past last is.digest rest (digest_in is.digest.kind is.is_digest) two.1 in
     (omega arith, three.1)
 
-past_digests : (last : ℕ) (ds : List Digest) (ts behind : List Piece) → EndBy last ts → Perhaps (Separated 44 IsDigest) ts ds behind → EndBy last behind
+past_digests : (last : ℕ) (ds : List Digest) (ts behind : List Piece) → EndBy last ts → Perhaps (Separated 44 IsDigest) ts ds behind
+    → EndBy last behind
 past_digests last [] ts behind e is = subst (EndBy last) is e
 past_digests last (d ∷ ds) ts behind e is = (separated_keep nowhere IsDigest 44 digest_keeps last ts behind (d ∷ ds) e is).1
 
-past_args : (last : ℕ) (t : Piece) (args rest : List Piece) → AllByRecursion IsArg args → t.stop ≤ last → EndBy last (args ++ rest) → (stop_of t args ≤ last) × EndBy last rest
+past_args : (last : ℕ) (t : Piece) (args rest : List Piece) → AllByRecursion IsArg args → t.stop ≤ last → EndBy last (args ++ rest)
+    → (stop_of t args ≤ last) × EndBy last rest
 past_args last t [] rest are here e = (here, e)
 past_args last t (arg ∷ args) rest are here e =
     let one = past last arg (args ++ rest) (arg_in arg.kind are.0) e in
@@ -175,7 +177,8 @@ past_args last t (arg ∷ args) rest are here e =
 command_keeps : Keeps Member member_stop IsCommand
 command_keeps last ts rest m e is =
     let there = subst (EndBy last) is.split (past_digests last m.digests ts is.behind e is.digests) in
-    let word = past last is.word (is.args ++ rest) (command_in is.word is.args m.atom is.atom) (past_signs last is.signs (is.word ∷ (is.args ++ rest)) is.are_signs there) in
+    let behind_signs = past_signs last is.signs (is.word ∷ (is.args ++ rest)) is.are_signs there in
+    let word = past last is.word (is.args ++ rest) (command_in is.word is.args m.atom is.atom) behind_signs in
     let all = past_args last is.word is.args rest is.are_args word.0 word.1 in
     (subst (λ n. n ≤ last) (sym is.stop) all.0, all.1)
 
@@ -186,7 +189,8 @@ list_by last [] each = omega arith
 list_by last (m ∷ []) each = each.0
 list_by last (m ∷ n ∷ ms) each = list_by last (n ∷ ms) each.1
 
-list_keeps : (k : Kind) (last : ℕ) (ts rest : List Piece) (ms : List Member) → EndBy last ts → IsList k ts ms rest → EachBy member_stop last ms × EndBy last rest
+list_keeps : (k : Kind) (last : ℕ) (ts rest : List Piece) (ms : List Member) → EndBy last ts → IsList k ts ms rest
+    → EachBy member_stop last ms × EndBy last rest
 list_keeps User = separated_keep member_stop (IsMember User) 44 (member_keeps User)
 list_keeps Runas = separated_keep member_stop (IsMember Runas) 44 (member_keeps Runas)
 list_keeps Host = separated_keep member_stop (IsMember Host) 44 (member_keeps Host)

@@ -37,7 +37,9 @@ use Rattle.laws_edit.proofs.OwnedBytes.{AscendDefs, owned_within, shorter, same_
 
 -- Where a line ends in LF, its definitions end before that.
 abbrev pub EndsLaw : Type 0
-EndsLaw = (line : List ℕ) (k : Kind) (defs : List Def) → ReadsLine line (node.Alias k defs) → ends_in_lf line ≡ true → AscendDefs 0 (length line - 1) defs
+EndsLaw =
+    (line : List ℕ) (k : Kind) (defs : List Def) → ReadsLine line (node.Alias k defs) → ends_in_lf line ≡ true
+    → AscendDefs 0 (length line - 1) defs
 
 -- ---- what a line says with one definition less
 
@@ -51,7 +53,8 @@ kind_is k j e = absurd (cc)
 same_name : (d e : Def) → is_same_def d e ≡ true → d.name ≡ e.name
 same_name d e h = (bytes_eq-Decides d.name e.name).0 (and_parts (bytes_eq d.name e.name) (are_alike is_same_member d.members e.members) h).0
 
-alike_part : (k : Kind) (l m n o : ℕ) (ds es : List Def) → are_alike is_same_def ds es ≡ true → IsPart (definitions_from k l n ds) (definitions_from k m o es)
+alike_part : (k : Kind) (l m n o : ℕ) (ds es : List Def) → are_alike is_same_def ds es ≡ true
+    → IsPart (definitions_from k l n ds) (definitions_from k m o es)
 alike_part k l m n o [] [] h = tt
 alike_part k l m n o [] (e ∷ es) h = absurd (cc)
 alike_part k l m n o (d ∷ ds) [] h = absurd (cc)
@@ -85,9 +88,11 @@ record Less (k : Kind) (defs : List Def) (at : ℕ) (says : Node) : Type 0 where
   is : says ≡ node.Alias k less
   alike : are_alike is_same_def (remove defs at) less ≡ true
 
-less_of : (k : Kind) (defs : List Def) (at from to : ℕ) (says : Node) → is_def_more at from to (Some (node.Alias k defs)) (Some says) ≡ true → Less k defs at says
+less_of : (k : Kind) (defs : List Def) (at from to : ℕ) (says : Node) → is_def_more at from to (Some (node.Alias k defs)) (Some says) ≡ true
+    → Less k defs at says
 less_of k defs at from to (node.Alias j less) h =
-    let parts = and_parts (is_kind k j && are_alike is_same_def (remove defs at) less) (owns_exactly at from to (def_extents defs) (def_extents less)) h in
+    let owns : Bool = owns_exactly at from to (def_extents defs) (def_extents less) in
+    let parts = and_parts (is_kind k j && are_alike is_same_def (remove defs at) less) owns h in
     let both = and_parts (is_kind k j) (are_alike is_same_def (remove defs at) less) parts.0 in
     record { less = less; is = ap (λ i. node.Alias i less) (sym (kind_is k j both.0)); alike = both.1 }
 less_of k defs at from to node.Blank h = absurd (cc)
@@ -105,7 +110,8 @@ says_of : Laws → (text : List ℕ) (says : Node) → said text ≡ Some says �
 unfolding said
 says_of l text says h = by (is_logical_line text) refl (outcome_of text) (l.outcome text) h
   where
-    by : (b : Bool) → is_logical_line text ≡ b → (r : Result Node LineFault) → IsLineOutcome text r → (if b then result_ok r else None) ≡ Some says → Says text says
+    by : (b : Bool) → is_logical_line text ≡ b → (r : Result Node LineFault) → IsLineOutcome text r → (if b then result_ok r else None) ≡ Some says
+        → Says text says
     by true is (Ok n) reads e = let same : n ≡ says = cc in record { logical = is; reads = subst (ReadsLine text) same reads }
     by true is (Err fault) reads e = absurd (cc)
     by false is r reads e = absurd (cc)
@@ -148,7 +154,8 @@ put_less l ends front line after k defs at from to says whole makes inside begin
       part = λ i j.
           part_append (definitions_in i line.node) (definitions_in j says) (definitions_since (i + 1) after) (definitions_since (j + 1) after)
           (subst (λ n. IsPart (definitions_in i n) (definitions_in j says)) (sym makes)
-          (subst (λ n. IsPart (definitions_in i (node.Alias k defs)) (definitions_in j n)) (sym less.is) (less_part k i j 0 0 defs at less.less less.alike)))
+          (subst (λ n. IsPart (definitions_in i (node.Alias k defs)) (definitions_in j n)) (sym less.is)
+          (less_part k i j 0 0 defs at less.less less.alike)))
           (since_part (i + 1) (j + 1) after);
     } in
     let again : IsWhole (front ++ new ∷ after) = whole_with front (line ∷ after) (new ∷ after) whole suits in
@@ -220,11 +227,13 @@ drop_goes l ends front line after k defs at whole makes inside many =
 
     by_less : (from to : ℕ) → seam at xs ≡ Some from → owned_stop at xs ≡ Some to → (o : Option Node) → said (line_without from to line.text) ≡ o
         → (b : Bool) → is_def_more at from to (Some (node.Alias k defs)) o ≡ b
-        → Drops front k (length defs) after (refuse_if (not b) BadSplice (changed_or_refusal (length front) (line_without from to line.text) (texts policy)))
+        → Drops front k (length defs) after
+        (refuse_if (not b) BadSplice (changed_or_refusal (length front) (line_without from to line.text) (texts policy)))
     by_less from to begins stops o is false no_more = inl refl
     by_less from to begins stops None is true more = absurd (cc)
     by_less from to begins stops (Some says) is true more =
-        inr (put_less l ends front line after k defs at from to says whole makes inside begins stops (says_of l (line_without from to line.text) says is)
+        inr (put_less l ends front line after k defs at from to says whole makes inside begins stops
+        (says_of l (line_without from to line.text) says is)
         (less_of k defs at from to says more))
 
     by_cut : (from to : ℕ) → seam at xs ≡ Some from → owned_stop at xs ≡ Some to → Drops front k (length defs) after (next from to)

@@ -18,7 +18,8 @@ use Rattle.laws_edit.proofs.RunEnds.{Plain, digits, word, path, run_ends, quoted
 -- pieces of the form end before the LF with which the bytes end
 abbrev pub EndsInside : Form → Type 0
 EndsInside form =
-    (before : List LineUnit) (bytes : List ℕ) (n : ℕ) → n ≤ length bytes → is_piece form before bytes n ≡ true → ends_in_lf bytes ≡ true → n < length bytes
+    (before : List LineUnit) (bytes : List ℕ) (n : ℕ) → n ≤ length bytes → is_piece form before bytes n ≡ true → ends_in_lf bytes ≡ true
+    → n < length bytes
 
 pub clash : {A : Type 0} → (b : Bool) → b ≡ true → b ≡ false → A
 clash b truly falsely = let both : true ≡ false = sym truly ∙ falsely in absurd (cc)
@@ -62,7 +63,8 @@ operator_inside before (b ∷ c ∷ rest) n inside is ends = by ((b == 43 || b =
         absurd (omega (arith, ltb-true 0 n parts.0, eqb-true n 0 parts.1))
 
 -- all of the bytes as a piece
-of_all : (P : List ℕ → Bool) → ((bytes : List ℕ) → P bytes ≡ true → ends_in_lf bytes ≡ false) → (bytes : List ℕ) (n : ℕ) → n ≤ length bytes → P (take n bytes) ≡ true
+of_all : (P : List ℕ → Bool) → ((bytes : List ℕ) → P bytes ≡ true → ends_in_lf bytes ≡ false) → (bytes : List ℕ) (n : ℕ) → n ≤ length bytes
+    → P (take n bytes) ≡ true
     → ends_in_lf bytes ≡ true → n < length bytes
 of_all P none bytes n inside is ends =
     unless_all bytes n inside (λ all.
@@ -124,7 +126,8 @@ group_ends (b ∷ []) is = absurd (clash (b == 37 && false) is (nothing (b == 37
     nothing true = refl
     nothing false = refl
 group_ends (b ∷ c ∷ text) is =
-    run_behind rule.Word word c text (and_parts (c == 58) (is_some_run rule.Word text) (and_parts (b == 37) (c == 58 && is_some_run rule.Word text) is).1).1
+    let colon = (and_parts (b == 37) (c == 58 && is_some_run rule.Word text) is).1 in
+    run_behind rule.Word word c text (and_parts (c == 58) (is_some_run rule.Word text) colon).1
 
 pub group_inside : EndsInside NonUnixGroup
 group_inside before bytes n inside is ends = of_all is_group_word group_ends bytes n inside is ends
@@ -176,7 +179,9 @@ stops zero (b ∷ xs) clean quote = by (is_quoted_byte b) (is_separator b) refl 
         backslash c sep size = other (c == 92) refl size
           where
             other : (t : Bool) → (c == 92) ≡ t → (if t then escape_in (escaped xs) else 0) ≡ suc e → ⊥
-            other true at h = let there : c ≡ 92 = eqb-true c 92 at in clash (is_separator c) sep (subst (λ x. is_separator x ≡ false) (sym there) refl)
+            other true at h =
+                let there : c ≡ 92 = eqb-true c 92 at in
+                clash (is_separator c) sep (subst (λ x. is_separator x ≡ false) (sym there) refl)
             other false at h = absurd (omega (arith, h))
     by true false is e same clean quote later = later 0 clean quote
     by false true is zero same clean quote later = clash (b == 34) quote clean
@@ -202,9 +207,11 @@ broken_stops (b ∷ rest) some =
     some_more : (n : ℕ) → (n + 2 == 0) ≡ false
     some_more n = grind (arith, nat_tests)
 
-    by : (q c u : Bool) → begins_with 34 (drop clean rest) ≡ c → begins_with 34 (drop quote rest) ≡ u
-        → 0 < (if ((if q && c then clean + 2 else 0) == 0) && not ((if q && u then quote + 2 else 0) == 0) then clean + 1 else 0)
-        → begins_separator (drop (if ((if q && c then clean + 2 else 0) == 0) && not ((if q && u then quote + 2 else 0) == 0) then clean + 1 else 0) (b ∷ rest)) ≡ true
+    size : Bool → Bool → Bool → ℕ
+    size q c u = if ((if q && c then clean + 2 else 0) == 0) && not ((if q && u then quote + 2 else 0) == 0) then clean + 1 else 0
+
+    by : (q c u : Bool) → begins_with 34 (drop clean rest) ≡ c → begins_with 34 (drop quote rest) ≡ u → 0 < size q c u
+        → begins_separator (drop (size q c u) (b ∷ rest)) ≡ true
     by false c u is was h = absurd (omega (arith, h))
     by true true u is was h = absurd (none (clean + 2 == 0) (some_more clean) h)
       where
@@ -226,7 +233,8 @@ separator_some n xs h = by (drop n xs) refl h
     by (y ∷ ys) is e = omega (arith, length-drop n xs, ap length is)
 
 -- An argument is whole, or a separator follows.
-pub argument_is : (bytes : List ℕ) (n : ℕ) → is_argument bytes n ≡ true → ((whole_size (take n bytes) == n) ≡ true) ⊎ (begins_separator (drop n bytes) ≡ true)
+pub argument_is : (bytes : List ℕ) (n : ℕ) → is_argument bytes n ≡ true
+    → ((whole_size (take n bytes) == n) ≡ true) ⊎ (begins_separator (drop n bytes) ≡ true)
 argument_is bytes n is = by (whole_size (take n bytes) == n) refl is
   where
     w : ℕ
@@ -252,6 +260,6 @@ argument_inside before bytes n inside is ends = by (argument_is bytes n parts.1)
     by (inr behind) = separator_some n bytes behind
     by (inl whole) =
         unless_all bytes n inside (λ all.
-        let size : whole_size bytes ≡ length bytes =
-        ap whole_size (sym (ap (λ m. take m bytes) all ∙ take_all (length bytes) bytes (omega arith))) ∙ eqb-true (whole_size (take n bytes)) n whole ∙ all in
+        let taken : bytes ≡ take n bytes = sym (ap (λ m. take m bytes) all ∙ take_all (length bytes) bytes (omega arith)) in
+        let size : whole_size bytes ≡ length bytes = ap whole_size taken ∙ eqb-true (whole_size (take n bytes)) n whole ∙ all in
         clash (ends_in_lf bytes) ends (whole_ends bytes size (omega (arith, all, ltb-true 0 n parts.0))))

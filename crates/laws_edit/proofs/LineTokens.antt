@@ -17,7 +17,7 @@ use Rattle.sudoers_text.specs.Context.{forms, behind}
 use Rattle.sudoers_line.specs.Piece.{Piece, pieces}
 use Rattle.laws_edit.proofs.OwnedBytes.{tail}
 use Rattle.laws_edit.proofs.FormEnds.{begins_separator}
-use Rattle.laws_edit.proofs.TokenEnds.{is_left_out, Fits, fits_plain, forms_inside, token_inside, fits_behind, plain_behind_first}
+use Rattle.laws_edit.proofs.TokenEnds.{is_left_out, IsPlain, Fits, fits_plain, forms_inside, token_inside, fits_behind, plain_behind_first}
 
 -- Up to one that no alias is made of, the pieces end here at the latest.
 abbrev pub EndBy : ℕ → List Piece → Type 0
@@ -50,7 +50,8 @@ at_separators [] h = absurd (cc)
 at_separators (b ∷ rest) h = at_separator b rest h
 
 -- A separator there is Bad.
-is_bad : (before : List LineUnit) (body : List ℕ) (k : TokenKind) (n : ℕ) → begins_separator body ≡ true → IsToken (forms context.QuotedArgument) before body k n
+is_bad : (before : List LineUnit) (body : List ℕ) (k : TokenKind) (n : ℕ) → begins_separator body ≡ true
+    → IsToken (forms context.QuotedArgument) before body k n
     → is_left_out k ≡ true
 is_bad before body k n separator (inl is) =
     let parts = and_parts (nat_lt 0 n) (n == quoted_rest_size body) is.1.piece in
@@ -72,7 +73,8 @@ one context.QuotedArgument before bytes body k n fits same is ends =
     inl (is_bad before body k n (subst (λ z. begins_separator z ≡ true) (sym (same (at_separators bytes fits).0)) fits) is)
 one here before bytes body k n fits same is ends = both (token_inside (forms here) (forms_inside here tt) before body k n is ends)
   where
-    both : (is_left_out k ≡ true) ⊎ (n < length body) → (is_left_out k ≡ true) ⊎ ((n < length body) × Fits (behind here k (take n body) (drop n body)) (drop n body))
+    both : (is_left_out k ≡ true) ⊎ (n < length body)
+        → (is_left_out k ≡ true) ⊎ ((n < length body) × Fits (behind here k (take n body) (drop n body)) (drop n body))
     both (inl left) = inl left
     both (inr less) = inr (less, fits_behind here tt before body k n is)
 
@@ -111,10 +113,11 @@ end_by (t ∷ ts) here line at fits ends are =
     )
 
 -- those behind the first
-pub ends_behind_first : (m : Mode) (line : List ℕ) (t : Token) (ts : List Token) → ends_in_lf line ≡ true → HasTokens m line (t ∷ ts) → EndBy (length line - 1) (pieces line ts)
+pub ends_behind_first : (m : Mode) (line : List ℕ) (t : Token) (ts : List Token) → ends_in_lf line ≡ true → HasTokens m line (t ∷ ts)
+    → EndBy (length line - 1) (pieces line ts)
 ends_behind_first m line t ts ends has =
     let body : List ℕ = drop t.start line in
     let size : ℕ = t.stop - t.start in
-    end_by ts (behind (context.First m) t.kind (take size body) (drop size body)) line t.stop
-    (fits_plain (behind (context.First m) t.kind (take size body) (drop size body)) (drop t.stop line) (plain_behind_first m t.kind (take size body) (drop size body)))
-    ends has.4
+    let next : Context = behind (context.First m) t.kind (take size body) (drop size body) in
+    let plain : IsPlain next = plain_behind_first m t.kind (take size body) (drop size body) in
+    end_by ts next line t.stop (fits_plain next (drop t.stop line) plain) ends has.4

@@ -59,7 +59,8 @@ pub with_part : (n m : ℕ) (front : List Line) (old new : List Line) → ((i j 
     → IsPart (definitions_since n (front ++ old)) (definitions_since m (front ++ new))
 with_part n m [] old new p = p n m
 with_part n m (line ∷ front) old new p =
-    part_append (definitions_in n line.node) (definitions_in m line.node) (definitions_since (n + 1) (front ++ old)) (definitions_since (m + 1) (front ++ new))
+    part_append (definitions_in n line.node) (definitions_in m line.node)
+    (definitions_since (n + 1) (front ++ old)) (definitions_since (m + 1) (front ++ new))
     (in_part n m line.node) (with_part (n + 1) (m + 1) front old new p)
 
 -- ---- what is true of a part
@@ -98,19 +99,29 @@ record Found (ds before : List Definition) (e : Definition) : Type 0 where
   name : one.def.name ≡ e.def.name
   part : IsPart front before
 
+past : (d : Definition) (ds before longer : List Definition) (e : Definition) → (f : Found ds before e) → IsPart (d ∷ f.front) longer
+    → Found (d ∷ ds) longer e
+past d ds before longer e f part = record {
+  front = d ∷ f.front;
+  one = f.one;
+  rest = f.rest;
+  is = ap (λ xs. d ∷ xs) f.is;
+  kind = f.kind;
+  name = f.name;
+  part = part;
+}
+
 found : (ds before : List Definition) (e : Definition) (after : List Definition) → IsPart ds (before ++ e ∷ after) → Found ds before e
 found [] [] e after p = absurd p
 found [] (b ∷ before) e after p = absurd p
-found (d ∷ ds) [] e after (inl p) =
-    let f = found ds [] e after p in
-    record { front = d ∷ f.front; one = f.one; rest = f.rest; is = ap (λ (xs : List Definition). d ∷ xs) f.is; kind = f.kind; name = f.name; part = tt }
+found (d ∷ ds) [] e after (inl p) = past d ds [] [] e (found ds [] e after p) tt
 found (d ∷ ds) [] e after (inr p) = record { front = []; one = d; rest = ds; is = refl; kind = p.0; name = p.1; part = tt }
 found (d ∷ ds) (b ∷ before) e after (inl p) =
     let f = found ds (b ∷ before) e after p in
-    record { front = d ∷ f.front; one = f.one; rest = f.rest; is = ap (λ (xs : List Definition). d ∷ xs) f.is; kind = f.kind; name = f.name; part = inl f.part }
+    past d ds (b ∷ before) (b ∷ before) e f (inl f.part)
 found (d ∷ ds) (b ∷ before) e after (inr p) =
     let f = found ds before e after p.2 in
-    record { front = d ∷ f.front; one = f.one; rest = f.rest; is = ap (λ (xs : List Definition). d ∷ xs) f.is; kind = f.kind; name = f.name; part = inr (p.0, p.1, f.part) }
+    past d ds before (b ∷ before) e f (inr (p.0, p.1, f.part))
 
 not_here : (b : Bool) (d : Definition) (o : Option Definition) → (if b then Some d else o) ≡ None → (b ≡ false) × (o ≡ None)
 not_here true d o h = absurd (cc)

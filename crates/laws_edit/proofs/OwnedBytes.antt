@@ -25,7 +25,8 @@ stop_suc q xs =
     let some : (suc q == 0) ≡ false = ne_eqb (suc q) 0 (λ same. omega (arith, same)) in
     rw some refl
 
-behind : (lo hi : ℕ) (defs : List Def) (q from to : ℕ) → AscendDefs lo hi defs → option_map (λ (x : Extent). x.1) (slice_get (def_extents defs) q) ≡ Some from
+behind : (lo hi : ℕ) (defs : List Def) (q from to : ℕ) → AscendDefs lo hi defs
+    → option_map (λ (x : Extent). x.1) (slice_get (def_extents defs) q) ≡ Some from
     → option_map (λ (x : Extent). x.1) (slice_get (def_extents defs) (suc q)) ≡ Some to → (from ≤ to) × (to ≤ hi)
 behind lo hi [] q from to a b c = absurd (cc)
 behind lo hi (d ∷ []) q from to a b c = absurd (cc)
@@ -51,7 +52,8 @@ owned_within lo hi defs (suc q) from to a b c =
 
 pub shorter : (from to : ℕ) (line : List ℕ) → from ≤ to → to ≤ length line → length (line_without from to line) ≤ length line
 shorter from to line order inside =
-    omega (arith, order, inside, length-append (take from line) (drop to line), length-take-le from line (omega (arith, order, inside)), length-drop to line)
+    let front : length (take from line) ≡ from = length-take-le from line (omega (arith, order, inside)) in
+    omega (arith, order, inside, length-append (take from line) (drop to line), front, length-drop to line)
 
 ends_behind : (xs : List ℕ) (b : ℕ) (ys : List ℕ) → ends_in_lf (xs ++ b ∷ ys) ≡ ends_in_lf (b ∷ ys)
 ends_behind [] b ys = refl

@@ -66,11 +66,13 @@ higher : (low high other : ℕ) (ds : List Definition) → high ≤ other → De
 higher low high other [] l a = tt
 higher low high other (d ∷ ds) l a = (omega (arith, a.0, l), a.1, a.2)
 
-lowest : (low high : ℕ) (ds : List Definition) (d : Definition) → d.place.def ≡ low → low < high → Descend (low + 1) high ds → Descend low high (ds ++ d ∷ [])
+lowest : (low high : ℕ) (ds : List Definition) (d : Definition) → d.place.def ≡ low → low < high → Descend (low + 1) high ds
+    → Descend low high (ds ++ d ∷ [])
 lowest low high [] d is some a = (omega (arith, is, some), omega (arith, is), tt)
 lowest low high (e ∷ ds) d is some a = (a.0, omega (arith, a.1), lowest low e.place.def ds d is (omega (arith, a.1)) a.2)
 
-from_descend : (test : Definition → Bool) (k : Kind) (l n : ℕ) (defs : List Def) → Descend n (n + length defs) (reverse (filter test (definitions_from k l n defs)))
+from_descend : (test : Definition → Bool) (k : Kind) (l n : ℕ) (defs : List Def)
+    → Descend n (n + length defs) (reverse (filter test (definitions_from k l n defs)))
 from_descend test k l n [] = tt
 from_descend test k l n (d ∷ defs) =
     by (test first) (subst (λ h. Descend (n + 1) h (reverse others)) high (from_descend test k l (n + 1) defs))
@@ -84,7 +86,8 @@ from_descend test k l n (d ∷ defs) =
     high : (n + 1) + length defs ≡ n + length (d ∷ defs)
     high = omega arith
 
-    by : (b : Bool) → Descend (n + 1) (n + length (d ∷ defs)) (reverse others) → Descend n (n + length (d ∷ defs)) (reverse (if b then first ∷ others else others))
+    by : (b : Bool) → Descend (n + 1) (n + length (d ∷ defs)) (reverse others)
+        → Descend n (n + length (d ∷ defs)) (reverse (if b then first ∷ others else others))
     by true later =
         subst (Descend n (n + length (d ∷ defs))) (sym (reverse-append (first ∷ []) others))
         (lowest n (n + length (d ∷ defs)) (reverse others) first refl (omega arith) later)
@@ -113,8 +116,8 @@ defs_go l ends (d ∷ ds) front line after k defs whole makes descend fewer =
     told = ap (drop_def n at) (known l (front ++ line ∷ after) whole)
 
     by : (r : Result Lines EditFault) → drop_def n at (front ++ line ∷ after) ≡ r
-        → ((new : Line) (less : List Def) → IsWhole (front ++ new ∷ after) → new.node ≡ node.Alias k less → Descend 0 (length less) ds → length ds < length less
-        → Goes front (removed_all more (texts (front ++ new ∷ after))))
+        → ((new : Line) (less : List Def) → IsWhole (front ++ new ∷ after) → new.node ≡ node.Alias k less → Descend 0 (length less) ds
+        → length ds < length less → Goes front (removed_all more (texts (front ++ new ∷ after))))
         → (r ≡ Err BadSplice) ⊎ Dropped front k (length defs) after r
         → Goes front (removed_all (removal.Def n at ∷ more) (texts (front ++ line ∷ after)))
     by r is others (inl refused) = inl (ap (λ r. and_then r (removed_all more)) (told ∙ is ∙ refused))
@@ -152,15 +155,19 @@ whole_line_goes l front line after whole =
     rw (lt-ltb (length front) (length (texts (front ++ line ∷ after))) size) (ap lines_or_refusal gone ∙ landed l (front ++ after) left) in
     inr (record { behind = after; is = ap (λ r. and_then r (removed_all [])) told; whole = left })
 
-nothing_goes : (front : List Line) (line : Line) (after : List Line) → IsWhole (front ++ line ∷ after) → Goes front (removed_all [] (texts (front ++ line ∷ after)))
+nothing_goes : (front : List Line) (line : Line) (after : List Line) → IsWhole (front ++ line ∷ after)
+    → Goes front (removed_all [] (texts (front ++ line ∷ after)))
 nothing_goes front line after whole = inr (record { behind = line ∷ after; is = refl; whole = whole })
 
 line_goes : Laws → EndsLaw → (policy front : List Line) (line : Line) (after : List Line) → IsWhole (front ++ line ∷ after)
     → Goes front (removed_all (removals_in policy (length front) line) (texts (front ++ line ∷ after)))
 line_goes l ends policy front line after whole = by_node line.node refl
   where
+    gone : List Definition → List Removal
+    gone ds = removals_of (length front) (length ds) (filter (is_unused policy) ds)
+
     by_node : (says : Node) → line.node ≡ says
-        → Goes front (removed_all (removals_of (length front) (length (definitions_in (length front) says)) (filter (is_unused policy) (definitions_in (length front) says))) (texts (front ++ line ∷ after)))
+        → Goes front (removed_all (gone (definitions_in (length front) says)) (texts (front ++ line ∷ after)))
     by_node (node.Alias k defs) makes = by_count (length unused == 0) (length unused == count) refl
       where
         ds : List Definition
@@ -203,7 +210,8 @@ lines_go l ends policy front (line ∷ lines) n count whole =
     subst (Goes front) (sym (all_append later (removals_in policy n line) (texts (front ++ line ∷ lines))))
     (by (removed_all later (texts (front ++ line ∷ lines)))
     (subst (λ ls. Goes (front ++ line ∷ []) (removed_all later (texts ls))) (same lines)
-    (lines_go l ends policy (front ++ line ∷ []) lines (n + 1) (omega (arith, length-append front (line ∷ []), count)) (subst IsWhole (sym (same lines)) whole))))
+    (lines_go l ends policy (front ++ line ∷ []) lines (n + 1) (omega (arith, length-append front (line ∷ []), count))
+    (subst IsWhole (sym (same lines)) whole))))
   where
     later : List Removal
     later = removals_since policy (n + 1) lines
@@ -223,7 +231,8 @@ refused_so : (r : Result Lines EditFault) (fault : EditFault) → Goes [] r → 
 refused_so r fault (inl refused) is = let same : Err fault ≡ Err BadSplice = sym is ∙ refused in cc
 refused_so r fault (inr leads) is = absurd (let same : Err fault ≡ Ok (texts leads.behind) = sym is ∙ leads.is in cc)
 
-pub refused_for_splice : Laws → (policy : List Line) (fault : EditFault) → read_of (join (texts policy)) ≡ Ok policy → step Prune (texts policy) ≡ Err fault
+pub refused_for_splice : Laws → (policy : List Line) (fault : EditFault) → read_of (join (texts policy)) ≡ Ok policy
+    → step Prune (texts policy) ≡ Err fault
     → fault ≡ BadSplice
 unfolding removals
 refused_for_splice l policy fault read is =

@@ -49,36 +49,34 @@ one_ends test no_lf = record { within = within; ends = ends }
     ends (b ∷ []) same some = of_one b (test b) refl same
     ends (b ∷ c ∷ rest) same some = absurd (omega (arith, same, one (test b)))
 
-pair_size : (rest : List ℕ) → (pair_in (escaped rest) ≡ 0) ⊎ ((pair_in (escaped rest) ≡ 2) × (0 < length rest) × ((c : ℕ) → rest ≡ c ∷ [] → (c == 10) ≡ false))
+-- a pair is none, or two bytes, of which the second is no LF
+abbrev Pairs : ℕ → List ℕ → Type 0
+Pairs n rest = (n ≡ 0) ⊎ ((n ≡ 2) × (0 < length rest) × ((c : ℕ) → rest ≡ c ∷ [] → (c == 10) ≡ false))
+
+no_end : (x y : Bool) → (x || y) ≡ false → x ≡ false
+no_end true y h = absurd (cc)
+no_end false y h = refl
+
+pair_size : (rest : List ℕ) → Pairs (pair_in (escaped rest)) rest
 pair_size [] = inl refl
-pair_size (b ∷ rest) = by (begins_line_end (b ∷ rest)) refl (b == 13)
+pair_size (b ∷ rest) = by (begins_line_end (b ∷ rest)) refl
   where
     plain : begins_line_end (b ∷ rest) ≡ false → (c : ℕ) → b ∷ rest ≡ c ∷ [] → (c == 10) ≡ false
-    plain is c same = let one : b ≡ c = cc in subst (λ x. (x == 10) ≡ false) one (first (b == 10) (begins_line_end_tail b rest) is)
-      where
-        begins_line_end_tail : ℕ → List ℕ → Bool
-        begins_line_end_tail b rest = (b == 13) && begins_lf rest
+    plain is c same = let one : b ≡ c = cc in subst (λ x. (x == 10) ≡ false) one (no_end (b == 10) (b == 13 && begins_lf rest) is)
 
-        first : (x y : Bool) → (x || y) ≡ false → x ≡ false
-        first true y h = absurd (cc)
-        first false y h = refl
+    of_pair : begins_line_end (b ∷ rest) ≡ false → (u : Bool) → Pairs (if u then 0 else 2) (b ∷ rest)
+    of_pair is true = inl refl
+    of_pair is false = inr (refl, omega arith, plain is)
 
-    by : (t : Bool) → begins_line_end (b ∷ rest) ≡ t → (u : Bool)
-        → (pair_in (if t then Continuation (b == 13) else Pair b) ≡ 0)
-        ⊎ ((pair_in (if t then Continuation (b == 13) else Pair b) ≡ 2) × (0 < length (b ∷ rest)) × ((c : ℕ) → b ∷ rest ≡ c ∷ [] → (c == 10) ≡ false))
-    by true is u = inl refl
-    by false is u = of_pair (b == 13)
-      where
-        of_pair : (u : Bool) → Is (if u then 0 else 2) 0 ⊎ (Is (if u then 0 else 2) 2 × (0 < length (b ∷ rest)) × ((c : ℕ) → b ∷ rest ≡ c ∷ [] → (c == 10) ≡ false))
-        of_pair true = inl refl
-        of_pair false = inr (refl, omega arith, plain is)
+    by : (t : Bool) → begins_line_end (b ∷ rest) ≡ t → Pairs (pair_in (if t then Continuation (b == 13) else Pair b)) (b ∷ rest)
+    by true is = inl refl
+    by false is = of_pair is (b == 13)
 
 -- a byte that passes, or a pair
 word_ends : (test : ℕ → Bool) → test 10 ≡ false → Ends (λ bytes. or_else (one_if test bytes) (by_backslash pair_in bytes))
 word_ends test no_lf = record { within = λ bytes. (both bytes).0; ends = λ bytes same some. (both bytes).1 same some }
   where
-    all : (b : ℕ) (rest : List ℕ) (t u : Bool) → test b ≡ t
-        → (pair_in (escaped rest) ≡ 0) ⊎ ((pair_in (escaped rest) ≡ 2) × (0 < length rest) × ((c : ℕ) → rest ≡ c ∷ [] → (c == 10) ≡ false))
+    all : (b : ℕ) (rest : List ℕ) (t u : Bool) → test b ≡ t → Pairs (pair_in (escaped rest)) rest
         → (or_else (if t then 1 else 0) (if u then pair_in (escaped rest) else 0) ≤ length (b ∷ rest))
         × (or_else (if t then 1 else 0) (if u then pair_in (escaped rest) else 0) ≡ length (b ∷ rest) → ends_in_lf (b ∷ rest) ≡ false)
     all b [] true u is pair = (omega arith, λ same. lf_or_not test b no_lf is)
@@ -115,7 +113,8 @@ plain_ends r value = word_ends is_value_byte refl
 
 -- ---- runs
 
-reach_ends : (unit : List ℕ → ℕ) → Ends unit → (k : ℕ) (bytes : List ℕ) → k < length bytes → reach unit k bytes ≡ length bytes → ends_in_lf bytes ≡ false
+reach_ends : (unit : List ℕ → ℕ) → Ends unit → (k : ℕ) (bytes : List ℕ) → k < length bytes → reach unit k bytes ≡ length bytes
+    → ends_in_lf bytes ≡ false
 reach_ends unit e k [] less all = absurd (omega (arith, less))
 reach_ends unit e (suc k) (b ∷ []) less all = absurd (omega (arith, less))
 reach_ends unit e (suc k) (b ∷ c ∷ rest) less all = reach_ends unit e k (c ∷ rest) (omega (arith, less)) (omega (arith, all))
@@ -162,7 +161,8 @@ pub quoted_ends : (r : Rule) → Ends (between_quotes r)
 unfolding between_quotes
 quoted_ends r = record { within = λ bytes. (both bytes).0; ends = λ bytes. (both bytes).1 }
   where
-    both : (bytes : List ℕ) → (between_quotes r bytes ≤ length bytes) × (between_quotes r bytes ≡ length bytes → 0 < length bytes → ends_in_lf bytes ≡ false)
+    both : (bytes : List ℕ)
+        → (between_quotes r bytes ≤ length bytes) × (between_quotes r bytes ≡ length bytes → 0 < length bytes → ends_in_lf bytes ≡ false)
     both [] = (omega arith, λ same some. absurd (omega (arith, some)))
     both (b ∷ rest) = by (b == 34 && begins_with 34 (drop (run_size r rest) rest)) refl
       where
@@ -197,7 +197,8 @@ argument_ends = record { within = λ bytes. (both bytes).0; ends = λ bytes. (bo
       λ same some. (plain_ends rule.Path path).ends bytes (is ∙ same) some,
     )
 
-    both : (bytes : List ℕ) → (argument_unit bytes ≤ length bytes) × (argument_unit bytes ≡ length bytes → 0 < length bytes → ends_in_lf bytes ≡ false)
+    both : (bytes : List ℕ)
+        → (argument_unit bytes ≤ length bytes) × (argument_unit bytes ≡ length bytes → 0 < length bytes → ends_in_lf bytes ≡ false)
     both bytes = by bytes (unit_size rule.Path bytes) refl
 
 pub whole_ends : (bytes : List ℕ) → whole_size bytes ≡ length bytes → 0 < length bytes → ends_in_lf bytes ≡ false

@@ -16,7 +16,7 @@ use Rattle.sudoers_text.specs.declared.context.Context.TheVariants as context
 use Rattle.sudoers_text.specs.Ended.{ends_in_lf}
 use Rattle.sudoers_text.specs.Unit.{LineUnit, is_separator}
 use Rattle.sudoers_text.specs.Part.{is_punct, begins_with, whole_size, is_whole_argument}
-use Rattle.sudoers_text.specs.Piece.{Form, Mark, CommentPart, Argument, begins_scope, kind_of, is_argument}
+use Rattle.sudoers_text.specs.Piece.{Form, Mark, Run, QuotedPart, CommentPart, Argument, begins_scope, kind_of, is_argument}
 use Rattle.sudoers_text.specs.Token.{IsToken}
 use Rattle.sudoers_text.specs.Context.{forms, word_forms, command_forms, parameter_forms, is_scope_sign, is_parameter_mark, is_comma, behind, behind_mark, behind_word, behind_command, behind_option_value, behind_argument, behind_parameter, behind_first, begins, is_mark, is_word, is_member}
 use Rattle.sudoers_text.specs.Word.{is_among, is_tag, is_option_name, digest_kinds, include_words}
@@ -77,7 +77,8 @@ plain_word text = by (bytes_eq text (codes "sudoedit")) (is_option_name text) (i
     by false false false true = tt
     by false false false false = tt
 
-plain_command : (colon equals : Context) (k : TokenKind) (text : List ℕ) → IsPlain colon → IsPlain equals → IsPlain (behind_command colon equals k text)
+plain_command : (colon equals : Context) (k : TokenKind) (text : List ℕ) → IsPlain colon → IsPlain equals
+    → IsPlain (behind_command colon equals k text)
 plain_command colon equals kind.Punct text p q = plain_mark colon equals text p q
 plain_command colon equals kind.Word text p q = plain_word text
 plain_command colon equals k text p q = tt
@@ -94,9 +95,9 @@ plain_first : (m : Mode) (k : TokenKind) (text rest : List ℕ) → IsPlain (beh
 plain_first mode.Words k text rest = tt
 plain_first mode.Commands k text rest = plain_if (is_mark 61 k text) context.Commands context.Hosts tt tt
 plain_first mode.Parameters k text rest =
-    plain_if (is_word k) (if begins_scope rest || begins_with 58 rest || begins_with 33 rest then context.ScopeSign else context.Parameter) (behind_parameter k text)
-    (plain_if (begins_scope rest || begins_with 58 rest || begins_with 33 rest) context.ScopeSign context.Parameter tt tt)
-    (plain_parameter k text)
+    let sign : Bool = begins_scope rest || begins_with 58 rest || begins_with 33 rest in
+    plain_if (is_word k) (if sign then context.ScopeSign else context.Parameter) (behind_parameter k text)
+    (plain_if sign context.ScopeSign context.Parameter tt tt) (plain_parameter k text)
 
 pub plain_behind_first : (m : Mode) (k : TokenKind) (text rest : List ℕ) → IsPlain (behind (context.First m) k text rest)
 plain_behind_first m k text rest =
@@ -141,7 +142,9 @@ Inside form = (is_left_out (kind_of form) ≡ true) ⊎ EndsInside form
 
 words_inside : AllByRecursion Inside word_forms
 words_inside =
-    (inr (mark_inside is_punct refl), (inr number_inside, (inr group_inside, (inr (run_inside kind.Word rule.Word word), (inr (quoted_inside kind.Quoted), (inl refl, tt))))))
+    let quoted : Inside (QuotedPart kind.Quoted) = inr (quoted_inside kind.Quoted) in
+    let run : Inside (Run kind.Word rule.Word) = inr (run_inside kind.Word rule.Word word) in
+    (inr (mark_inside is_punct refl), (inr number_inside, (inr group_inside, (run, (quoted, (inl refl, tt))))))
 
 commands_inside : AllByRecursion Inside command_forms
 commands_inside = (inr path_inside, words_inside)
@@ -174,7 +177,8 @@ forms_inside context.ParameterValue p =
 left_kind : (j k : TokenKind) → j ≡ k → is_left_out k ≡ true → is_left_out j ≡ true
 left_kind j k same is = ap is_left_out same ∙ is
 
-pub token_inside : (fs : List Form) → AllByRecursion Inside fs → (before : List LineUnit) (bytes : List ℕ) (k : TokenKind) (n : ℕ) → IsToken fs before bytes k n
+pub token_inside : (fs : List Form) → AllByRecursion Inside fs → (before : List LineUnit) (bytes : List ℕ) (k : TokenKind) (n : ℕ)
+    → IsToken fs before bytes k n
     → ends_in_lf bytes ≡ true → (is_left_out k ≡ true) ⊎ (n < length bytes)
 token_inside [] all before bytes k n is ends = inl (left_kind k kind.Bad is.0 refl)
 token_inside (form ∷ fs) all before bytes k n (inl is) ends = by all.0
@@ -191,7 +195,8 @@ fits_if true x y bytes p q = p refl
 fits_if false x y bytes p q = q refl
 
 -- an argument among arguments
-arg_is : (before : List LineUnit) (body : List ℕ) (k : TokenKind) (n : ℕ) → IsToken (Mark is_separator ∷ Argument ∷ CommentPart ∷ []) before body k n → k ≡ kind.Arg
+arg_is : (before : List LineUnit) (body : List ℕ) (k : TokenKind) (n : ℕ) → IsToken (Mark is_separator ∷ Argument ∷ CommentPart ∷ []) before body k n
+    → k ≡ kind.Arg
     → (n ≤ length body) × (is_argument body n ≡ true)
 arg_is before body k n (inl is) arg = absurd (let other : kind.Punct ≡ kind.Arg = sym is.0 ∙ arg in cc)
 arg_is before body k n (inr (p, inl is)) arg = (is.1.inside, (and_parts (nat_lt 0 n) (is_argument body n) is.1.piece).1)
@@ -200,9 +205,10 @@ arg_is before body k n (inr (p, inr (q, inr (r, is)))) arg = absurd (let other :
 
 behind_arg : (body : List ℕ) (n : ℕ) → n ≤ length body → is_argument body n ≡ true → Fits (behind_argument kind.Arg (take n body)) (drop n body)
 behind_arg body n inside is =
-    fits_if (is_whole_argument (take n body)) context.Arguments context.QuotedArgument (drop n body) (λ _. tt) (λ broken. by (argument_is body n is) broken)
+    fits_if (is_whole_argument (take n body)) context.Arguments context.QuotedArgument (drop n body) (λ _. tt) (by (argument_is body n is))
   where
-    by : ((whole_size (take n body) == n) ≡ true) ⊎ (begins_separator (drop n body) ≡ true) → is_whole_argument (take n body) ≡ false → begins_separator (drop n body) ≡ true
+    by : ((whole_size (take n body) == n) ≡ true) ⊎ (begins_separator (drop n body) ≡ true) → is_whole_argument (take n body) ≡ false
+        → begins_separator (drop n body) ≡ true
     by (inr separator) broken = separator
     by (inl whole) broken =
         clash (whole_size (take n body) == n) whole (ap (λ m. whole_size (take n body) == m) (sym (length-take-le n body inside)) ∙ broken)
@@ -210,11 +216,13 @@ behind_arg body n inside is =
 among_arguments : (before : List LineUnit) (body : List ℕ) (k : TokenKind) (n : ℕ) → IsToken (forms context.Arguments) before body k n
     → Fits (behind_argument k (take n body)) (drop n body)
 among_arguments before body kind.Punct n is =
-    fits_plain (behind_mark context.Hosts context.Commands (take n body)) (drop n body) (plain_mark context.Hosts context.Commands (take n body) tt tt)
+    let plain = plain_mark context.Hosts context.Commands (take n body) tt tt in
+    fits_plain (behind_mark context.Hosts context.Commands (take n body)) (drop n body) plain
 among_arguments before body kind.Arg n is = let a = arg_is before body kind.Arg n is refl in behind_arg body n a.0 a.1
 among_arguments before body k n is = tt
 
-pub fits_behind : (here : Context) → IsPlain here → (before : List LineUnit) (body : List ℕ) (k : TokenKind) (n : ℕ) → IsToken (forms here) before body k n
+pub fits_behind : (here : Context) → IsPlain here → (before : List LineUnit) (body : List ℕ) (k : TokenKind) (n : ℕ)
+    → IsToken (forms here) before body k n
     → Fits (behind here k (take n body) (drop n body)) (drop n body)
 fits_behind here p before body k n is = by here p is
   where
@@ -224,28 +232,31 @@ fits_behind here p before body k n is = by here p is
     rest : List ℕ
     rest = drop n body
 
+    plain : (next : Context) → IsPlain next → Fits next rest
+    plain next p = fits_plain next rest p
+
+    either : (b : Bool) (x y : Context) → IsPlain x → IsPlain y → Fits (if b then x else y) rest
+    either b x y p q = plain (if b then x else y) (plain_if b x y p q)
+
+    command : (colon equals : Context) → IsPlain colon → IsPlain equals → Fits (behind_command colon equals k text) rest
+    command colon equals p q = plain (behind_command colon equals k text) (plain_command colon equals k text p q)
+
     by : (here : Context) → IsPlain here → IsToken (forms here) before body k n → Fits (behind here k text rest) rest
     by (context.First m) p is = absurd p
     by context.QuotedArgument p is = absurd p
-    by (context.IncludePath m) p is = fits_plain (begins m) rest (plain_begins m)
+    by (context.IncludePath m) p is = plain (begins m) (plain_begins m)
     by context.Words p is = tt
-    by context.Hosts p is = fits_plain (if is_mark 61 k text then context.Commands else context.Hosts) rest (plain_if (is_mark 61 k text) context.Commands context.Hosts tt tt)
-    by context.Commands p is = fits_plain (behind_command context.Hosts context.Commands k text) rest (plain_command context.Hosts context.Commands k text tt tt)
-    by context.BehindOption p is = fits_plain (behind_command context.Hosts context.OptionValue k text) rest (plain_command context.Hosts context.OptionValue k text tt tt)
-    by context.OptionValue p is = fits_plain (behind_option_value k text) rest (plain_value k text)
-    by context.BehindTag p is = fits_plain (behind_command context.Commands context.Commands k text) rest (plain_command context.Commands context.Commands k text tt tt)
-    by context.BehindDigestKind p is = fits_plain (behind_command context.Digest context.Commands k text) rest (plain_command context.Digest context.Commands k text tt tt)
-    by context.Digest p is = fits_plain (behind_command context.Hosts context.Commands k text) rest (plain_command context.Hosts context.Commands k text tt tt)
-    by context.Parentheses p is =
-        fits_plain (if is_mark 41 k text then context.Commands else context.Parentheses) rest (plain_if (is_mark 41 k text) context.Commands context.Parentheses tt tt)
+    by context.Hosts p is = either (is_mark 61 k text) context.Commands context.Hosts tt tt
+    by context.Commands p is = command context.Hosts context.Commands tt tt
+    by context.BehindOption p is = command context.Hosts context.OptionValue tt tt
+    by context.OptionValue p is = plain (behind_option_value k text) (plain_value k text)
+    by context.BehindTag p is = command context.Commands context.Commands tt tt
+    by context.BehindDigestKind p is = command context.Digest context.Commands tt tt
+    by context.Digest p is = command context.Hosts context.Commands tt tt
+    by context.Parentheses p is = either (is_mark 41 k text) context.Commands context.Parentheses tt tt
     by context.Arguments p is = among_arguments before body k n is
-    by context.ScopeSign p is =
-        fits_plain (if is_mark 33 k text then context.Scope scope.Commands else context.Scope scope.Names) rest
-        (plain_if (is_mark 33 k text) (context.Scope scope.Commands) (context.Scope scope.Names) tt tt)
-    by (context.Scope list) p is =
-        fits_plain (if is_member k then context.BehindMember list else context.Scope list) rest (plain_if (is_member k) (context.BehindMember list) (context.Scope list) tt tt)
-    by (context.BehindMember list) p is =
-        fits_plain (if is_mark 44 k text then context.Scope list else behind_parameter k text) rest
-        (plain_if (is_mark 44 k text) (context.Scope list) (behind_parameter k text) tt (plain_parameter k text))
-    by context.Parameter p is = fits_plain (behind_parameter k text) rest (plain_parameter k text)
+    by context.ScopeSign p is = either (is_mark 33 k text) (context.Scope scope.Commands) (context.Scope scope.Names) tt tt
+    by (context.Scope list) p is = either (is_member k) (context.BehindMember list) (context.Scope list) tt tt
+    by (context.BehindMember list) p is = either (is_mark 44 k text) (context.Scope list) (behind_parameter k text) tt (plain_parameter k text)
+    by context.Parameter p is = plain (behind_parameter k text) (plain_parameter k text)
     by context.ParameterValue p is = tt

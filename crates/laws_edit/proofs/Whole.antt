@@ -27,7 +27,8 @@ use Rattle.laws_edit.proofs.NameParts.{IsPart, part_skip, since_part, with_part,
 -- The laws of lines and policies.
 pub record Laws : Type 0 where
   pub cuts : (text : List ℕ) → IsCutOutcome text (cut_of text)
-  pub joined : (lines : List (List ℕ)) → StandAlone lines → has_unended_inside lines ≡ false → length (join lines) ≤ text_limit → cut_of (join lines) ≡ Ok lines
+  pub joined : (lines : List (List ℕ)) → StandAlone lines → has_unended_inside lines ≡ false → length (join lines) ≤ text_limit
+      → cut_of (join lines) ≡ Ok lines
   pub alone : (text : List ℕ) (lines : List (List ℕ)) → cut_of text ≡ Ok lines
       → StandAlone lines × (has_unended_inside lines ≡ false) × (join lines ≡ text) × (length text ≤ text_limit)
   pub size : (line : List ℕ) → cut_of line ≡ Ok (line ∷ []) → (0 < length line) × (length line ≤ line_limit)
@@ -127,7 +128,8 @@ pub ended_with : (front old new : List (List ℕ)) → NoLess old new → has_un
     → has_unended_inside (front ++ new) ≡ false
 ended_with [] old new fewer h g = h
 ended_with (f ∷ front) old new fewer h g =
-    ended_before f (front ++ old) (front ++ new) (no_less_behind front old new fewer) (ended_with front old new fewer h (ended_tail f (front ++ old) g)) g
+    ended_before f (front ++ old) (front ++ new) (no_less_behind front old new fewer)
+    (ended_with front old new fewer h (ended_tail f (front ++ old) g)) g
 
 pub ended_behind : (front old : List (List ℕ)) → has_unended_inside (front ++ old) ≡ false → has_unended_inside old ≡ false
 ended_behind [] old g = g
@@ -142,10 +144,12 @@ says_both [] ys a b = b
 says_both (x ∷ xs) ys a b = (a.0, says_both xs ys a.1 b)
 
 pub alone_at : (front : List Line) (line : Line) (after : List Line) → IsWhole (front ++ line ∷ after) → cut_of line.text ≡ Ok (line.text ∷ [])
-alone_at front line after whole = (alone_parts (texts front) (texts (line ∷ after)) (subst StandAlone (texts_append front (line ∷ after)) whole.each)).1.0
+alone_at front line after whole =
+    (alone_parts (texts front) (texts (line ∷ after)) (subst StandAlone (texts_append front (line ∷ after)) whole.each)).1.0
 
 pub after_alone : (front : List Line) (line : Line) (after : List Line) → IsWhole (front ++ line ∷ after) → StandAlone (texts after)
-after_alone front line after whole = (alone_parts (texts front) (texts (line ∷ after)) (subst StandAlone (texts_append front (line ∷ after)) whole.each)).1.1
+after_alone front line after whole =
+    (alone_parts (texts front) (texts (line ∷ after)) (subst StandAlone (texts_append front (line ∷ after)) whole.each)).1.1
 
 pub says_at : (front : List Line) (line : Line) (after : List Line) → IsWhole (front ++ line ∷ after) → ReadsLine line.text line.node
 says_at front line after whole = (says_parts front (line ∷ after) whole.walk.says).1.0
