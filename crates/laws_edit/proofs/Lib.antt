@@ -4,6 +4,7 @@ mod WithoutLine
 mod OwnedBytes
 mod DropDef
 mod PruneSplice
+mod DropLaw
 mod RunEnds
 mod FormEnds
 mod TokenEnds

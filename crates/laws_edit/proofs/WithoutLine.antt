@@ -7,14 +7,14 @@ use Rattle.sudoers_tree.specs.Reading.{read_of}
 use Rattle.laws_edit.proofs.Whole.{Laws, IsWhole, whole_of, read_whole, whole_without, remove_at}
 
 -- a list, cut at one of its items
-record Cut {X : Type 0} (xs : List X) (at : ℕ) : Type 0 where
-  front : List X
-  one : X
-  rest : List X
-  is : xs ≡ front ++ one ∷ rest
-  place : length front ≡ at
+pub record Cut {X : Type 0} (xs : List X) (at : ℕ) : Type 0 where
+  pub front : List X
+  pub one : X
+  pub rest : List X
+  pub is : xs ≡ front ++ one ∷ rest
+  pub place : length front ≡ at
 
-cut_at : {X : Type 0} (xs : List X) (at : ℕ) → at < length xs → Cut xs at
+pub cut_at : {X : Type 0} (xs : List X) (at : ℕ) → at < length xs → Cut xs at
 cut_at [] at l = absurd (omega (arith, l))
 cut_at (x ∷ xs) zero l = record { front = []; one = x; rest = xs; is = refl; place = refl }
 cut_at {X} (x ∷ xs) (suc at) l =

@@ -1,10 +1,14 @@
 //! Laws of edits of policies. Each is the contract of a function that does nothing.
 
-ghost use Rattle.std.specs.Prelude.{◌≡◌, ◌<◌, length, remove, ℕ, List, Ok, Err};
+ghost use Rattle.std.specs.Prelude.{◌≡◌, ◌<◌, ◌≤◌, length, remove, slice_get, ℕ, List, Some, Ok, Err};
 ghost use Rattle.sudoers_text.specs.Line.{join};
+ghost use Rattle.sudoers_line.specs.declared.node.Kind.{Kind as KindOf};
+ghost use Rattle.sudoers_line.specs.Node.{Def as DefOf};
+ghost use Rattle.sudoers_line.specs.Node as node_of;
 ghost use Rattle.sudoers_tree.specs.Line.{Line as LineOf};
 ghost use Rattle.sudoers_tree.specs.Policy.{texts};
 ghost use Rattle.sudoers_tree.specs.Reading.{read_of};
+ghost use Rattle.sudoers_edit_script.specs.declared.edit.Edit.TheVariants.{DropDef};
 ghost use Rattle.sudoers_edit.specs.Editing.{step as step_of};
 ghost use Rattle.sudoers_edit.specs.declared.fault.EditFault.{EditFault as EditFaultOf};
 
@@ -20,6 +24,25 @@ use sudoers_tree::laws::{one_outcome, policy_is_cut, read_is};
 pub fn policy_without_line_is_one()
     ensures { (policy : List LineOf) (at : ℕ) → read_of (join (texts policy)) ≡ Ok policy → at < length policy
         → read_of (join (texts (remove policy at))) ≡ Ok (remove policy at) }
+{
+    cut_is();
+    lines_of_join();
+    lines_stand_alone();
+    line_alone_size();
+    line_alone_is_whole();
+    outcome_is();
+    definitions_ascend();
+    read_is();
+    one_outcome();
+    policy_is_cut();
+}
+
+/// A drop of a definition that stands in its line with others, where it is refused, is refused for a splice: the line would not read
+/// as before but for that definition, or this would not own exactly the bytes that go with it.
+pub fn drop_is_refused_for_a_splice_alone()
+    ensures { (policy : List LineOf) (line : LineOf) (kind : KindOf) (defs : List DefOf) (n at : ℕ) (fault : EditFaultOf)
+        → read_of (join (texts policy)) ≡ Ok policy → slice_get policy n ≡ Some line → line.node ≡ node_of.Alias kind defs
+        → at < length defs → 2 ≤ length defs → step_of (DropDef n at) (texts policy) ≡ Err fault → fault ≡ EditFault.BadSplice }
 {
     cut_is();
     lines_of_join();
