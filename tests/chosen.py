@@ -96,6 +96,9 @@ EDITS = (
     "move_of_an_open_last_line_before_another",
     "openend_of_a_line_that_ends_in_a_continuation_and_a_line_end",
     "endline_of_an_empty_policy",
+    "redo_of_a_prune_makes_it_again_whole",
+    "redo_makes_the_edit_first_that_was_undone_last",
+    "an_edit_that_would_be_undone_is_refused",
 )
 SHOWS = (
     "show_of_standard_input",

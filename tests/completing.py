@@ -132,7 +132,10 @@ ROWS = (
     (("show", "--root", "sub", "s"), (FOLDER,)),
     (("show", "policy", "w"), ()),
     (("edit", ""), ()),
-    (("edit", "--"), ("--help",)),
+    (("edit", "-"), ("-h", "--help", "--redo", "--undo")),
+    (("edit", "--r"), ("--redo",)),
+    (("edit", "--undo", ""), ()),
+    (("edit", "--undo", "1", "--r"), ("--redo",)),
     (("help", ""), ("check", "convert", "edit", "list", "show")),
     (("help", "s"), ("show",)),
     (("help", "show", ""), ()),
@@ -145,7 +148,7 @@ ZSH_ROWS = {
         *("-e", "--expand-aliases", "-h", "--help"),
         *("-m", "--match", "-p", "--prune-matches", "--root"),
     ),
-    ("edit", ""): ("-h", "--help"),
+    ("edit", ""): ("-h", "--help", "--redo", "--undo"),
 }
 
 
@@ -304,7 +307,7 @@ def run_lists(program, tally):
     tally.note("completed commands", difference("commands", commands_of_help(whole), set(COMMANDS)))
     options = dict(ROWS)
     wanted = {name: set(options[name, "-"]) for name in ("check", "convert", "list")}
-    wanted |= {"edit": {"-h", "--help"}, "show": {"-h", "--help", "--root"}}
+    wanted |= {"edit": {"-h", "--help", "--redo", "--undo"}, "show": {"-h", "--help", "--root"}}
     tally.note("completed options", difference("options", options_of_help(whole), set(options[("-",)])))
     for name, text in each.items():
         tally.note(f"completed options of {name}", difference("options", options_of_help(text), wanted.get(name)))

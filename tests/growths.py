@@ -3,7 +3,7 @@
 The growths of a change do not depend on how many aliases a policy has. A comment is replaced before many lines of aliases
 and before few. The growths of the same policy with a call that changes nothing are taken off.
 
-Each growth of an edit of each kind, and of its undo, is refused in turn. Then the policy, its names and the journal have to
+Each growth of an edit of each kind, of its undo and of its redo, is refused in turn. Then the policy, its names and the journal have to
 be as before, and the same call, made again, has to answer as with ample memory.
 """
 
@@ -64,7 +64,7 @@ EDITS = (
 )
 MOST = 2_000
 NAMES = ((b"U", b"A"), (b"U", b"B"), (b"U", b"C"), (b"H", b"H"), (b"H", b"I"), (b"C", b"USED"), (b"C", b"UNUSED"), (b"R", b"R"))
-QUERIES = [call(b"t"), call(b"s"), call(b"a")]
+QUERIES = [call(b"t"), call(b"s"), call(b"e"), call(b"a")]
 QUERIES += [call(byte, named(KIND_OF[kind], name)) for kind, name in NAMES for byte in (b"d", b"m")]
 
 
@@ -107,11 +107,12 @@ def refuse_each(shim, program, tally, what, calls):
 
 
 def refuse_edits(shim, program, tally):
-    """Refuses each growth of each edit and of its undo."""
+    """Refuses each growth of each edit, of its undo and of its redo."""
     for edit in EDITS:
         made = call(b"1", edit)
         refuse_each(shim, program, tally, f"growths of {edit!r}", [made])
         refuse_each(shim, program, tally, f"growths of the undo of {edit!r}", [made, call(b"-")])
+        refuse_each(shim, program, tally, f"growths of the redo of {edit!r}", [made, call(b"-"), call(b">")])
     closed = [call(b"1", b"openend\n"), call(b"1", b"endline\n")]
     refuse_each(shim, program, tally, "growths of endline", closed)
 

@@ -74,7 +74,7 @@ def words_of(cell):
 
 def given_of(name, cell):
     """What a cell or a setting of this name hands in: words or a text."""
-    return words_of(cell) if name in ("words", "asked") else text_of(cell)
+    return words_of(cell) if name in ("words", "asked", "counts") else text_of(cell)
 
 
 def split_at(sign, text):
@@ -128,6 +128,16 @@ def pruned(given, answer):
     return Case("", (), joined(given["script"], given["policy"]), Wanted(joined(*answer)))
 
 
+def undone(given, answer):
+    """The same, with the words of `edit` that say how many edits to undo and redo."""
+    return replace(pruned(given, answer), words=(b"edit", *given["counts"]))
+
+
+def undone_refused(given, answer):
+    """The words of `edit` with counts, a script, a policy and the error."""
+    return replace(refused(given, answer), words=(b"edit", *given["counts"]))
+
+
 def accepted(given, answer):
     """The same, but the undo script leads back to the script too. Only edits that undo `prune` do not."""
     return replace(pruned(given, answer), back=True)
@@ -175,6 +185,8 @@ FORMS = {
     "script %% policy => error": Form(("script", "policy"), 1, refused),
     "script %% policy => undo %% edited": Form(("script", "policy"), 2, accepted),
     "pruning script %% policy => undo %% edited": Form(("script", "policy"), 2, pruned),
+    "counts %% script %% policy => undo %% edited": Form(("counts", "script", "policy"), 2, undone),
+    "counts %% script %% policy => error": Form(("counts", "script", "policy"), 1, undone_refused),
     "policy => first line": Form(("policy",), 1, first_line),
     "policy => printed": Form(("policy",), 1, printed, ("words",)),
     "policy => not printed": Form(("policy",), 1, not_printed, ("words",)),

@@ -168,7 +168,9 @@ EDITOR_CALLS = {
     "apply": (b"1", "bytes", drawn_outcome),
     "apply-all": (b"+", "bytes", drawn_outcome),
     "undo": (b"-", "", drawn_outcome),
+    "redo": (b">", "", drawn_outcome),
     "steps": (b"s", "", str),
+    "redos": (b"e", "", str),
     "inverse": (b"<", "", drawn_bytes),
 }
 TEXT_CALLS = {

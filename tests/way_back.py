@@ -6,11 +6,13 @@ from program import Wanted, run
 
 MARK = b"%%\n"
 EDITS = ((), (b"edit",))
+COUNTS = (b"--undo", b"--redo")
 
 
 def is_accepted(words, wanted):
-    """Whether a case of these words is an edit that is accepted."""
-    return tuple(words) in EDITS and wanted.status == 0
+    """Whether a case of these words is an edit that is accepted. It may have counts of edits to undo and redo."""
+    is_edit = tuple(words) in EDITS or tuple(words[:1]) == EDITS[1] and words[1] in COUNTS
+    return is_edit and wanted.status == 0
 
 
 def policy_of(text):
@@ -21,9 +23,9 @@ def policy_of(text):
 def problems(program, words, stdin, stdout, whole):
     """The lines that say where `stdout`, given as input again, does not lead back to `stdin`.
 
-    It has to give all of it back if it is asked whole, and its policy in any case.
+    It has to give all of it back if it is asked whole, and its policy in any case. No edit of it is undone.
     """
-    answer = run(program, words, stdout)
+    answer = run(program, words[:1], stdout)
     if not whole:
         stdin, answer = policy_of(stdin), replace(answer, stdout=policy_of(answer.stdout))
     lines = Wanted(stdin).problems(answer)

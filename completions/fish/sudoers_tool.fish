@@ -17,6 +17,7 @@ function __sudoers_tool_plain_words
             contains -- "$plain[1]" check convert list show; and test $word = --root; and set option $word
             contains -- convert $plain; and contains -- $word -f --form -m --match; and set option $word
             contains -- list $plain; and contains -- $word -U --other-user -u --user -g --group; and set option $word
+            contains -- edit $plain; and contains -- $word --undo --redo; and set option $word
             contains -- list $plain; and contains -- $word --passwd --group-file --host --moment --interfaces; and set option $word
         else
             set -a plain $word
@@ -89,6 +90,8 @@ complete -c sudoers_tool -n '__fish_seen_subcommand_from convert' -s e -l expand
 complete -c sudoers_tool -n '__fish_seen_subcommand_from convert' -s f -l form -x -a 'json sudoers' -d 'Form of the output: sudoers or json'
 complete -c sudoers_tool -n '__fish_seen_subcommand_from convert' -s m -l match -x -a '(__sudoers_tool_filter)' -d 'Print only rules for some users, groups and hosts'
 complete -c sudoers_tool -n '__fish_seen_subcommand_from convert' -s p -l prune-matches -d 'With -m, drop other users and hosts from the lists'
+complete -c sudoers_tool -n '__fish_seen_subcommand_from edit' -l undo -x -d 'Number of edits to take back after the script'
+complete -c sudoers_tool -n '__fish_seen_subcommand_from edit' -l redo -x -d 'Number of these edits to make again'
 complete -c sudoers_tool -n __sudoers_tool_option_of_list -s U -l other-user -x -a '(__fish_complete_users)' -d 'User who would run the command'
 complete -c sudoers_tool -n __sudoers_tool_option_of_list -s u -l user -x -a '(__fish_complete_users)' -d 'User as whom it would run'
 complete -c sudoers_tool -n __sudoers_tool_option_of_list -s g -l group -x -a '(__fish_complete_groups)' -d 'Group as which it would run'

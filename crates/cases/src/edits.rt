@@ -94,7 +94,9 @@ fn push_of_editor(
         // A script.
         b'+' => push_all_applied(alloc, editor, call.body, answers),
         b'-' => push_debug(&editor.undo(), answers),
+        b'>' => push_debug(&editor.redo(), answers),
         b's' => push_shown(&editor.steps(), answers),
+        b'e' => push_shown(&editor.redos(), answers),
         b'<' => push_script(alloc, editor.inverse()?.as_slice(), answers),
         _ => policies::push_query(alloc, editor.policy(), call, answers),
     }

@@ -15,7 +15,7 @@ use sudoers_match_list::Acyclic;
 
 /// Returns the answer to `request` of the policy of `editor`, as it stands: of the last row that fits. The edits of the journal lead to
 /// that policy from the first one, whether they were applied one by one or in a list that was refused in the middle, and whether
-/// others were undone.
+/// some were undone and made again.
 ///
 /// # Errors
 ///

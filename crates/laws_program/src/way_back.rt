@@ -10,8 +10,9 @@ use sudoers_edit_script::laws::{
 use sudoers_tree::laws::read_is;
 
 /// What `edit` wrote, given to it again, leads back to the policy that was read, byte for byte, if it is not too large an input.
+/// This holds whatever numbers of edits were taken back and made again for it.
 pub fn edit_leads_back()
-    ensures { (input out : List ℕ) → output_of input ≡ Ok out → length out ≤ input_limit → LeadsBack input out }
+    ensures { (undo redo : ℕ) (input out : List ℕ) → output_of undo redo input ≡ Ok out → length out ≤ input_limit → LeadsBack input out }
 {
     read_is();
     read_is_spelling();

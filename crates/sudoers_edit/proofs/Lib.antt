@@ -19,6 +19,7 @@ mod PruneLemmas
 mod PruneNumbers
 pub mod RenameExamples
 mod ReadLemmas
+mod RedoLemmas
 mod RenameLemmas
 mod RenameSteps
 mod ReplaceLemmas

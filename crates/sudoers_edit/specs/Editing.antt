@@ -1,5 +1,5 @@
 -- What an edit does to the lines of a policy, and what takes it back.
-use Rattle.std.specs.Prelude.{◌≡◌, ◌⊎◌, ℕ, ◌+◌, List, [], ◌∷◌, ◌++◌, slice_index_or, map, reverse, Option, Some, Result, Ok, Err, unwrap_or, option_and_then, IsSomeAnd}
+use Rattle.std.specs.Prelude.{◌≡◌, ◌⊎◌, ℕ, ◌+◌, List, [], ◌∷◌, ◌++◌, slice_index_or, map, reverse, Option, Some, Result, Ok, Err, unwrap_or, option_and_then, IsSomeAnd, IsOkAnd}
 use Rattle.std.specs.Result.{result_ok, result_unwrap_or}
 use Rattle.sudoers_edit.specs.Landing.{policy_of}
 use Rattle.sudoers_edit.specs.LineEdits.{with_line, without_line, with_move, with_last, with_end, without_lf, ended_or_refusal}
@@ -119,10 +119,16 @@ abbrev pub first_lines : List Entry → Lines → Lines
 first_lines [] now = now
 first_lines (entry ∷ entries) now = first_lines entries (unwrap_or (run entry.inverse now) now)
 
--- an editor: its lines, and the entries of its journal, the oldest first
+-- The undone edits, the last undone first, are defined in turn from the present lines on.
+abbrev pub IsRedoable : List Edit → Lines → Type 0
+IsRedoable [] now = Unit {0}
+IsRedoable (edit ∷ edits) now = IsOkAnd (step edit now) (IsRedoable edits)
+
+-- an editor: its lines, the entries of its journal, the oldest first, and the edits that were undone, the last undone first
 pub record Desk : Type 0 where
   pub lines : Lines
   pub journal : List Entry
+  pub undone : List Edit
 
 abbrev pub edits_of : List Entry → List Edit
 edits_of entries = map (λ (entry : Entry). entry.edit) entries

@@ -9,6 +9,7 @@ pub mod Pruning
 pub mod Memory
 pub mod Editing
 pub mod Undoing
+pub mod Redoing
 pub mod Named
 pub mod WayBack
 pub mod internal

@@ -3,10 +3,12 @@ use Rattle.std.specs.Prelude.{◌≡◌, [], ◌∷◌, ◌++◌, Some, Ok}
 use Rattle.sudoers_edit.specs.declared.editor.Entry.{Entry}
 use Rattle.sudoers_edit.specs.Editing.{Desk, step, inv, run}
 
--- The last edit of the journal is taken back, whole: the lines and the journal are those just before it.
+-- The last edit of the journal is taken back, whole: the lines and the journal are those just before it. It comes first among
+-- the undone edits.
 pub record TakesLast (old new : Desk) : Type 0 where
   pub last : Entry
   pub journal : old.journal ≡ new.journal ++ last ∷ []
   pub forth : step last.edit new.lines ≡ Ok old.lines
   pub inverse_is : last.inverse ≡ inv last.edit new.lines
   pub back : run last.inverse old.lines ≡ Some new.lines
+  pub undone : new.undone ≡ last.edit ∷ old.undone

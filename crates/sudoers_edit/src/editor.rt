@@ -1,4 +1,4 @@
-//! The editor: a policy, and a journal of its edits.
+//! The editor: a policy, a journal of its edits, and the edits that were undone.
 ghost use Rattle.std.specs.Prelude.{◌≡◌, ◌⊎◌, ◌<◌, ◌∷◌, [], ◌++◌, length, reverse, Some, None, Ok, Err, IfOk, IfErr, OnOk, OnErr, MatchResult, true, false, List, ℕ, take};
 ghost use Rattle.std.specs.List.{flat_map};
 ghost use Rattle.sudoers_tree.specs.Policy.{texts};
@@ -18,40 +18,45 @@ pub struct Entry {
     pub inverse: Edits,
 }
 
-/// A policy, and the accepted edits that stand, the oldest first. The policy that it began with is kept nowhere: the
-/// journal leads back to it.
+/// A policy, the accepted edits that stand, the oldest first, and those that were undone, the last undone at the end. The
+/// policy that it began with is kept nowhere: the journal leads back to it.
 #[derive(Drop)]
 pub struct Editor {
     policy: OneFile,
     journal: Vec<Entry>,
+    undone: Vec<Edit>,
 }
 
 impl Model for Editor {
     ghost use Rattle.std.specs.Prelude.{reverse};
     ghost use Rattle.sudoers_tree.specs.Policy.{texts};
-    ghost use Rattle.sudoers_edit.specs.Editing.{Desk, IsUndoable};
+    ghost use Rattle.sudoers_edit.specs.Editing.{Desk, IsUndoable, IsRedoable};
 
     ghost Value = { Desk };
 
-    ghost view = { λ editor. record { lines = texts editor.policy; journal = editor.journal.items } };
+    ghost view = { λ editor. record { lines = texts editor.policy; journal = editor.journal.items; undone = reverse editor.undone.items } };
 
-    ghost invariant = { λ editor. IsUndoable (reverse editor.journal.items) (texts editor.policy) };
+    ghost invariant = { λ editor. IsUndoable (reverse editor.journal.items) (texts editor.policy)
+        × IsRedoable (reverse editor.undone.items) (texts editor.policy) };
 }
 
 impl Editor {
-    ghost use Rattle.sudoers_edit.specs.Editing.{step, inv, run, run_all, inv_run, first_of, edits_of, Refuses, StopsAt};
+    ghost use Rattle.sudoers_edit.specs.Editing.{Desk, step, inv, run, run_all, inv_run, first_of, edits_of, Refuses, StopsAt};
     ghost use Rattle.sudoers_edit.specs.Memory.{TellsMemoryAlone};
     ghost use Rattle.sudoers_edit.specs.Undoing.{TakesLast};
+    ghost use Rattle.sudoers_edit.specs.Redoing.{MakesAgain, undone_behind};
 
-    /// The policy, and an empty journal.
+    /// Returns an editor of `policy` with an empty journal, and with nothing to make again.
     pub fn new(policy: OneFile) -> Editor
         ensures lines { result.lines ≡ texts policy }
         ensures journal { result.journal ≡ [] }
+        ensures undone { result.undone ≡ [] }
     {
         let alloc = policy.allocator();
         Editor {
             policy,
             journal: Vec::new(alloc),
+            undone: Vec::new(alloc),
         }
     }
 
@@ -60,6 +65,7 @@ impl Editor {
     pub fn policy(&self) -> &OneFile
         ensures lines { texts result.now ≡ self.now.lines }
         ensures forth { run (edits_of self.now.journal) (first_of self.now) ≡ Some (texts result.now) }
+        ensures accepted { run_all 0 (edits_of self.now.journal) (first_of self.now) ≡ Ok (texts result.now) }
     {
         &self.policy
     }
@@ -71,7 +77,14 @@ impl Editor {
         self.journal.len()
     }
 
-    /// Makes the edit, or says why it is refused.
+    /// Returns how many undone edits can be made again.
+    pub fn redos(&self) -> usize
+        ensures { result ≡ length self.now.undone }
+    {
+        self.undone.len()
+    }
+
+    /// Makes `edit`. After that nothing can be made again.
     ///
     /// # Errors
     ///
@@ -86,7 +99,9 @@ impl Editor {
         ensures back { OnOk result (run (inv edit.now self.old.lines) self.new.lines ≡ Some self.old.lines) }
         // It still leads back to the same lines.
         ensures begun { first_of self.new ≡ first_of self.old }
-        // A refusal is the definition's, or want of memory, and changes neither lines nor journal.
+        // No edit that was undone before can be made again.
+        ensures undone { OnOk result (self.new.undone ≡ []) }
+        // A refusal is the definition's, or want of memory. It changes neither lines, journal nor undone edits.
         ensures refused { IfErr result (λ fault. Refuses fault (step edit.now self.old.lines)) }
         ensures unchanged { OnErr result (self.new ≡ self.old) }
         // Want of memory is `NoMemory` alone: no other fault holds it.
@@ -102,16 +117,17 @@ impl Editor {
                 inverse,
             })
             .unwrap();
+        self.undone.clear();
         Ok(())
     }
 
-    /// Takes back the last edit that stands, whole, and answers true; where none stands, false.
+    /// Takes back the last edit that stands, whole, keeps it to be made again, and returns true. Returns false if none stands.
     ///
     /// # Errors
     ///
     /// Want of memory alone; the editor is then as it was.
     pub fn undo(&mut self) -> Result<bool, EditFault>
-        // The lines and the journal are those before the last edit of it.
+        // The lines and the journal are those before the last edit of it, which comes first among the undone edits.
         ensures taken { result ≡ Ok true → TakesLast self.old self.new }
         // Nothing is taken back exactly where there is nothing.
         ensures none { result ≡ Ok false → (self.old.journal ≡ []) × (self.new ≡ self.old) }
@@ -121,11 +137,41 @@ impl Editor {
         // What stands still leads back to the same lines.
         ensures begun { first_of self.new ≡ first_of self.old }
     {
-        let Some(entry) = self.journal.last() else {
+        let Some(last) = self.journal.last() else {
             return Ok(false);
         };
-        make_all(&mut self.policy, entry.inverse.as_slice())?;
-        let _ = self.journal.pop();
+        self.undone.reserve(1)?;
+        make_all(&mut self.policy, last.inverse.as_slice())?;
+        let entry = self.journal.pop().unwrap();
+        self.undone.push(entry.edit).unwrap();
+        Ok(true)
+    }
+
+    /// Makes the last undone edit again, whole, and returns true. Returns false if there is none.
+    ///
+    /// # Errors
+    ///
+    /// Want of memory alone; the editor is then as it was.
+    pub fn redo(&mut self) -> Result<bool, EditFault>
+        // The lines are those of the edit, and the journal grows by it with what takes it back.
+        ensures made { result ≡ Ok true → MakesAgain self.old self.new }
+        // A redo just after an undo gives back the lines, the journal and the undone edits before both.
+        ensures back { (begun : Desk) → TakesLast begun self.old → OnOk result (self.new ≡ begun) }
+        // Nothing is made exactly where nothing is undone.
+        ensures none { result ≡ Ok false → (self.old.undone ≡ []) × (self.new ≡ self.old) }
+        ensures empty { self.old.undone ≡ [] → result ≡ Ok false }
+        ensures refused { IfErr result (λ fault. fault ≡ EditFault.NoMemory) }
+        ensures unchanged { OnErr result (self.new ≡ self.old) }
+        // What stands still leads back to the same lines.
+        ensures begun { first_of self.new ≡ first_of self.old }
+    {
+        let Some(undone) = self.undone.last() else {
+            return Ok(false);
+        };
+        self.journal.reserve(1)?;
+        let inverse = make(&mut self.policy, undone)?;
+        let edit = self.undone.pop().unwrap();
+        self.journal.push(Entry { edit, inverse }).unwrap();
         Ok(true)
     }
 
@@ -147,6 +193,9 @@ impl Editor {
         // Want of memory is `NoMemory` alone: no other fault holds it.
         ensures memory { IfErr result (λ refused. TellsMemoryAlone refused.1) }
         ensures begun { first_of self.new ≡ first_of self.old }
+        // After an edit that was made, no edit that was undone before can be made again. If none was made, the undone edits stay.
+        ensures undone { MatchResult result (λ _. self.new.undone ≡ undone_behind edits.now self.old.undone)
+            (λ refused. self.new.undone ≡ undone_behind (take refused.0 edits.now) self.old.undone) }
     {
         for (place, edit) in edits.iter().enumerate() {
             if let Err(fault) = self.apply(edit) {

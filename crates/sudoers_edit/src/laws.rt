@@ -2,7 +2,9 @@
 
 ghost use Rattle.std.specs.Prelude.{◌≡◌, length, ℕ, List, Ok};
 ghost use Rattle.sudoers_tree.specs.Policy.{texts};
-ghost use Rattle.sudoers_edit.specs.Editing.{step as step_of, inv, run_all, inv_run, prune_list, without_place};
+ghost use Rattle.sudoers_edit.specs.Editing.{Desk, step as step_of, inv, run_all, inv_run, prune_list, without_place};
+ghost use Rattle.sudoers_edit.specs.Undoing.{TakesLast};
+ghost use Rattle.sudoers_edit.specs.Redoing.{MakesAgain};
 ghost use Rattle.sudoers_text.specs.Line.{join};
 ghost use Rattle.sudoers_tree.specs.Line.{Line as LineOf};
 ghost use Rattle.sudoers_tree.specs.Reading.{read_of};
@@ -54,4 +56,9 @@ pub fn inverse_leads_back()
 pub fn prune_is_its_list()
     ensures step { (lines : List (List ℕ)) → step_of Edit.Prune lines ≡ without_place (run_all 0 (prune_list lines) lines) }
     ensures inverse { (lines : List (List ℕ)) → inv Edit.Prune lines ≡ inv_run (prune_list lines) lines }
+{}
+
+/// A law: an edit that is taken back and then made again leaves the lines, the journal and the undone edits as they were.
+pub fn redo_takes_undo_back()
+    ensures { (old mid new : Desk) → TakesLast old mid → MakesAgain mid new → new ≡ old }
 {}

@@ -6,3 +6,4 @@ mod ShowLemmas
 mod RewriteLemmas
 mod ListLemmas
 mod ListEnds
+mod UndoLemmas

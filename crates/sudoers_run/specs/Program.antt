@@ -1,5 +1,5 @@
 -- What `edit` writes for what it reads, and its faults in their order.
-use Rattle.std.specs.Prelude.{◌≡◌, ◌⊎◌, ℕ, Bool, false, ◌&&◌, ◌==◌, nat_lt, if◌then◌else◌, List, [], ◌∷◌, ◌++◌, length, Option, Some, None, Result, Ok, Err}
+use Rattle.std.specs.Prelude.{◌≡◌, ◌⊎◌, ℕ, Bool, false, ◌&&◌, ◌==◌, nat_lt, ◌+◌, ◌-◌, min, take, if◌then◌else◌, List, [], ◌∷◌, ◌++◌, length, Option, Some, None, Result, Ok, Err}
 use Rattle.std.specs.Option.{option_map}
 use Rattle.sudoers_text.specs.Line.{join}
 use Rattle.sudoers_tree.specs.declared.fault.ReadFault.{ReadFault}
@@ -63,39 +63,52 @@ output_text inverse lines =
     else Ok (spelling inverse ++ 37 ∷ 37 ∷ 10 ∷ [] ++ join lines)
 
 -- what comes of edits of these lines: the inverse script, the mark and the edited policy, or the first refusal
-abbrev pub edited_output : List Edit → List (List ℕ) → Result (List ℕ) LayerFault
-edited_output edits lines = by_edit (run_all 0 edits lines) >>= (λ new. output_text (inv_run edits lines) new)
+abbrev pub output_of_edits : List Edit → List (List ℕ) → Result (List ℕ) LayerFault
+output_of_edits edits lines = by_edit (run_all 0 edits lines) >>= (λ new. output_text (inv_run edits lines) new)
+
+-- how many of the edits stand after up to `undo` of them were taken back, and up to `redo` of these made again
+abbrev pub how_many_stand : (undo redo made : ℕ) → ℕ
+how_many_stand undo redo made = made - min undo made + min redo (min undo made)
+
+-- the edits that then stand: the first ones
+abbrev pub edits_that_stand : (undo redo : ℕ) → List Edit → List Edit
+edits_that_stand undo redo edits = take (how_many_stand undo redo (length edits)) edits
+
+-- what comes of those edits, unless one of all the edits is refused
+abbrev pub edited_output : (undo redo : ℕ) → List Edit → List (List ℕ) → Result (List ℕ) LayerFault
+edited_output undo redo edits lines =
+    by_edit (run_all 0 edits lines) >>= (λ _. output_of_edits (edits_that_stand undo redo edits) lines)
 
 -- the same of a script and a policy; or the first fault of the script, of the policy, of the edits
-abbrev pub edit_output : List ℕ → List ℕ → Result (List ℕ) LayerFault
-edit_output script policy =
-    by_script (reading script) >>= (λ edits. by_read (read_of policy) >>= (λ lines. edited_output edits (texts lines)))
+abbrev pub edit_output : (undo redo : ℕ) → List ℕ → List ℕ → Result (List ℕ) LayerFault
+edit_output undo redo script policy =
+    by_script (reading script) >>= (λ edits. by_read (read_of policy) >>= (λ lines. edited_output undo redo edits (texts lines)))
 
 abbrev pub by_layer : {A : Type 0} → Result A LayerFault → Result A ToolFault
 by_layer (Ok x) = Ok x
 by_layer (Err fault) = Err (tool.Layer fault)
 
-abbrev pub of_parts : Option (List ℕ × List ℕ) → Result (List ℕ) ToolFault
-of_parts None = Err tool.NoMark
-of_parts (Some parts) = by_layer (edit_output parts.0 parts.1)
+abbrev pub of_parts : (undo redo : ℕ) → Option (List ℕ × List ℕ) → Result (List ℕ) ToolFault
+of_parts undo redo None = Err tool.NoMark
+of_parts undo redo (Some parts) = by_layer (edit_output undo redo parts.0 parts.1)
 
 -- what the program writes for an input, or why it gives up
-abbrev pub output_of : List ℕ → Result (List ℕ) ToolFault
-output_of input =
-    if nat_lt input_limit (length input) then Err tool.InputTooLarge else of_parts (split_text input)
+abbrev pub output_of : (undo redo : ℕ) → List ℕ → Result (List ℕ) ToolFault
+output_of undo redo input =
+    if nat_lt input_limit (length input) then Err tool.InputTooLarge else of_parts undo redo (split_text input)
 
 -- the stated fault, or want of memory
 abbrev pub TellsLayer : {A : Type 0} → LayerFault → Result A LayerFault → Type 0
 TellsLayer fault wanted = (fault ≡ layer.NoMemory) ⊎ (wanted ≡ Err fault)
 
 -- a fault that the input has; those of the devices and of memory say nothing of it
-abbrev pub TellsTool : ToolFault → List ℕ → Type 0
-TellsTool tool.Read input = Unit {0}
-TellsTool tool.Write input = Unit {0}
-TellsTool tool.NoEnd input = Unit {0}
-TellsTool (tool.Layer fault) input = (fault ≡ layer.NoMemory) ⊎ (output_of input ≡ Err (tool.Layer fault))
-TellsTool tool.NoMark input = output_of input ≡ Err tool.NoMark
-TellsTool tool.InputTooLarge input = output_of input ≡ Err tool.InputTooLarge
+abbrev pub TellsTool : (undo redo : ℕ) → ToolFault → List ℕ → Type 0
+TellsTool undo redo tool.Read input = Unit {0}
+TellsTool undo redo tool.Write input = Unit {0}
+TellsTool undo redo tool.NoEnd input = Unit {0}
+TellsTool undo redo (tool.Layer fault) input = (fault ≡ layer.NoMemory) ⊎ (output_of undo redo input ≡ Err (tool.Layer fault))
+TellsTool undo redo tool.NoMark input = output_of undo redo input ≡ Err tool.NoMark
+TellsTool undo redo tool.InputTooLarge input = output_of undo redo input ≡ Err tool.InputTooLarge
 
 -- the faults of the input of `edit`: of its script, of its policy, or of an edit
 abbrev pub IsInputFault : LayerFault → Type 0

@@ -13,6 +13,7 @@ mod loading;
 mod output;
 mod program;
 mod show;
+mod undoing;
 mod words;
 
 pub use check::run_check;

@@ -12,6 +12,7 @@ use crate::device::{Sink, Source};
 use crate::fault::{LayerFault, ToolFault};
 use crate::input::read_all;
 use crate::output::write_all;
+use crate::undoing::{redo_up_to, undo_up_to};
 use std::alloc::Global;
 use sudoers_edit::laws::named_are_written;
 use sudoers_edit::{Edit, Editor, Edits, first_line_len, read_script, write_script};
@@ -24,8 +25,8 @@ pub const INPUT_LIMIT: usize = 4_000_000;
 /// The line between the script and the policy.
 const MARK: &[u8] = b"%%\n";
 
-/// Reads a script, the mark and a policy, and writes the script that takes the edits back, the mark and the edited
-/// policy.
+/// Reads a script, the mark and a policy, makes the edits, takes back up to `undo` of them, the last first, and makes up to
+/// `redo` of these again. Writes the script that takes back the edits that then stand, the mark and the policy that they lead to.
 ///
 /// # Errors
 ///
@@ -34,39 +35,42 @@ const MARK: &[u8] = b"%%\n";
 pub fn run_edit<R: Source, W: Sink>(
     alloc: Global,
     reader: &mut R,
+    undo: u32,
+    redo: u32,
     writer: &mut W,
 ) -> Result<u8, ToolFault>
     // Status 0, and what is written is the stated function of what is read.
     ensures ok { IfOk result (λ status. (status ≡ 0) × IfSome (R.meter reader.old).remaining (λ input.
-        IsOkAnd (output_of input) (Appends (W.contents writer.old) (W.contents writer.new)))) }
+        IsOkAnd (output_of undo redo input) (Appends (W.contents writer.old) (W.contents writer.new)))) }
     // A fault of the input is the stated one.
-    ensures fault { IfErr result (λ fault. IfSome (R.meter reader.old).remaining (TellsTool fault)) }
+    ensures fault { IfErr result (λ fault. IfSome (R.meter reader.old).remaining (TellsTool undo redo fault)) }
     // There are no other faults.
     ensures named { IfErr result IsEditFault }
     // After `Write`, what was written is a beginning of the output.
     ensures front { result ≡ Err ToolFault.Write → IfSome (R.meter reader.old).remaining (λ input.
-        IsOkAnd (output_of input) (AppendsFront (W.contents writer.old) (W.contents writer.new))) }
+        IsOkAnd (output_of undo redo input) (AppendsFront (W.contents writer.old) (W.contents writer.new))) }
     // How the input was read, and that nothing is written before a fault, as the counts of the devices show.
     ensures reads { ReadsFile input_limit (reading_end result) (R.meter reader.old) (R.meter reader.new) }
     ensures writes { Writes result (W.Sink.failures writer.old) (W.Sink.failures writer.new)
         (W.contents writer.old) (W.contents writer.new) }
 {
     let input = read_all(alloc, reader, INPUT_LIMIT)?;
-    let output = answer(alloc, input.as_slice())?;
+    let output = answer(alloc, input.as_slice(), undo, redo)?;
     write_all(writer, output.as_slice())?;
     Ok(0)
 }
 
-/// Returns what is written for the input `input`, which is within the limit.
-fn answer(alloc: Global, input: &[u8]) -> Result<Vec<u8>, ToolFault>
+/// Returns what is written for the input `input`, which is within the limit, if up to `undo` edits are taken back and up to `redo` of
+/// these made again.
+fn answer(alloc: Global, input: &[u8], undo: u32, redo: u32) -> Result<Vec<u8>, ToolFault>
     requires { length input.now ≤ input_limit }
-    ensures ok { IfOk result (λ out. output_of input.now ≡ Ok out.items) }
-    ensures fault { IfErr result (λ fault. TellsTool fault input.now × IsAnswerFault fault) }
+    ensures ok { IfOk result (λ out. output_of undo redo input.now ≡ Ok out.items) }
+    ensures fault { IfErr result (λ fault. TellsTool undo redo fault input.now × IsAnswerFault fault) }
 {
     let Some((script, policy)) = split_mark(input) else {
         return Err(ToolFault::NoMark);
     };
-    let out = edit_output(alloc, script, policy)?;
+    let out = edit_output(alloc, script, policy, undo, redo)?;
     Ok(out)
 }
 
@@ -97,27 +101,43 @@ fn is_mark(line: &[u8]) -> bool
     }
 }
 
-/// Returns the inverse script, the mark and the edited policy, for the script `script` and the policy `policy`.
-fn edit_output(alloc: Global, script: &[u8], policy: &[u8]) -> Result<Vec<u8>, LayerFault>
-    ensures output { MatchResult result (λ out. output_of_edit script.now policy.now ≡ Ok out.items)
-        (λ fault. TellsLayer fault (output_of_edit script.now policy.now)) }
+/// Returns the inverse script, the mark and the edited policy, for the script `script` and the policy `policy`, and for `undo` and
+/// `redo`.
+fn edit_output(
+    alloc: Global,
+    script: &[u8],
+    policy: &[u8],
+    undo: u32,
+    redo: u32,
+) -> Result<Vec<u8>, LayerFault>
+    ensures output { MatchResult result (λ out. output_of_edit undo redo script.now policy.now ≡ Ok out.items)
+        (λ fault. TellsLayer fault (output_of_edit undo redo script.now policy.now)) }
     ensures named { IfErr result IsInputFault }
 {
     named_are_written();
     let edits = read_script(alloc, script)?;
     let policy = OneFile::read(alloc, policy)?;
-    edited(alloc, edits.as_slice(), policy)
+    edited(alloc, edits.as_slice(), policy, undo, redo)
 }
 
-/// Applies `edits` to `policy`, and returns the inverse script, the mark and the edited policy.
-fn edited(alloc: Global, edits: &[Edit], policy: OneFile) -> Result<Vec<u8>, LayerFault>
+/// Applies `edits` to `policy`, takes back up to `undo` of them, and makes up to `redo` of these again. Returns the inverse script of
+/// the edits that then stand, the mark and the edited policy.
+fn edited(
+    alloc: Global,
+    edits: &[Edit],
+    policy: OneFile,
+    undo: u32,
+    redo: u32,
+) -> Result<Vec<u8>, LayerFault>
     requires { AreNamed edits.now }
-    ensures output { MatchResult result (λ out. edited_output edits.now (texts policy) ≡ Ok out.items)
-        (λ fault. TellsLayer fault (edited_output edits.now (texts policy))) }
+    ensures output { MatchResult result (λ out. edited_output undo redo edits.now (texts policy) ≡ Ok out.items)
+        (λ fault. TellsLayer fault (edited_output undo redo edits.now (texts policy))) }
     ensures named { IfErr result IsInputFault }
 {
     let mut editor = Editor::new(policy);
     editor.apply_all(edits)?;
+    undo_up_to(&mut editor, undo)?;
+    redo_up_to(&mut editor, redo)?;
     let inverse = editor.inverse()?;
     named_are_written();
     output(alloc, &inverse, editor.policy())

@@ -24,6 +24,12 @@ const POLICY: &str = "policy";
 /// The command that reads no policy file.
 const EDIT: &str = "edit";
 
+/// The option that says how many edits to take back.
+const UNDO: &str = "undo";
+
+/// The option that says how many of these to make again.
+const REDO: &str = "redo";
+
 /// The forms in which `convert` prints.
 static FORMS: [&str; 2] = ["sudoers", "json"];
 
@@ -70,8 +76,17 @@ fn obey(rt: &HostRuntime, matches: &ArgMatches<'_>) -> ExitCode {
             let file = words.get_str("FILE").unwrap_or(STDIN);
             ended(rt, file, run_on_file(rt, name, file, words))
         }
-        _ => ended(rt, POLICY, edit_streams(rt)),
+        Some((_, words)) => {
+            let (undo, redo) = (number_of(words, UNDO), number_of(words, REDO));
+            ended(rt, POLICY, edit_streams(rt, undo, redo))
+        }
+        None => ended(rt, POLICY, edit_streams(rt, 0, 0)),
     }
+}
+
+/// Returns the number that `words` gives for the option `name`, or 0.
+fn number_of(words: &ArgMatches<'_>, name: &str) -> u32 {
+    words.get_one::<u32>(name).unwrap_or(0)
 }
 
 /// Runs the command `name`, which reads a policy file.
@@ -98,10 +113,25 @@ fn ended(rt: &HostRuntime, file: &str, outcome: Result<u8, ToolFault>) -> ExitCo
 }
 
 /// Returns the command line of `edit`.
-fn edit_words<'a>(alloc: Global) -> Command<'a> {
-    Command::new(alloc, EDIT).about(
-        "Apply an edit script to a policy. Read SCRIPT, `%%`, POLICY on standard input; write UNDO, `%%`, POLICY. UNDO fits that POLICY only. EDIT SCRIPTS of sudoers_tool(8) has the commands",
-    )
+fn edit_words<'a>(alloc: Global) -> Result<Command<'a>, AllocError> {
+    let undo = number_word(alloc, UNDO).help(
+        "After the script, take back up to N of its edits, the last first",
+    );
+    let redo = number_word(alloc, REDO).help("Then make up to N of these edits again");
+    Command::new(alloc, EDIT)
+        .about(
+            "Apply an edit script to a policy. Read SCRIPT, `%%`, POLICY on standard input; write UNDO, `%%`, POLICY. UNDO fits that POLICY only. EDIT SCRIPTS of sudoers_tool(8) has the commands",
+        )
+        .arg(undo)?
+        .arg(redo)
+}
+
+/// Returns the option `name`, whose value is a number of edits.
+fn number_word<'a>(alloc: Global, name: &'a str) -> Arg<'a> {
+    Arg::new(alloc, name)
+        .long(name)
+        .value_name("N")
+        .value_parser(clap::value_parser!(u32))
 }
 
 /// Returns the command line of `show`.
@@ -122,7 +152,7 @@ fn command_words<'a>(alloc: Global) -> Result<Command<'a>, AllocError> {
         .after_help(EXIT_STATUS)
         .subcommand(check_words(alloc)?)?
         .subcommand(convert_words(alloc)?)?
-        .subcommand(edit_words(alloc))?
+        .subcommand(edit_words(alloc)?)?
         .subcommand(list_words(alloc, top_word(alloc), file_word(alloc))?)?
         .subcommand(show_words(alloc)?)
 }
@@ -229,11 +259,11 @@ fn show_usage(rt: &HostRuntime, error: &Error) -> Result<ExitCode, ToolFault> {
     }
 }
 
-/// Edits the policy on standard input, and writes to standard output.
-fn edit_streams(rt: &HostRuntime) -> Result<u8, ToolFault> {
+/// Edits the policy on standard input, takes back up to `undo` edits and makes up to `redo` of these again. Writes to standard output.
+fn edit_streams(rt: &HostRuntime, undo: u32, redo: u32) -> Result<u8, ToolFault> {
     let mut reader = Counted::new(rt.stdin());
     let mut writer = Counted::new(rt.stdout());
-    run_edit(rt.alloc(), &mut reader, &mut writer)
+    run_edit(rt.alloc(), &mut reader, undo, redo, &mut writer)
 }
 
 /// Shows a policy, or standard input.

@@ -32,8 +32,8 @@ use sudoers_line_reader::laws::outcome_is;
 use sudoers_line_rows::laws::growth_goes_on;
 use sudoers_line_rows::{Rows, Tables};
 use sudoers_text::laws::{
-    cut_is, line_alone_is_whole, line_alone_size, lines_of_join, lines_stand_alone, one_list, whole_line_is,
-    whole_lines_of_join,
+    cut_is, line_alone_is_whole, line_alone_size, lines_of_join, lines_stand_alone, one_list,
+    whole_line_is, whole_lines_of_join,
 };
 use sudoers_text::{LINE_LIMIT, TEXT_LIMIT, TextFault, cut};
 

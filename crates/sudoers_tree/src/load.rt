@@ -73,11 +73,7 @@ pub fn read_files(
 }
 
 /// Reads the file `file` into `tables`. Returns its fault, if its text cannot be cut into lines.
-fn read_file(
-    alloc: Global,
-    tables: &mut Tables,
-    file: &NamedFile,
-) -> Result<FileRows, LoadFault>
+fn read_file(alloc: Global, tables: &mut Tables, file: &NamedFile) -> Result<FileRows, LoadFault>
     ensures grown { Grown tables.old tables.new }
     ensures read { ReadsFile result tables.new (cut_file file.now.name (cut_of file.now.bytes)) }
 {

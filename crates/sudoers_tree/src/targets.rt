@@ -107,7 +107,11 @@ fn files_in(alloc: Global, files: &Files<'_>, folder: &[u8]) -> Result<Vec<usize
 /// # Errors
 ///
 /// Memory ran out.
-pub fn targets(alloc: Global, files: &Files<'_>, lead: &Lead) -> Result<Option<Vec<usize>>, AllocError>
+pub fn targets(
+    alloc: Global,
+    files: &Files<'_>,
+    lead: &Lead,
+) -> Result<Option<Vec<usize>>, AllocError>
     ensures { IfOk result (λ inner. MatchOption inner (targets (files_shown files.now) lead.now ≡ None)
         (λ inner. targets (files_shown files.now) lead.now ≡ Some inner.items)) }
 {

@@ -52,10 +52,7 @@ impl Tree {
     /// # Errors
     ///
     /// Memory ran out.
-    pub fn read(
-        alloc: Global,
-        lines: &Lines<'_>,
-    ) -> Result<(Tree, Option<SyntaxFault>), AllocError>
+    pub fn read(alloc: Global, lines: &Lines<'_>) -> Result<(Tree, Option<SyntaxFault>), AllocError>
         requires { length (join lines.now) ≤ text_limit }
         ensures { IfOk result (λ read. read ≡ read_until [] lines.now) }
     {

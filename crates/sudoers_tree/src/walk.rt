@@ -108,12 +108,7 @@ impl<'a> Walk<'a> {
     /// # Errors
     ///
     /// Memory ran out.
-    pub fn mentions(
-        &self,
-        alloc: Global,
-        kind: Kind,
-        name: &[u8],
-    ) -> Result<Vec<Span>, AllocError>
+    pub fn mentions(&self, alloc: Global, kind: Kind, name: &[u8]) -> Result<Vec<Span>, AllocError>
         ensures { IfOk result (λ spans. spans.items ≡ mentions kind name.now self.now) }
     {
         let mut spans = Vec::new(alloc);

@@ -124,8 +124,14 @@ impl WalkedFiles {
 
     /// Puts the files `anew`, which are read in the same tables, in the place of these.
     fn take(&mut self, anew: WalkedAnew)
-        ensures { self.new ≡ record { tables = self.old.tables; files = anew.files; lines = anew.walking.lines; spots = anew.walking.spots;
-            on = anew.walking.on; index = renewed_index self.old.index anew.walking.names } }
+        ensures { self.new ≡ record {
+          tables = self.old.tables;
+          files = anew.files;
+          lines = anew.walking.lines;
+          spots = anew.walking.spots;
+          on = anew.walking.on;
+          index = renewed_index self.old.index anew.walking.names;
+        } }
     {
         let WalkedAnew { files, walking } = anew;
         let Walking {

@@ -17,12 +17,14 @@ use sudoers_run::{
 pub fn edit_before_errors<R: Source, W: Sink>(
     alloc: Global,
     reader: &mut R,
+    undo: u32,
+    redo: u32,
     writer: &mut W,
 ) -> Result<u8, ToolFault>
     ensures writes { Writes result (W.Sink.failures writer.old) (W.Sink.failures writer.new)
         (W.contents writer.old) (W.contents writer.new) }
 {
-    run_edit(alloc, reader, writer)
+    run_edit(alloc, reader, undo, redo, writer)
 }
 
 /// Reads a policy file, and writes what is noted of it. Before an error it writes nothing.

@@ -15,10 +15,12 @@ use sudoers_run::{Sink, Source, ToolFault, run_edit};
 pub fn edit_policy<R: Source, W: Sink>(
     alloc: Global,
     reader: &mut R,
+    undo: u32,
+    redo: u32,
     writer: &mut W,
 ) -> Result<u8, ToolFault>
     ensures ok { IfOk result (λ status. (status ≡ 0) × IfSome (R.meter reader.old).remaining (λ input.
-        IsOkAnd (output_of input) (Appends (W.contents writer.old) (W.contents writer.new)))) }
+        IsOkAnd (output_of undo redo input) (Appends (W.contents writer.old) (W.contents writer.new)))) }
 {
-    run_edit(alloc, reader, writer)
+    run_edit(alloc, reader, undo, redo, writer)
 }

@@ -14,9 +14,11 @@ use sudoers_run::{Sink, Source, ToolFault, run_edit};
 pub fn edit_within_limit<R: Source, W: Sink>(
     alloc: Global,
     reader: &mut R,
+    undo: u32,
+    redo: u32,
     writer: &mut W,
 ) -> Result<u8, ToolFault>
     ensures reads { ReadsFile input_limit (reading_end result) (R.meter reader.old) (R.meter reader.new) }
 {
-    run_edit(alloc, reader, writer)
+    run_edit(alloc, reader, undo, redo, writer)
 }

@@ -42,13 +42,15 @@ pub fn show_told_errors<F: Files, W: Sink>(
 pub fn edit_told_errors<R: Source, W: Sink>(
     alloc: Global,
     reader: &mut R,
+    undo: u32,
+    redo: u32,
     writer: &mut W,
 ) -> Result<u8, ToolFault>
-    ensures fault { IfErr result (λ fault. IfSome (R.meter reader.old).remaining (TellsTool fault)) }
+    ensures fault { IfErr result (λ fault. IfSome (R.meter reader.old).remaining (TellsTool undo redo fault)) }
     ensures front { result ≡ Err ToolFault.Write → IfSome (R.meter reader.old).remaining (λ input.
-        IsOkAnd (output_of input) (AppendsFront (W.contents writer.old) (W.contents writer.new))) }
+        IsOkAnd (output_of undo redo input) (AppendsFront (W.contents writer.old) (W.contents writer.new))) }
 {
-    run_edit(alloc, reader, writer)
+    run_edit(alloc, reader, undo, redo, writer)
 }
 
 /// Reads a policy file, and writes what is noted of it, also that it is no policy.

@@ -4,6 +4,8 @@ use Rattle.sudoers_edit_script.specs.declared.edit.Edit.{Edit}
 use Rattle.sudoers_edit.specs.declared.editor.Entry.{Entry}
 use Rattle.sudoers_edit.specs.Editing.{step, inv, edits_of}
 use Rattle.sudoers_edit.proofs.HistoryLemmas.{run_more, run_all_more, edits_more}
+use Rattle.sudoers_edit.specs.Redoing.{undone_behind}
+use Rattle.sudoers_edit.proofs.RedoLemmas.{none_left}
 use Rattle.sudoers_edit.proofs.editor.Editor.apply_all.Goals as goal
 
 pub loop-place-preserved : goal.loop-place-preserved
@@ -21,4 +23,7 @@ loop-place-preserved c =
       ap edits_of c.in_default.ensures.journal ∙ edits_more c.loop-place.self.journal entry ∙ ap (λ z. z ++ x ∷ []) c.loop-place.invariant.2
           ∙ append_assoc (edits_of c.args.self.now.journal) (take k es) (x ∷ []) ∙ ap (λ z. edits_of c.args.self.now.journal ++ z) (ap (λ (e : Edit). take k es ++ e ∷ []) is ∙ sym (take_more es k x c.loop-place-test.true)),
       c.in_default.ensures.begun ∙ c.loop-place.invariant.3,
+      c.in_default.ensures.undone ∙ sym (none_left (take k es) x c.args.self.now.undone)
+          ∙ ap (λ (made : List Edit). undone_behind made c.args.self.now.undone)
+          (ap (λ (e : Edit). take k es ++ e ∷ []) is ∙ sym (take_more es k x c.loop-place-test.true)),
     )

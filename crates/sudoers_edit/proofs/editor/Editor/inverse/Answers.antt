@@ -11,10 +11,10 @@ use Rattle.sudoers_edit.proofs.editor.Editor.inverse.Goals as goal
 -- the inverses_of edits take back all that stand
 told : (c : goal.After-inverses_of) → IfOk c.inverses_of.result (λ (edits : List Edit). TakesBack c.args.self.now edits)
 told c =
-    let desk : Desk = record { lines = texts c.self.inside.policy; journal = c.self.inside.journal.items } in
+    let desk : Desk = record { lines = texts c.self.inside.policy; journal = c.self.inside.journal.items; undone = reverse c.self.inside.undone.items } in
     subst (λ (d : Desk). IfOk c.inverses_of.result (λ (edits : List Edit). TakesBack d edits)) c.self.view_is
     (IfOk-weaker c.inverses_of.result _ _ (λ (edits : List Edit) is.
-    takes_back desk c.self.invariant edits (is ∙ ap (λ (z : List Entry). flat_map (λ (x : Entry). x.inverse) (reverse z)) c.as_slice.ensures.value)) c.inverses_of.ensures)
+    takes_back desk c.self.invariant.0 edits (is ∙ ap (λ (z : List Entry). flat_map (λ (x : Entry). x.inverse) (reverse z)) c.as_slice.ensures.value)) c.inverses_of.ensures)
 
 pub returns-clause-exact : goal.returns-clause-exact
 returns-clause-exact c = IfOk-weaker c.inverses_of.result _ _ (λ (edits : List Edit) back. back.exact) (told c)
