@@ -50,9 +50,9 @@ fn push_query(policy: &Policy, call: Call<'_>, answers: &mut String) -> Result<(
 fn push_named(policy: &Policy, answers: &mut String) -> Result<(), AllocError> {
     let files = policy.named_files()?;
     for file in files.as_slice() {
-        push_debug(&file.name, answers)?;
+        push_debug(&file.name.as_slice(), answers)?;
         answers.push('\t')?;
-        push_debug(&file.bytes, answers)?;
+        push_debug(&file.bytes.as_slice(), answers)?;
         answers.push('\t')?;
     }
     Ok(())
