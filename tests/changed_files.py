@@ -145,7 +145,7 @@ def drawn_named(line):
     *fields, last = line.split("\t")
     if last or len(fields) % 2:
         return line
-    pieces = [bytes_of(re.search(r"\[.*\]", field)[0]) for field in fields]
+    pieces = [bytes_of(field) for field in fields]
     return list(zip(pieces[::2], pieces[1::2]))
 
 
@@ -159,7 +159,7 @@ def drawn_lines(line):
 
 @dataclass(frozen=True)
 class Step:
-    """A call, its wanted answer, and how its answer is drawn. Changes have no drawing, and are None where it changes nothing."""
+    """A call and its wanted answer. `changes` is None if it changes nothing, and then `drawn` draws the answer. `walk` is the walk after it."""
 
     name: str
     call: bytes

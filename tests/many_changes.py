@@ -50,7 +50,7 @@ OTHERS = (
     "bob \\\n \\\n  {1} = ({0} : {2}) /bin/{0} {1}",
     "%{0} {1} = NOPASSWD: {2}",
 )
-INCLUDES = ("@include a", "@include b", "#includedir d", "@include d/x", "@include /b", "@include main", "@include y")
+INCLUDES = ("@include a", "@include b", "#includedir d", "@include d/x", "@include ../b", "@include main", "@include y")
 FAULTS = ("bob ALL", "User_Alias ALL = x", "Cmnd_Alias b = /b")
 # How many of the changes have at least to come to this.
 LEAST = {"ok": 100, "is defined twice": 5, "Twice": 5, "NotLoaded": 3, "is reserved": 3, "EndOfLine": 3}
@@ -78,19 +78,22 @@ def definition_of(draws, files):
     texts = b"".join(text for _, text in files)
     taken = b" ".join(re.findall(kind.encode() + rb"_Alias ([^\n]*)", texts)).decode()
     free = [name for name in NAMES if f"{name} =" not in taken]
-    name = draws.one_of(NAMES if draws.below(8) == 0 or not free else free)
+    name = draws.one_of(NAMES if draws.below(4) == 0 or not free else free)
     return f"{kind}_Alias {name} = {MEMBERS[kind]}, {draws.one_of(NAMES)}"
 
 
-def line_of(draws, files):
-    """A line that is put."""
-    sort = draws.below(40)
-    if sort < 16:
+def line_of(draws, files, number):
+    """A line that is put into the file with a number. The first mostly gets the includes that it lacks."""
+    sort = draws.below(60)
+    missing = [line for line in INCLUDES[:3] if number == 0 and line.encode() not in files[0][1]]
+    if missing and sort < 30:
+        line = draws.one_of(missing)
+    elif sort < 24:
         line = definition_of(draws, files)
-    elif sort < 36:
+    elif sort < 52:
         line = draws.one_of(OTHERS).format(*(draws.one_of(NAMES) for _ in range(3)))
     else:
-        line = draws.one_of(INCLUDES if sort < 39 else FAULTS)
+        line = draws.one_of(INCLUDES if sort < 58 else FAULTS)
     return line.encode() + b"\n"
 
 
@@ -103,11 +106,11 @@ def changes_of_file(draws, files, number, count):
         at = least + draws.below(len(lines) - least + 1)
         if len(lines) > LONGEST:
             sort = "take"
-        if at == len(lines):
+        if at == len(lines) or lines[at][1:8] == b"include" and draws.below(4):
             sort = "put"
         if sort == "put" and len(lines) > LONGEST:
             break
-        changes.append(Change(sort, number, at, b"" if sort == "take" else line_of(draws, files)))
+        changes.append(Change(sort, number, at, b"" if sort == "take" else line_of(draws, files, number)))
         least = at if sort == "put" else at + 1
     return changes
 
