@@ -166,9 +166,12 @@ def refuse_edits(shim, program, tally):
 
 
 def refuse_changes(shim, program, tally):
-    """Refuses each growth of changes of three files."""
+    """Refuses each growth of changes of three files: of those that read the new lines alone, and where most bytes are unused of all."""
+    unused = [changed_call([Change("swap", 1, 1, text)]) for text in (b"#" * 4_000 + b"\n", b"# n\n")]
     for what, changes in CHANGES.items():
-        refuse_each(shim, program, tally, POLICY, f"growths of {what} of files", [changed_call(changes)])
+        made = changed_call(changes)
+        refuse_each(shim, program, tally, POLICY, f"growths of {what} of files", [made])
+        refuse_each(shim, program, tally, POLICY, f"growths of {what} of files, most bytes unused", [*unused, made])
 
 
 def run_all(_program, tally):

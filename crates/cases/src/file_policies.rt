@@ -31,14 +31,15 @@ pub fn push_answer(
 
 /// Adds the answer to a call that changes nothing.
 fn push_query(policy: &Policy, call: Call<'_>, answers: &mut String) -> Result<(), AllocError> {
+    let (file, number, _) = place_of(call.body);
     match call.asked {
         b'f' => push_walk(policy, answers),
         b'n' => push_files(policy, answers),
         b'N' => push_named(policy, answers),
         // The number of a file: its lines.
-        b'a' => push_lines(policy, place_of(call.body).0, answers),
+        b'a' => push_lines(policy, file, answers),
         // The number of a file, and that of a line there.
-        b'l' => push_line(policy, place_of(call.body), answers),
+        b'l' => push_line(policy, file, number, answers),
         // A kind of alias and a name.
         b'd' => push_definition(policy, call.body, answers),
         b'm' => push_mentions(policy, call.body, answers),
@@ -61,16 +62,17 @@ fn push_named(policy: &Policy, answers: &mut String) -> Result<(), AllocError> {
 /// Adds the lines of a file, with a tab behind each.
 fn push_lines(policy: &Policy, file: usize, answers: &mut String) -> Result<(), AllocError> {
     for number in 0..policy.len(file) {
-        push_line(policy, (file, number, b""), answers)?;
+        push_line(policy, file, number, answers)?;
         answers.push('\t')?;
     }
     Ok(())
 }
 
-/// Adds the text of the line at a place, its kind, and what it says.
+/// Adds the text of the line of a file, its kind, and what it says.
 fn push_line(
     policy: &Policy,
-    (file, number, _): (usize, usize, &[u8]),
+    file: usize,
+    number: usize,
     answers: &mut String,
 ) -> Result<(), AllocError> {
     let text = policy.line(file, number).map(|line| line.text);
