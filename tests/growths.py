@@ -4,12 +4,14 @@ The growths of a change do not depend on how many aliases a policy has. A commen
 and before few. The growths of the same policy with a call that changes nothing are taken off.
 
 Each growth of an edit of each kind, of its undo and of its redo, is refused in turn. Then the policy, its names and the journal have to
-be as before, and the same call, made again, has to answer as with ample memory.
+be as before, and the same call, made again, has to answer as with ample memory. So it is with changes of three files at once.
 """
 
 import os
+from dataclasses import dataclass
 
 from cases import Case
+from changed_files import Change, changed_call
 from preload import Preloaded
 from program import Wanted
 from tables import PROGRAM, call, frame, joined, programs
@@ -63,18 +65,64 @@ EDITS = (
     b"prune\n",
 )
 MOST = 2_000
+
+# Files of a policy, and changes of lines of all three.
+FILES = (
+    (b"main", b"@include a\n@include b\nA h1 = C\n# m\n"),
+    (b"a", b"User_Alias A = x\n# n\n# o\n"),
+    (b"b", b"Cmnd_Alias C = /bin/c\n# p\n# q\n"),
+)
+CHANGES = {
+    "changes of names": (
+        Change("put", 0, 2, b"Host_Alias H = h1\n"),
+        Change("swap", 0, 2, b"A H = D\n"),
+        Change("take", 0, 3),
+        Change("put", 1, 0, b"User_Alias B = A\n"),
+        Change("swap", 1, 1, b"# r\n"),
+        Change("take", 1, 2),
+        Change("put", 2, 0, b"# s\n"),
+        Change("swap", 2, 0, b"Cmnd_Alias D = /bin/d\n"),
+        Change("take", 2, 1),
+    ),
+    "changes beside the names": (
+        Change("put", 0, 0, b"# t\n"),
+        Change("swap", 0, 3, b"bob h2 = (root) C, \\\n  !C\n"),
+        Change("put", 1, 1, b"A h3 = ALL\n"),
+        Change("take", 1, 2),
+        Change("swap", 2, 1, b"# u\n"),
+        Change("put", 2, 3, b"Defaults:A lecture\n"),
+    ),
+    "changes of includes": (
+        Change("take", 0, 0),
+        Change("put", 0, 4, b"User_Alias A = y\n"),
+        Change("put", 1, 3, b"# v\n"),
+        Change("put", 2, 0, b"@includedir d\n"),
+    ),
+}
 NAMES = ((b"U", b"A"), (b"U", b"B"), (b"U", b"C"), (b"H", b"H"), (b"H", b"I"), (b"C", b"USED"), (b"C", b"UNUSED"), (b"R", b"R"))
-QUERIES = [call(b"t"), call(b"s"), call(b"e"), call(b"a")]
-QUERIES += [call(byte, named(KIND_OF[kind], name)) for kind, name in NAMES for byte in (b"d", b"m")]
+ALIASES = [call(byte, named(KIND_OF[kind], name)) for kind, name in NAMES for byte in (b"d", b"m")]
 
 
-def answers_of(shim, program, calls, **settings):
-    """The answers to calls of an editor, each with the answers to the queries after it, and what was refused."""
-    asking = b"".join(QUERIES) + b"".join(one + b"".join(QUERIES) for one in calls)
-    stdin = frame(SUBJECT, b"e", joined(EDITED) + asking)
+@dataclass(frozen=True)
+class Asked:
+    """What calls are of: its sort and its text, and what is asked before them and after each."""
+
+    sort: bytes
+    text: bytes
+    queries: tuple
+
+
+EDITOR = Asked(b"e", EDITED, (call(b"t"), call(b"s"), call(b"e"), call(b"a"), *ALIASES))
+POLICY = Asked(b"f", joined(*(piece for file in FILES for piece in file)), (call(b"f"), call(b"n"), call(b"N"), *ALIASES))
+
+
+def answers_of(shim, program, asked, calls, **settings):
+    """The answers to calls, each with the answers to the queries after it, and what was refused."""
+    asking = b"".join(asked.queries) + b"".join(one + b"".join(asked.queries) for one in calls)
+    stdin = frame(SUBJECT, asked.sort, joined(asked.text) + asking)
     answer, report = shim.run(program, Case("", (), stdin, Wanted(b"")), **settings)
     lines = answer.stdout.split(b"\n")[:-1]
-    size = len(QUERIES)
+    size = len(asked.queries)
     turns = [lines[size + i : size + i + size + 1] for i in range(0, len(lines) - size, size + 1)]
     return lines[:size], turns, report.refused
 
@@ -90,13 +138,13 @@ def refused_problems(first, turns, before):
     )
 
 
-def refuse_each(shim, program, tally, what, calls):
+def refuse_each(shim, program, tally, asked, what, calls):
     """Refuses each growth of the last of these calls in turn, and makes it again."""
-    begun, ample, _ = answers_of(shim, program, calls)
+    begun, ample, _ = answers_of(shim, program, asked, calls)
     before = ample[-2][1:] if len(calls) > 1 else begun
     met = 0
     for number in range(1, MOST):
-        first, turns, refused = answers_of(shim, program, calls + calls[-1:], refuse_growth=number)
+        first, turns, refused = answers_of(shim, program, asked, calls + calls[-1:], refuse_growth=number)
         if not refused:
             break
         is_later = first == begun and turns[: len(calls) - 1] == ample[:-1]
@@ -110,11 +158,20 @@ def refuse_edits(shim, program, tally):
     """Refuses each growth of each edit, of its undo and of its redo."""
     for edit in EDITS:
         made = call(b"1", edit)
-        refuse_each(shim, program, tally, f"growths of {edit!r}", [made])
-        refuse_each(shim, program, tally, f"growths of the undo of {edit!r}", [made, call(b"-")])
-        refuse_each(shim, program, tally, f"growths of the redo of {edit!r}", [made, call(b"-"), call(b">")])
+        refuse_each(shim, program, tally, EDITOR, f"growths of {edit!r}", [made])
+        refuse_each(shim, program, tally, EDITOR, f"growths of the undo of {edit!r}", [made, call(b"-")])
+        refuse_each(shim, program, tally, EDITOR, f"growths of the redo of {edit!r}", [made, call(b"-"), call(b">")])
     closed = [call(b"1", b"openend\n"), call(b"1", b"endline\n")]
-    refuse_each(shim, program, tally, "growths of endline", closed)
+    refuse_each(shim, program, tally, EDITOR, "growths of endline", closed)
+
+
+def refuse_changes(shim, program, tally):
+    """Refuses each growth of changes of three files: of those that read the new lines alone, and where most bytes are unused of all."""
+    unused = [changed_call([Change("swap", 1, 1, text)]) for text in (b"#" * 4_000 + b"\n", b"# n\n")]
+    for what, changes in CHANGES.items():
+        made = changed_call(changes)
+        refuse_each(shim, program, tally, POLICY, f"growths of {what} of files", [made])
+        refuse_each(shim, program, tally, POLICY, f"growths of {what} of files, most bytes unused", [*unused, made])
 
 
 def run_all(_program, tally):
@@ -129,3 +186,4 @@ def run_all(_program, tally):
             problems = difference("the answer", answer, same) + difference(f"growths before {FEW} and {MANY}", few, many)
             tally.note(f"growths of a replaced comment: {os.path.basename(program)}", problems)
         refuse_edits(shim, built[0], tally)
+        refuse_changes(shim, built[0], tally)

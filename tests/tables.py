@@ -40,6 +40,7 @@ FOLDERS = {
     "tree": "tables_edit",
     "check": "tables_edit",
     "edit": "tables_edit",
+    "files": "tables_files",
 }
 
 PICTURES = {"␊": b"\n", "␍": b"\r", "␉": b"\t", "␀": b"\0", "␠": b" "}

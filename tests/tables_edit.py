@@ -191,12 +191,12 @@ CHANGES = {"put": (b"p", "number and line"), "swap": (b"s", "number and line"), 
 
 
 def change_of(row):
-    """A change of lines, as the program reads it."""
+    """A change of lines, as the program reads it: the number of its file is not looked at."""
     word, _, rest = row.partition(" ")
     if word not in CHANGES:
         raise NoRow(f"{word}: no change of lines")
     byte, form = CHANGES[word]
-    return call(byte, body_of(form, rest))
+    return call(byte, number("0") + body_of(form, rest))
 
 
 def body_of(form, rest):

@@ -1,1 +1,2 @@
 pub mod EndedLines
+pub mod FileChanges

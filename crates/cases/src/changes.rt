@@ -144,7 +144,7 @@ fn are_in_order(changes: &[LineChange], count: usize) -> bool
 }
 
 /// Returns the first place that a change after `change` may have. `None` if its own is below `from`, or none of so many lines.
-fn place_after(change: &LineChange, from: usize, count: usize) -> Option<usize>
+pub fn place_after(change: &LineChange, from: usize, count: usize) -> Option<usize>
     ensures { IfSome result (λ place. (from ≤ place_of change.now) × (place ≡ next_place change.now)) }
 {
     match change {
@@ -157,7 +157,7 @@ fn place_after(change: &LineChange, from: usize, count: usize) -> Option<usize>
 }
 
 /// Whether each text that `changes` bring is a line that ends in LF.
-fn bring_lines(changes: &[LineChange]) -> bool
+pub fn bring_lines(changes: &[LineChange]) -> bool
     ensures lines { result ≡ true → AllByRecursion IsLogicalLine (brought changes.now) }
     ensures ended { result ≡ true → AllByRecursion (λ line. ends_in_lf line ≡ true) (brought changes.now) }
 {
@@ -182,7 +182,8 @@ fn brings_line(change: &LineChange) -> bool
     }
 }
 
-/// Returns the changes that calls are: `p` puts a line, `s` replaces one, and another takes one out. The body is the place and the line.
+/// Returns the changes that calls are: `p` puts a line, `s` replaces one, and another takes one out. The body is the number of the file,
+/// the place and the line.
 ///
 /// # Errors
 ///
@@ -202,12 +203,13 @@ pub fn changes_of(alloc: Global, calls: &[u8]) -> Result<Vec<LineChange>, AllocE
 
 /// Returns the change that `call` is.
 fn change_of(alloc: Global, call: Call<'_>) -> Result<LineChange, AllocError> {
-    let (number, line) = number_of(call.body);
-    let at = number as usize;
+    let (file, rest) = number_of(call.body);
+    let (number, line) = number_of(rest);
+    let (file, at) = (file as usize, number as usize);
     let text = Items::from_slice(alloc, line)?;
     Ok(match call.asked {
-        b'p' => LineChange::Put { file: 0, at, text },
-        b's' => LineChange::Swap { file: 0, at, text },
-        _ => LineChange::Take { file: 0, at },
+        b'p' => LineChange::Put { file, at, text },
+        b's' => LineChange::Swap { file, at, text },
+        _ => LineChange::Take { file, at },
     })
 }

@@ -4,11 +4,12 @@
 
 use crate::drawn::{push_debug, push_shown};
 use crate::frames::{Call, next_call, next_part};
-use crate::policies;
+use crate::loads::files_of;
 use crate::scripts::{self, push_script};
+use crate::{file_policies, policies};
 use std::alloc::{AllocError, Global};
 use sudoers_edit::{Editor, read_script};
-use sudoers_tree::{OneFile, ReadFault};
+use sudoers_tree::{LoadFault, OneFile, Policy, ReadFault};
 
 /// What calls are of.
 #[derive(Drop)]
@@ -21,19 +22,27 @@ enum Target<'a> {
     Editor(Editor),
     /// The text is no policy, and this answers each call.
     Fault(ReadFault),
+    /// The policy of the files that the text is.
+    Files(Policy),
+    /// They are no policy, and this answers each call.
+    LoadFault(LoadFault),
 }
 
 impl Target<'_> {
     /// Returns that of `text` which `sort` names.
-    fn of(alloc: Global, sort: u8, text: &[u8]) -> Target<'_> {
-        if !matches!(sort, b'p' | b'e') {
-            return Target::Text(text);
-        }
-        match OneFile::read(alloc, text) {
-            Ok(policy) if sort == b'p' => Target::Policy(policy),
-            Ok(policy) => Target::Editor(Editor::new(policy)),
-            Err(fault) => Target::Fault(fault),
-        }
+    fn of(alloc: Global, sort: u8, text: &[u8]) -> Result<Target<'_>, AllocError> {
+        Ok(match sort {
+            b'p' | b'e' => match OneFile::read(alloc, text) {
+                Ok(policy) if sort == b'p' => Target::Policy(policy),
+                Ok(policy) => Target::Editor(Editor::new(policy)),
+                Err(fault) => Target::Fault(fault),
+            },
+            b'f' => match Policy::load(alloc, files_of(alloc, text)?.as_slice()) {
+                Ok(policy) => Target::Files(policy),
+                Err(fault) => Target::LoadFault(fault),
+            },
+            _ => Target::Text(text),
+        })
     }
 
     /// Adds the answer to `call`.
@@ -48,6 +57,8 @@ impl Target<'_> {
             Target::Policy(policy) => policies::push_answer(alloc, policy, call, answers),
             Target::Editor(editor) => push_of_editor(alloc, editor, call, answers),
             Target::Fault(fault) => push_debug(&fault, answers),
+            Target::Files(policy) => file_policies::push_answer(alloc, policy, call, answers),
+            Target::LoadFault(fault) => push_debug(&fault, answers),
         }
     }
 }
@@ -57,7 +68,7 @@ pub fn push_answers(alloc: Global, case: Call<'_>, answers: &mut String) -> Resu
     let Some((text, calls)) = next_part(case.body) else {
         return Ok(());
     };
-    let mut target = Target::of(alloc, case.asked, text);
+    let mut target = Target::of(alloc, case.asked, text)?;
     let mut left = calls;
     for _ in 0..calls.len() {
         let Some((call, rest)) = next_call(left) else {

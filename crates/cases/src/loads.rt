@@ -104,7 +104,7 @@ fn push_of_policy(
 }
 
 /// Adds the numbers of the files on the walk, where its lines stand, and the text of each line, with a tab before each.
-fn push_walk(policy: &Policy, answers: &mut String) -> Result<(), AllocError> {
+pub fn push_walk(policy: &Policy, answers: &mut String) -> Result<(), AllocError> {
     push_debug(&policy.on_walk(), answers)?;
     answers.push('\t')?;
     push_debug(&policy.spots(), answers)?;
@@ -117,7 +117,7 @@ fn push_walk(policy: &Policy, answers: &mut String) -> Result<(), AllocError> {
 }
 
 /// Adds the name of each file, its text and its lines, with a tab behind each of the three.
-fn push_files(policy: &Policy, answers: &mut String) -> Result<(), AllocError> {
+pub fn push_files(policy: &Policy, answers: &mut String) -> Result<(), AllocError> {
     for file in 0..policy.files() {
         push_debug(&policy.file_name(file), answers)?;
         answers.push('\t')?;

@@ -8,6 +8,8 @@ mod changes;
 mod drawn;
 mod edited;
 mod edits;
+mod file_changes;
+mod file_policies;
 mod frames;
 mod gathers;
 mod given;

@@ -127,7 +127,7 @@ fn text_after(alloc: Global, policy: &OneFile, front: &[u8]) -> Result<Vec<u8>, 
 }
 
 /// Returns the kind of alias and the name with which `bytes` begin.
-fn name_of(bytes: &[u8]) -> (Kind, &[u8]) {
+pub fn name_of(bytes: &[u8]) -> (Kind, &[u8]) {
     match next_call(bytes) {
         Some((named, _)) => (kind_of(named.asked), named.body),
         None => (Kind::User, b""),

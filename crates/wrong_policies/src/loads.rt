@@ -1,15 +1,16 @@
 //! Policies of several files.
 
-ghost use Rattle.std.specs.Prelude.{◌≡◌, ◌⊎◌, MatchResult, IfOk, Ok, Err};
+ghost use Rattle.std.specs.Prelude.{◌≡◌, ◌⊎◌, MatchResult, IfOk, OnOk, OnErr, Ok, Err};
 ghost use Rattle.sudoers_text.specs.Line.{join};
 ghost use Rattle.sudoers_tree.specs.declared.load_fault.LoadFault.TheVariants.{NoMemory};
+ghost use Rattle.sudoers_tree.specs.ChangedFiles.{CanBeMade, files_changed};
 ghost use Rattle.sudoers_tree.specs.Files.{lines_of};
-ghost use Rattle.sudoers_tree.specs.Load.{load_of, one_file};
+ghost use Rattle.sudoers_tree.specs.Load.{files_of, load_of, one_file};
 ghost use Rattle.sudoers_tree.specs.Policy.{texts};
 
 use std::alloc::{AllocError, Global};
 use sudoers_text::cut;
-use sudoers_tree::{Items, LoadFault, NamedFile, Policy, Spot, leads};
+use sudoers_tree::{Items, LineChange, LoadFault, NamedFile, Policy, Spot, leads};
 
 /// Whether the include lines of a file come behind its other lines. A wrong body says that they do.
 const INCLUDED_LAST: bool = false;
@@ -58,6 +59,21 @@ pub fn file_text(policy: &Policy, file: usize) -> Result<Vec<u8>, AllocError>
     ensures { IfOk result (λ text. text.items ≡ join (texts (lines_of policy.now.files file))) }
 {
     policy.text(file)
+}
+
+/// Makes the changes `changes` of the lines of the files of `policy` at once.
+///
+/// # Errors
+///
+/// The first fault of the changed files, or memory ran out. The policy is then as it was.
+pub fn change_files(policy: &mut Policy, changes: &[LineChange]) -> Result<(), LoadFault>
+    requires { CanBeMade changes.now policy.old.files }
+    ensures outcome { MatchResult result (λ _. load_of (files_changed changes.now policy.old.files) ≡ Ok policy.new)
+        (λ fault. (fault ≡ NoMemory) ⊎ (load_of (files_changed changes.now policy.old.files) ≡ Err fault)) }
+    ensures files { OnOk result (files_of policy.new ≡ files_changed changes.now policy.old.files) }
+    ensures unchanged { OnErr result (policy.new ≡ policy.old) }
+{
+    policy.changed(changes)
 }
 
 /// Returns `files` with the include lines of each behind its other lines.
