@@ -14,7 +14,6 @@ from policies import (
     drawn_load_fault,
     drawn_members,
     drawn_name,
-    lines_of,
     some,
 )
 from tables import asked, call, frame, joined, part
@@ -149,17 +148,15 @@ def drawn_named(line):
     return list(zip(pieces[::2], pieces[1::2]))
 
 
-def drawn_lines(line):
-    """The text of each line, its kind and what it says."""
-    return [(one.text, one.drawn_kind(), one.drawn_node()) for one in lines_of(line)]
-
-
 # ---- calls of one policy of files, and what is asked beside them
 
 
 @dataclass(frozen=True)
 class Step:
-    """A call and its wanted answer. `changes` is None if it changes nothing, and then `drawn` draws the answer. `walk` is the walk after it."""
+    """A call and its wanted answer.
+
+    `changes` is None if it changes nothing, and then `drawn` draws the answer. `walk` is the walk after it, if that is known.
+    """
 
     name: str
     call: bytes
@@ -177,8 +174,8 @@ class Step:
 class Session:
     """Calls of one policy of files.
 
-    After changes that are made, what is asked of the policy has to be what the changed texts answer, which are loaded anew. After
-    others it has to be as before.
+    After changes that are made, what is asked of the policy has to be what the changed texts answer, which are loaded
+    anew. After others it has to be as before.
     """
 
     def __init__(self, name, files, steps, aliases):
@@ -219,7 +216,8 @@ class Session:
             problems = difference("answer", step.wanted, drawn_change(line))
             state = [next(lines) for _ in range(size)]
             if step.accepted:
-                problems += difference("texts", files, drawn_texts(state[1])) + difference("files", files, drawn_named(state[2]))
+                problems += difference("texts", files, drawn_texts(state[1]))
+                problems += difference("files", files, drawn_named(state[2]))
             else:
                 problems += difference("the policy after what is refused", before, state)
             if step.walk is not None:

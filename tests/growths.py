@@ -3,8 +3,9 @@
 The growths of a change do not depend on how many aliases a policy has. A comment is replaced before many lines of aliases
 and before few. The growths of the same policy with a call that changes nothing are taken off.
 
-Each growth of an edit of each kind, of its undo and of its redo, is refused in turn. Then the policy, its names and the journal have to
-be as before, and the same call, made again, has to answer as with ample memory. So it is with changes of three files at once.
+Each growth of an edit of each kind, of its undo and of its redo, is refused in turn. Then the policy, its names and the
+journal have to be as before, and the same call, made again, has to answer as with ample memory. So it is with changes of
+three files at once.
 """
 
 import os
@@ -113,7 +114,8 @@ class Asked:
 
 
 EDITOR = Asked(b"e", EDITED, (call(b"t"), call(b"s"), call(b"e"), call(b"a"), *ALIASES))
-POLICY = Asked(b"f", joined(*(piece for file in FILES for piece in file)), (call(b"f"), call(b"n"), call(b"N"), *ALIASES))
+PARTS = joined(*(piece for file in FILES for piece in file))
+POLICY = Asked(b"f", PARTS, (call(b"f"), call(b"n"), call(b"N"), *ALIASES))
 
 
 def answers_of(shim, program, asked, calls, **settings):
@@ -166,7 +168,7 @@ def refuse_edits(shim, program, tally):
 
 
 def refuse_changes(shim, program, tally):
-    """Refuses each growth of changes of three files: of those that read the new lines alone, and where most bytes are unused of all."""
+    """Refuses each growth of changes of three files. If most bytes are unused, a change first reads all lines anew."""
     unused = [changed_call([Change("swap", 1, 1, text)]) for text in (b"#" * 4_000 + b"\n", b"# n\n")]
     for what, changes in CHANGES.items():
         made = changed_call(changes)

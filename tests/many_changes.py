@@ -1,8 +1,8 @@
 """Makes 200 changes of a policy of five files by the program `cases`.
 
-The changes are drawn from fixed numbers. Each is of one line, or of several lines of several files. What comes of it has to be what
-the changed texts answer, which are loaded anew: the walk, the lines of all files and what they say, and where every name is defined
-and mentioned; or the error, and then the policy has to be as before.
+The changes are drawn from fixed numbers. Each is of one line, or of several lines of several files. What comes of it has
+to be what the changed texts answer, which are loaded anew: the walk, the lines of all files and what they say, and where
+every name is defined and mentioned; or the error, and then the policy has to be as before.
 """
 
 import os

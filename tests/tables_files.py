@@ -13,7 +13,8 @@ Changes are `put FILE LINE TEXT`, `swap FILE LINE TEXT` and `take FILE LINE`, wi
 the numbers of a file and of a line there. `none` are no changes. All count from 0, physical lines from 1.
 
 After each change the texts of the files have to be those that the changes lead to, and all that is asked of the policy
-has to be as it is if these texts are loaded. After an error, and after changes that are not made, it has to be as before.
+has to be as it is if these texts are loaded. After an error, and after changes that are not made, it has to be as
+before.
 """
 
 import glob
@@ -130,7 +131,8 @@ def sessions_of(group):
     steps = []
     for at, row, answer in pairs:
         try:
-            steps.append((at, step_of_changes(row, answer) if group.words == ("changes",) else step_of(row, answer, files)))
+            step = step_of_changes(row, answer) if group.words == ("changes",) else step_of(row, answer, files)
+            steps.append((at, step))
         except (NoRow, ValueError) as error:
             raise NoRow(f"row {at}: {error}") from None
     if group.words == ("calls",):
