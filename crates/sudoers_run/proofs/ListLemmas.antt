@@ -264,6 +264,19 @@ outcome_of w policy passwd group p people who (Err fault) read told is some (inl
 outcome_of w policy passwd group p people who (Err fault) read told is some (inr asked) =
     inr (outcome_of_words w policy passwd group p people who read told is some (Err fault) asked)
 
+-- What comes of a listing that is not made: a cycle, or want of memory.
+pub fault_of_listing : (w : ListWords) (policy : Result Loaded LoadFault) (passwd group : List ℕ) (p : Loaded) (people : People) (who : Who) (fault : AskFault)
+    → policy ≡ Ok p → people_told passwd group ≡ Ok people → who_told people w.user.now w.host.now w.interfaces.now ≡ Ok who → w.words.now ≡ []
+    → (fault ≡ ask.NoMemory) ⊎ ((fault ≡ ask.Cycle) × HasReachableCycle p.walk.lines)
+    → (layer_of_ask fault ≡ layer.NoMemory) ⊎ OfPolicy w (people_told passwd group) policy (Err (layer_of_ask fault))
+fault_of_listing w policy passwd group p people who fault read told is none (inl memory) = inl (ap layer_of_ask memory)
+fault_of_listing w policy passwd group p people who fault read told is none (inr (cycle, has)) =
+    let o : Outcome = Err (layer_of_ask fault) in
+    inr (subst (λ r. OfPolicy w (people_told passwd group) r o) (sym read)
+    (subst (λ r. OfPeople w p r o) (sym told)
+    (subst (λ r. OfWho w p people r o) (sym is)
+    (subst (λ ws. OfWords w p people who ws o) (sym none) (ap layer_of_ask cycle, has)))))
+
 -- ---- faults
 
 pub tells : (w : ListWords) (root : List ℕ) (known : List NamedFile) (policy : Result Loaded LoadFault) (passwd group : List ℕ) (fault : LayerFault)

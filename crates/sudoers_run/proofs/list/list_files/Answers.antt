@@ -1,5 +1,10 @@
-use Rattle.std.proofs.Common.{◌≡◌, [], length, Ok, ap, rules}
-use Rattle.sudoers_run.proofs.ListLemmas.{outcome_of}
+use Rattle.std.proofs.Common.{◌≡◌, ◌⊎◌, [], ◌∷◌, List, length, Ok, Err, MatchResult, refl, sym, ap, subst, rules, arith}
+use Rattle.sudoers_list_people.specs.People.{people_told}
+use Rattle.sudoers_match_list.specs.declared.verdict.AskFault.{AskFault}
+use Rattle.sudoers_run.specs.declared.fault.LayerFault.TheVariants.{NoMemory}
+use Rattle.sudoers_run.specs.internal.LayerOf.{layer_of_ask}
+use Rattle.sudoers_run.specs.List.{OfPolicy}
+use Rattle.sudoers_run.proofs.ListLemmas.{fault_of_listing, outcome_of}
 use Rattle.sudoers_run.proofs.list.list_files.Goals as goal
 
 pub returns-clause-outcome : goal.returns-clause-outcome
@@ -9,3 +14,21 @@ returns-clause-outcome c =
     let read : c.args.policy ≡ Ok c.in_ok-policy.policy = search rules in
     outcome_of w c.args.policy c.args.passwd.now c.args.group.now c.in_ok-policy.policy c.in_ok-people.people c.in_ok-who.who c.command_text.result
     read c.in_ok-people.ensures.people c.in_ok-who.ensures.who some c.command_text.ensures.asked
+
+nothing : {X : Type 0} (xs : List X) → length xs ≡ 0 → xs ≡ []
+nothing [] is = refl
+nothing (x ∷ xs) is = absurd (omega (arith, is))
+
+pub returns-in_err-text-clause-outcome : goal.returns-in_err-text-clause-outcome
+returns-in_err-text-clause-outcome c =
+    let w = c.args.words.now in
+    let people = people_told c.args.passwd.now c.args.group.now in
+    let fault : AskFault = c.in_err-text.field-0.0 in
+    let told : c.from_residual-in_err-text.result ≡ Err (layer_of_ask fault) = search rules in
+    let size : length w.words.now ≡ 0 = search (rules, c.is_empty.ensures, c.if-is_empty.true) in
+    let none : w.words.now ≡ [] = nothing w.words.now size in
+    let read : c.args.policy ≡ Ok c.in_ok-policy.policy = search rules in
+    subst (λ r. MatchResult r (λ output. OfPolicy w people c.args.policy (Ok (output.text.items, output.status)))
+    (λ e. (e ≡ NoMemory) ⊎ OfPolicy w people c.args.policy (Err e))) (sym told)
+    (fault_of_listing w c.args.policy c.args.passwd.now c.args.group.now c.in_ok-policy.policy c.in_ok-people.people c.in_ok-who.who fault
+    read c.in_ok-people.ensures.people c.in_ok-who.ensures.who none c.in_err-text.ensures.fault)
