@@ -10,3 +10,7 @@ mod FormEnds
 mod TokenEnds
 mod LineTokens
 mod DefEnds
+mod DefinedNames
+mod RenamedNames
+mod RenamedOnce
+mod RenamedPolicy
