@@ -14,3 +14,6 @@ mod DefinedNames
 mod RenamedNames
 mod RenamedOnce
 mod RenamedPolicy
+mod PutNames
+mod NameStarts
+mod RenamedTexts

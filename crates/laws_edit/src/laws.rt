@@ -11,10 +11,11 @@ ghost use Rattle.sudoers_line.specs.Node as node_of;
 ghost use Rattle.sudoers_tree.specs.Definition.{place_of};
 ghost use Rattle.sudoers_tree.specs.Fault.{is_some};
 ghost use Rattle.sudoers_tree.specs.Line.{Line as LineOf};
-ghost use Rattle.sudoers_tree.specs.Policy.{texts};
+ghost use Rattle.sudoers_tree.specs.Policy.{SaysSo, texts};
 ghost use Rattle.sudoers_tree.specs.Reading.{read_of};
 ghost use Rattle.sudoers_edit_script.specs.declared.edit.Edit.TheVariants.{DropDef};
 ghost use Rattle.sudoers_edit.specs.Editing.{step as step_of};
+ghost use Rattle.sudoers_edit.specs.Renaming.{renamed};
 ghost use Rattle.sudoers_edit.specs.declared.fault.EditFault.{EditFault as EditFaultOf};
 ghost use Rattle.laws_edit.specs.Renamed.{renamed_lines};
 
@@ -103,4 +104,12 @@ pub fn renamed_policy_is_one()
     read_is();
     one_outcome();
     policy_is_cut();
+}
+
+/// The lines to which a rename leads, if it is not refused, are those with the new name wherever the old one meant the alias.
+pub fn renamed_lines_are()
+    ensures { (kind : KindOf) (name fresh : List ℕ) (policy : List LineOf) → AllByRecursion SaysSo policy
+        → renamed kind name fresh policy ≡ texts (renamed_lines kind name fresh policy) }
+{
+    names_stand();
 }
