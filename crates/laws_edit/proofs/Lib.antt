@@ -17,3 +17,7 @@ mod RenamedPolicy
 mod PutNames
 mod NameStarts
 mod RenamedTexts
+mod NameGone
+mod NameFree
+mod RenameOutcome
+mod RenameRefused

@@ -62,7 +62,7 @@ ended_renamed l alias fresh old new (line ∷ next ∷ lines) says =
     ap₂ (λ (a b : Bool). not a || b) (sym (l.ends alias fresh line.text line.node old new says.0))
     (ended_renamed l alias fresh old new (next ∷ lines) says.1)
 
-says_renamed : RenameLaws → (alias : NamedAlias) (fresh : List ℕ) → IsDefinableName alias.name → IsDefinableName fresh → (lines : List Line)
+pub says_renamed : RenameLaws → (alias : NamedAlias) (fresh : List ℕ) → IsDefinableName alias.name → IsDefinableName fresh → (lines : List Line)
     → AllByRecursion SaysSo lines → AllByRecursion SaysSo (map (renamed_line alias fresh) lines)
 says_renamed l alias fresh old new [] says = tt
 says_renamed l alias fresh old new (line ∷ lines) says =

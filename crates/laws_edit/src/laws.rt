@@ -13,9 +13,9 @@ ghost use Rattle.sudoers_tree.specs.Fault.{is_some};
 ghost use Rattle.sudoers_tree.specs.Line.{Line as LineOf};
 ghost use Rattle.sudoers_tree.specs.Policy.{SaysSo, texts};
 ghost use Rattle.sudoers_tree.specs.Reading.{read_of};
-ghost use Rattle.sudoers_edit_script.specs.declared.edit.Edit.TheVariants.{DropDef};
+ghost use Rattle.sudoers_edit_script.specs.declared.edit.Edit.TheVariants.{DropDef, Rename};
 ghost use Rattle.sudoers_edit.specs.Editing.{step as step_of};
-ghost use Rattle.sudoers_edit.specs.Renaming.{renamed};
+ghost use Rattle.sudoers_edit.specs.Renaming.{is_taken, renamed};
 ghost use Rattle.sudoers_edit.specs.declared.fault.EditFault.{EditFault as EditFaultOf};
 ghost use Rattle.laws_edit.specs.Renamed.{renamed_lines};
 
@@ -112,4 +112,51 @@ pub fn renamed_lines_are()
         → renamed kind name fresh policy ≡ texts (renamed_lines kind name fresh policy) }
 {
     names_stand();
+}
+
+/// A rename of an alias that is defined is refused for its size alone, where an alias may be defined by the new name, and none of the kind
+/// is defined or mentioned by it: a line or the text would be too long.
+pub fn rename_is_refused_for_its_size_alone()
+    ensures { (kind : KindOf) (name fresh : List ℕ) (policy : List LineOf) (fault : EditFaultOf) → read_of (join (texts policy)) ≡ Ok policy
+        → is_some (place_of kind name policy) ≡ true → IsDefinableName fresh → is_taken kind fresh policy ≡ false
+        → step_of (Rename kind name fresh) (texts policy) ≡ Err fault → fault ≡ EditFault.TooLarge }
+{
+    cut_is();
+    lines_of_join();
+    lines_stand_alone();
+    line_alone_size();
+    line_alone_is_whole();
+    whole_line_is();
+    outcome_is();
+    definitions_ascend();
+    names_stand();
+    renamed_line();
+    read_is();
+    one_outcome();
+    policy_is_cut();
+}
+
+/// Within the limits such a rename leads to the lines with the new name, and one rename takes it back: the old name given back gives the
+/// lines before.
+pub fn rename_is_taken_back()
+    ensures { (kind : KindOf) (name fresh : List ℕ) (policy : List LineOf) → read_of (join (texts policy)) ≡ Ok policy
+        → is_some (place_of kind name policy) ≡ true → IsDefinableName fresh → is_taken kind fresh policy ≡ false
+        → AllByRecursion (λ (text : List ℕ). length text ≤ line_limit) (texts (renamed_lines kind name fresh policy))
+        → length (join (texts (renamed_lines kind name fresh policy))) ≤ text_limit
+        → (step_of (Rename kind name fresh) (texts policy) ≡ Ok (texts (renamed_lines kind name fresh policy)))
+        × (step_of (Rename kind fresh name) (texts (renamed_lines kind name fresh policy)) ≡ Ok (texts policy)) }
+{
+    cut_is();
+    lines_of_join();
+    lines_stand_alone();
+    line_alone_size();
+    line_alone_is_whole();
+    whole_line_is();
+    outcome_is();
+    definitions_ascend();
+    names_stand();
+    renamed_line();
+    read_is();
+    one_outcome();
+    policy_is_cut();
 }
