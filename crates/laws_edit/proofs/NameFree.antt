@@ -1,5 +1,5 @@
 -- A name that is neither defined nor mentioned in a kind stands in no line as an alias of that kind.
-use Rattle.std.proofs.Common.{◌≡◌, ℕ, ◌+◌, Bool, true, false, ◌&&◌, ◌-◌, List, [], ◌∷◌, ◌++◌, length, map, Some, None, refl, sym, ap, ap₂, ◌∙◌, flat_map, if◌then◌else◌}
+use Rattle.std.proofs.Common.{◌≡◌, ℕ, ◌+◌, Bool, true, false, ◌&&◌, ◌-◌, List, [], ◌∷◌, ◌++◌, length, map, refl, sym, ap, ap₂, ◌∙◌, flat_map, if◌then◌else◌}
 use Rattle.std.proofs.lemmas.List.{map-append}
 use Rattle.std.proofs.lemmas.List.Concat.{flat_map-append}
 use Rattle.std.specs.List.{AllByRecursion}
@@ -12,9 +12,9 @@ use Rattle.sudoers_line.specs.Node as node
 use Rattle.sudoers_line.specs.Renamed.{node_starts}
 use Rattle.sudoers_tree.specs.Line.{Line}
 use Rattle.sudoers_tree.specs.declared.place.Span.{Span}
-use Rattle.sudoers_tree.specs.Definition.{Definition, is_kind, definitions_from, definitions_in, definitions_since}
+use Rattle.sudoers_tree.specs.Definition.{is_kind, definitions_from, definitions_in, definitions_since}
 use Rattle.sudoers_tree.specs.Mention.{members_in, span_of, spans_of, mentions_in, mentions_since}
-use Rattle.sudoers_edit.specs.Renaming.{starts_of, starts_among, starts_in_def, starts_in}
+use Rattle.sudoers_edit.specs.Renaming.{starts_among, starts_in_def, starts_in}
 use Rattle.laws_edit.specs.Renamed.{alias_of}
 use Rattle.laws_edit.proofs.NameStarts.{starts_same}
 use Rattle.laws_edit.proofs.RenamedNames.{Lacks}

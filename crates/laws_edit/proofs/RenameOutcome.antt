@@ -29,7 +29,7 @@ use Rattle.sudoers_edit.specs.Landing.{refuse_if, is_too_long, by_read, where_po
 use Rattle.sudoers_edit.specs.Renaming.{renamed, no_way_back, if_lines, is_taken, rename_once, is_lines, if_restored, rename}
 use Rattle.sudoers_edit.specs.Editing.{Lines, step}
 use Rattle.laws_edit.specs.Renamed.{alias_of, renamed_line, renamed_lines}
-use Rattle.laws_edit.proofs.Whole.{IsWhole, whole_of, landed, known}
+use Rattle.laws_edit.proofs.Whole.{IsWhole, landed, known}
 use Rattle.laws_edit.proofs.RenamedNames.{AreRenamed, are_renamed}
 use Rattle.laws_edit.proofs.RenamedOnce.{lacks, lacked, unlike, fresh_placed, old_gone}
 use Rattle.laws_edit.proofs.RenamedPolicy.{RenameLaws, IsShort, ended_renamed, says_renamed, whole_renamed, name_definable}
@@ -93,12 +93,13 @@ stepped : RenameLaws → (k : Kind) (name fresh : List ℕ) (policy new : List L
 stepped l k name fresh policy new whole whole_new forth back =
     step_is l k name fresh policy whole
     ∙ ap (if_restored k name fresh (texts policy)) forth
-    ∙ ap (λ (p : List Line). if is_lines (texts policy) (rename_once k fresh name p) then Ok (texts new) else Err no_way_back) (known l.base new whole_new)
+    ∙ ap (λ (p : List Line). if is_lines (texts policy) (rename_once k fresh name p) then Ok (texts new) else Err no_way_back)
+    (known l.base new whole_new)
     ∙ ap (λ (r : Result Lines EditFault). if is_lines (texts policy) r then Ok (texts new) else Err no_way_back) back
     ∙ ap (λ (b : Bool). if b then Ok (texts new) else Err no_way_back) (alike_itself (texts policy))
 
-undone_lines : RenameLaws → (k : Kind) (name fresh : List ℕ) (lines : List Line) → AllByRecursion SaysSo lines → AllByRecursion (IsWithout k fresh) lines
-    → texts (renamed_lines k fresh name (renamed_lines k name fresh lines)) ≡ texts lines
+undone_lines : RenameLaws → (k : Kind) (name fresh : List ℕ) (lines : List Line) → AllByRecursion SaysSo lines
+    → AllByRecursion (IsWithout k fresh) lines → texts (renamed_lines k fresh name (renamed_lines k name fresh lines)) ≡ texts lines
 undone_lines l k name fresh [] says without = refl
 undone_lines l k name fresh (line ∷ lines) says without =
     ap₂ (λ (x : List ℕ) (xs : Lines). x ∷ xs) (l.undone (alias_of k name) fresh line.text line.node says.0 without.0)

@@ -1,10 +1,8 @@
 -- A rename to a free name is refused for its size alone, and within the limits one rename takes it back.
-use Rattle.std.proofs.Common.{◌≡◌, ℕ, ◌≤◌, ◌⊎◌, inl, inr, true, false, List, length, Result, Ok, Err, sym, ◌∙◌}
+use Rattle.std.proofs.Common.{◌≡◌, ℕ, ◌⊎◌, inl, inr, true, false, List, length, Ok, Err, sym, ◌∙◌}
 use Rattle.std.proofs.lemmas.Bool.{or_parts as or_false}
-use Rattle.std.specs.List.{AllByRecursion}
 use Rattle.std.specs.Prelude.{nat_lt}
 use Rattle.sudoers_text.specs.Line.{join}
-use Rattle.sudoers_text.specs.Fault.{text_limit}
 use Rattle.sudoers_text.specs.Renamed.{IsDefinableName}
 use Rattle.sudoers_line.specs.declared.node.Kind.{Kind}
 use Rattle.sudoers_tree.specs.Line.{Line}
@@ -17,10 +15,10 @@ use Rattle.sudoers_edit_script.specs.declared.edit.Edit.TheVariants.{Rename}
 use Rattle.sudoers_edit.specs.declared.fault.EditFault.{EditFault}
 use Rattle.sudoers_edit.specs.declared.fault.EditFault.TheVariants.{TooLarge}
 use Rattle.sudoers_edit.specs.Renaming.{is_taken}
-use Rattle.sudoers_edit.specs.Editing.{Lines, step}
-use Rattle.laws_edit.specs.Renamed.{renamed_lines}
+use Rattle.sudoers_edit.specs.Editing.{step}
+use Rattle.laws_edit.specs.Renamed.{renamed_lines, AreWithin}
 use Rattle.laws_edit.proofs.Whole.{IsWhole, whole_of}
-use Rattle.laws_edit.proofs.RenamedPolicy.{RenameLaws, IsShort, whole_renamed, name_definable}
+use Rattle.laws_edit.proofs.RenamedPolicy.{RenameLaws, whole_renamed, name_definable}
 use Rattle.laws_edit.proofs.RenameOutcome.{Fresh, both_ways, renames_or_too_large}
 
 pub refused_for_size : RenameLaws → (k : Kind) (name fresh : List ℕ) (policy : List Line) (fault : EditFault)
@@ -37,13 +35,14 @@ refused_for_size l k name fresh policy fault read some new free is = by (renames
         absurd (let same : Err fault ≡ Ok (texts (renamed_lines k name fresh policy)) =
         sym is ∙ (both_ways l k name fresh policy f whole).0 in cc)
 
+-- a rename within the limits, and the way back
 pub renames_within : RenameLaws → (k : Kind) (name fresh : List ℕ) (policy : List Line)
     → read_of (join (texts policy)) ≡ Ok policy → is_some (place_of k name policy) ≡ true → IsDefinableName fresh → is_taken k fresh policy ≡ false
-    → AllByRecursion IsShort (texts (renamed_lines k name fresh policy)) → length (join (texts (renamed_lines k name fresh policy))) ≤ text_limit
+    → AreWithin (texts (renamed_lines k name fresh policy))
     → (step (Rename k name fresh) (texts policy) ≡ Ok (texts (renamed_lines k name fresh policy)))
     × (step (Rename k fresh name) (texts (renamed_lines k name fresh policy)) ≡ Ok (texts policy))
-renames_within l k name fresh policy read some new free short fits =
+renames_within l k name fresh policy read some new free within =
     let whole : IsWhole policy = whole_of l.base policy read in
     let apart = or_false (is_some (place_of k fresh policy)) (nat_lt 0 (length (mentions k fresh policy))) free in
     both_ways l k name fresh policy (record { whole = whole; some = some; new = new; free = free })
-    (whole_renamed l k name fresh policy whole (name_definable k name policy whole some) new apart.0 short fits)
+    (whole_renamed l k name fresh policy whole (name_definable k name policy whole some) new apart.0 within.0 within.1)

@@ -18,7 +18,7 @@ use Rattle.sudoers_tree.specs.Definition.{Definition, defined, definitions, plac
 use Rattle.sudoers_tree.specs.Fault.{is_some}
 use Rattle.sudoers_tree.specs.Policy.{texts, SaysSo}
 use Rattle.sudoers_tree.specs.Reading.{read_of}
-use Rattle.laws_edit.specs.Renamed.{alias_of, renamed_line, renamed_lines}
+use Rattle.laws_edit.specs.Renamed.{alias_of, renamed_line, renamed_lines, AreWithin}
 use Rattle.laws_edit.proofs.Whole.{Laws, IsWhole, whole_of, read_whole}
 use Rattle.laws_edit.proofs.DefinedNames.{defined_is_definable}
 use Rattle.laws_edit.proofs.RenamedNames.{AreRenamed, are_renamed, free_renamed, count_renamed, place_in}
@@ -99,9 +99,9 @@ name_definable k name lines whole is =
 
 pub renamed_is_one : RenameLaws → (k : Kind) (name fresh : List ℕ) (policy : List Line) → read_of (join (texts policy)) ≡ Ok policy
     → is_some (place_of k name policy) ≡ true → IsDefinableName fresh → is_some (place_of k fresh policy) ≡ false
-    → AllByRecursion IsShort (texts (renamed_lines k name fresh policy)) → length (join (texts (renamed_lines k name fresh policy))) ≤ text_limit
+    → AreWithin (texts (renamed_lines k name fresh policy))
     → read_of (join (texts (renamed_lines k name fresh policy))) ≡ Ok (renamed_lines k name fresh policy)
-renamed_is_one l k name fresh policy read some new free short fits =
+renamed_is_one l k name fresh policy read some new free within =
     let whole : IsWhole policy = whole_of l.base policy read in
     read_whole l.base (renamed_lines k name fresh policy)
-    (whole_renamed l k name fresh policy whole (name_definable k name policy whole some) new free short fits)
+    (whole_renamed l k name fresh policy whole (name_definable k name policy whole some) new free within.0 within.1)

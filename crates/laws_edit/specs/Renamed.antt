@@ -1,5 +1,8 @@
 -- The lines of a policy with another name for an alias, and what they say.
-use Rattle.std.specs.Prelude.{ℕ, List, map}
+use Rattle.std.specs.List.{AllByRecursion}
+use Rattle.std.specs.Prelude.{ℕ, ◌≤◌, List, length, map}
+use Rattle.sudoers_text.specs.Fault.{line_limit, text_limit}
+use Rattle.sudoers_text.specs.Line.{join}
 use Rattle.sudoers_line.specs.declared.node.Kind.{Kind}
 use Rattle.sudoers_line.specs.Renamed.{NamedAlias, renamed_node, renamed_text, renaming_of}
 use Rattle.sudoers_tree.specs.Line.{Line}
@@ -19,3 +22,7 @@ renamed_line alias fresh line = record {
 -- each line with another name for the alias of this name in this kind
 abbrev pub renamed_lines : Kind → List ℕ → List ℕ → List Line → List Line
 renamed_lines k name fresh lines = map (renamed_line (alias_of k name) fresh) lines
+
+-- Each line is within the limit of a line, and all together are within that of a text.
+abbrev pub AreWithin : List (List ℕ) → Type 0
+AreWithin lines = AllByRecursion (λ (line : List ℕ). length line ≤ line_limit) lines × (length (join lines) ≤ text_limit)

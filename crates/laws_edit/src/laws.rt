@@ -2,7 +2,6 @@
 
 ghost use Rattle.std.specs.List.{AllByRecursion};
 ghost use Rattle.std.specs.Prelude.{◌≡◌, ◌<◌, ◌≤◌, length, remove, slice_get, ℕ, List, Some, Ok, Err, true, false};
-ghost use Rattle.sudoers_text.specs.Fault.{line_limit, text_limit};
 ghost use Rattle.sudoers_text.specs.Line.{join};
 ghost use Rattle.sudoers_text.specs.Renamed.{IsDefinableName};
 ghost use Rattle.sudoers_line.specs.declared.node.Kind.{Kind as KindOf};
@@ -17,7 +16,7 @@ ghost use Rattle.sudoers_edit_script.specs.declared.edit.Edit.TheVariants.{DropD
 ghost use Rattle.sudoers_edit.specs.Editing.{step as step_of};
 ghost use Rattle.sudoers_edit.specs.Renaming.{is_taken, renamed};
 ghost use Rattle.sudoers_edit.specs.declared.fault.EditFault.{EditFault as EditFaultOf};
-ghost use Rattle.laws_edit.specs.Renamed.{renamed_lines};
+ghost use Rattle.laws_edit.specs.Renamed.{AreWithin, renamed_lines};
 
 use sudoers_edit::{Edit, EditFault};
 use sudoers_line::laws::{definitions_ascend, names_stand, renamed_line};
@@ -87,8 +86,7 @@ pub fn prune_is_refused_for_a_splice_alone()
 pub fn renamed_policy_is_one()
     ensures { (kind : KindOf) (name fresh : List ℕ) (policy : List LineOf) → read_of (join (texts policy)) ≡ Ok policy
         → is_some (place_of kind name policy) ≡ true → IsDefinableName fresh → is_some (place_of kind fresh policy) ≡ false
-        → AllByRecursion (λ (text : List ℕ). length text ≤ line_limit) (texts (renamed_lines kind name fresh policy))
-        → length (join (texts (renamed_lines kind name fresh policy))) ≤ text_limit
+        → AreWithin (texts (renamed_lines kind name fresh policy))
         → read_of (join (texts (renamed_lines kind name fresh policy))) ≡ Ok (renamed_lines kind name fresh policy) }
 {
     cut_is();
@@ -139,12 +137,14 @@ pub fn rename_is_refused_for_its_size_alone()
 /// Within the limits such a rename leads to the lines with the new name, and one rename takes it back: the old name given back gives the
 /// lines before.
 pub fn rename_is_taken_back()
-    ensures { (kind : KindOf) (name fresh : List ℕ) (policy : List LineOf) → read_of (join (texts policy)) ≡ Ok policy
+    ensures forth { (kind : KindOf) (name fresh : List ℕ) (policy : List LineOf) → read_of (join (texts policy)) ≡ Ok policy
         → is_some (place_of kind name policy) ≡ true → IsDefinableName fresh → is_taken kind fresh policy ≡ false
-        → AllByRecursion (λ (text : List ℕ). length text ≤ line_limit) (texts (renamed_lines kind name fresh policy))
-        → length (join (texts (renamed_lines kind name fresh policy))) ≤ text_limit
-        → (step_of (Rename kind name fresh) (texts policy) ≡ Ok (texts (renamed_lines kind name fresh policy)))
-        × (step_of (Rename kind fresh name) (texts (renamed_lines kind name fresh policy)) ≡ Ok (texts policy)) }
+        → AreWithin (texts (renamed_lines kind name fresh policy))
+        → step_of (Rename kind name fresh) (texts policy) ≡ Ok (texts (renamed_lines kind name fresh policy)) }
+    ensures back { (kind : KindOf) (name fresh : List ℕ) (policy : List LineOf) → read_of (join (texts policy)) ≡ Ok policy
+        → is_some (place_of kind name policy) ≡ true → IsDefinableName fresh → is_taken kind fresh policy ≡ false
+        → AreWithin (texts (renamed_lines kind name fresh policy))
+        → step_of (Rename kind fresh name) (texts (renamed_lines kind name fresh policy)) ≡ Ok (texts policy) }
 {
     cut_is();
     lines_of_join();
