@@ -22,7 +22,7 @@ pub none_all : {X A : Type 0} (f : X → List A) (xs : List X) → ((x : X) → 
 none_all f [] none = refl
 none_all f (x ∷ xs) none = ap₂ (λ ys zs. ys ++ zs) (none x) (none_all f xs none)
 
-pub same_all : {X A : Type 0} (f g : X → List A) (xs : List X) → ((x : X) → f x ≡ g x) → flat_map f xs ≡ flat_map g xs
+same_all : {X A : Type 0} (f g : X → List A) (xs : List X) → ((x : X) → f x ≡ g x) → flat_map f xs ≡ flat_map g xs
 same_all f g [] same = refl
 same_all f g (x ∷ xs) same = ap₂ (λ ys zs. ys ++ zs) (same x) (same_all f g xs same)
 

@@ -38,10 +38,6 @@ renamed_append k name fresh [] (e ∷ es) xs ys a b = absurd a
 renamed_append k name fresh (d ∷ ds) [] xs ys a b = absurd a
 renamed_append k name fresh (d ∷ ds) (e ∷ es) xs ys a b = (a.0, a.1, a.2, renamed_append k name fresh ds es xs ys a.3 b)
 
--- another name for the alias, with any places
-abbrev IsOf : Kind → List ℕ → List ℕ → Renaming → Type 0
-IsOf k name fresh r = (r.old ≡ alias_of k name) × (r.fresh ≡ fresh)
-
 from_renamed : (k : Kind) (name fresh : List ℕ) (at : ℕ → ℕ) (j : Kind) (line n : ℕ) (defs : List Def)
     → AreRenamed k name fresh (definitions_from j line n defs)
     (definitions_from j line n (map (renamed_def (record { old = alias_of k name; fresh = fresh; at = at }) j) defs))
@@ -97,7 +93,7 @@ count_renamed k name fresh j (d ∷ ds) (e ∷ es) are =
 
 -- ---- which names are defined
 
-pub bytes_unlike : (a b : List ℕ) → bytes_eq a b ≡ false → a ≡ b → ⊥
+bytes_unlike : (a b : List ℕ) → bytes_eq a b ≡ false → a ≡ b → ⊥
 bytes_unlike a b differ same = let both : true ≡ false = sym ((bytes_eq-Decides a b).1 same) ∙ differ in cc
 
 pub unlike_bytes : (a b : List ℕ) → (a ≡ b → ⊥) → bytes_eq a b ≡ false
@@ -107,7 +103,7 @@ unlike_bytes a b differ = by (bytes_eq a b) refl
     by true is = absurd (differ ((bytes_eq-Decides a b).0 is))
     by false is = refl
 
-pub kind_like : (j i : Kind) → is_kind j i ≡ true → j ≡ i
+kind_like : (j i : Kind) → is_kind j i ≡ true → j ≡ i
 kind_like User User h = refl
 kind_like User Runas h = absurd (cc)
 kind_like User Host h = absurd (cc)

@@ -79,7 +79,7 @@ pub lacked : (k : Kind) (fresh : List ℕ) (ds : List Definition) → AllByRecur
 lacked k fresh [] all = refl
 lacked k fresh (d ∷ ds) all = lacking (defines k fresh d) d (defined k fresh ds) all.0 (lacked k fresh ds all.1)
 
-pub same_kind : (k : Kind) → is_kind k k ≡ true
+same_kind : (k : Kind) → is_kind k k ≡ true
 same_kind User = refl
 same_kind Runas = refl
 same_kind Host = refl
