@@ -10,3 +10,14 @@ mod FormEnds
 mod TokenEnds
 mod LineTokens
 mod DefEnds
+mod DefinedNames
+mod RenamedNames
+mod RenamedOnce
+mod RenamedPolicy
+mod PutNames
+mod NameStarts
+mod RenamedTexts
+mod NameGone
+mod NameFree
+mod RenameOutcome
+mod RenameRefused

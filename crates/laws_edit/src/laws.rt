@@ -1,22 +1,28 @@
 //! Laws of edits of policies. Each is the contract of a function that does nothing.
 
-ghost use Rattle.std.specs.Prelude.{◌≡◌, ◌<◌, ◌≤◌, length, remove, slice_get, ℕ, List, Some, Ok, Err};
+ghost use Rattle.std.specs.List.{AllByRecursion};
+ghost use Rattle.std.specs.Prelude.{◌≡◌, ◌<◌, ◌≤◌, length, remove, slice_get, ℕ, List, Some, Ok, Err, true, false};
 ghost use Rattle.sudoers_text.specs.Line.{join};
+ghost use Rattle.sudoers_text.specs.Renamed.{IsDefinableName};
 ghost use Rattle.sudoers_line.specs.declared.node.Kind.{Kind as KindOf};
 ghost use Rattle.sudoers_line.specs.Node.{Def as DefOf};
 ghost use Rattle.sudoers_line.specs.Node as node_of;
+ghost use Rattle.sudoers_tree.specs.Definition.{place_of};
+ghost use Rattle.sudoers_tree.specs.Fault.{is_some};
 ghost use Rattle.sudoers_tree.specs.Line.{Line as LineOf};
-ghost use Rattle.sudoers_tree.specs.Policy.{texts};
+ghost use Rattle.sudoers_tree.specs.Policy.{SaysSo, texts};
 ghost use Rattle.sudoers_tree.specs.Reading.{read_of};
-ghost use Rattle.sudoers_edit_script.specs.declared.edit.Edit.TheVariants.{DropDef};
+ghost use Rattle.sudoers_edit_script.specs.declared.edit.Edit.TheVariants.{DropDef, Rename};
 ghost use Rattle.sudoers_edit.specs.Editing.{step as step_of};
+ghost use Rattle.sudoers_edit.specs.Renaming.{is_taken, renamed};
 ghost use Rattle.sudoers_edit.specs.declared.fault.EditFault.{EditFault as EditFaultOf};
+ghost use Rattle.laws_edit.specs.Renamed.{AreWithin, renamed_lines};
 
 use sudoers_edit::{Edit, EditFault};
-use sudoers_line::laws::definitions_ascend;
+use sudoers_line::laws::{definitions_ascend, names_stand, renamed_line};
 use sudoers_line_reader::laws::outcome_is;
 use sudoers_text::laws::{
-    cut_is, line_alone_is_whole, line_alone_size, lines_of_join, lines_stand_alone,
+    cut_is, line_alone_is_whole, line_alone_size, lines_of_join, lines_stand_alone, whole_line_is,
 };
 use sudoers_tree::laws::{one_outcome, policy_is_cut, read_is};
 
@@ -69,6 +75,87 @@ pub fn prune_is_refused_for_a_splice_alone()
     line_alone_is_whole();
     outcome_is();
     definitions_ascend();
+    read_is();
+    one_outcome();
+    policy_is_cut();
+}
+
+/// A policy with another name for an alias that it defines is a policy, while lines and text are within the limits. An alias may be
+/// defined by the new name, and none of the kind was. Each line has the new name wherever the old one meant that alias, and says the
+/// same with it.
+pub fn renamed_policy_is_one()
+    ensures { (kind : KindOf) (name fresh : List ℕ) (policy : List LineOf) → read_of (join (texts policy)) ≡ Ok policy
+        → is_some (place_of kind name policy) ≡ true → IsDefinableName fresh → is_some (place_of kind fresh policy) ≡ false
+        → AreWithin (texts (renamed_lines kind name fresh policy))
+        → read_of (join (texts (renamed_lines kind name fresh policy))) ≡ Ok (renamed_lines kind name fresh policy) }
+{
+    cut_is();
+    lines_of_join();
+    lines_stand_alone();
+    line_alone_size();
+    line_alone_is_whole();
+    whole_line_is();
+    outcome_is();
+    definitions_ascend();
+    names_stand();
+    renamed_line();
+    read_is();
+    one_outcome();
+    policy_is_cut();
+}
+
+/// The lines to which a rename leads, if it is not refused, are those with the new name wherever the old one meant the alias.
+pub fn renamed_lines_are()
+    ensures { (kind : KindOf) (name fresh : List ℕ) (policy : List LineOf) → AllByRecursion SaysSo policy
+        → renamed kind name fresh policy ≡ texts (renamed_lines kind name fresh policy) }
+{
+    names_stand();
+}
+
+/// A rename of an alias that is defined is refused for its size alone, where an alias may be defined by the new name, and none of the kind
+/// is defined or mentioned by it: a line or the text would be too long.
+pub fn rename_is_refused_for_its_size_alone()
+    ensures { (kind : KindOf) (name fresh : List ℕ) (policy : List LineOf) (fault : EditFaultOf) → read_of (join (texts policy)) ≡ Ok policy
+        → is_some (place_of kind name policy) ≡ true → IsDefinableName fresh → is_taken kind fresh policy ≡ false
+        → step_of (Rename kind name fresh) (texts policy) ≡ Err fault → fault ≡ EditFault.TooLarge }
+{
+    cut_is();
+    lines_of_join();
+    lines_stand_alone();
+    line_alone_size();
+    line_alone_is_whole();
+    whole_line_is();
+    outcome_is();
+    definitions_ascend();
+    names_stand();
+    renamed_line();
+    read_is();
+    one_outcome();
+    policy_is_cut();
+}
+
+/// Within the limits such a rename leads to the lines with the new name, and one rename takes it back: the old name given back gives the
+/// lines before.
+pub fn rename_is_taken_back()
+    ensures forth { (kind : KindOf) (name fresh : List ℕ) (policy : List LineOf) → read_of (join (texts policy)) ≡ Ok policy
+        → is_some (place_of kind name policy) ≡ true → IsDefinableName fresh → is_taken kind fresh policy ≡ false
+        → AreWithin (texts (renamed_lines kind name fresh policy))
+        → step_of (Rename kind name fresh) (texts policy) ≡ Ok (texts (renamed_lines kind name fresh policy)) }
+    ensures back { (kind : KindOf) (name fresh : List ℕ) (policy : List LineOf) → read_of (join (texts policy)) ≡ Ok policy
+        → is_some (place_of kind name policy) ≡ true → IsDefinableName fresh → is_taken kind fresh policy ≡ false
+        → AreWithin (texts (renamed_lines kind name fresh policy))
+        → step_of (Rename kind fresh name) (texts (renamed_lines kind name fresh policy)) ≡ Ok (texts policy) }
+{
+    cut_is();
+    lines_of_join();
+    lines_stand_alone();
+    line_alone_size();
+    line_alone_is_whole();
+    whole_line_is();
+    outcome_is();
+    definitions_ascend();
+    names_stand();
+    renamed_line();
     read_is();
     one_outcome();
     policy_is_cut();

@@ -1,4 +1,4 @@
-//! What the policy of an editor answers, whatever edits it took, and why a prune is refused.
+//! What the policy of an editor answers, whatever edits it took, and why a prune and a rename are refused.
 #![tactic(auto)]
 
 mod answers;
