@@ -43,8 +43,8 @@ pub fn policy_without_line_is_one()
     policy_is_cut();
 }
 
-/// A drop of a definition that stands in its line with others, where it is refused, is refused for a splice: the line would not read
-/// as before but for that definition, or this would not own exactly the bytes that go with it.
+/// A drop of a definition that stands in its line with others is refused for a splice alone. The line would not read as before but for
+/// that definition, or this would not own exactly the bytes that go with it.
 pub fn drop_is_refused_for_a_splice_alone()
     ensures { (policy : List LineOf) (line : LineOf) (kind : KindOf) (defs : List DefOf) (n at : ℕ) (fault : EditFaultOf)
         → read_of (join (texts policy)) ≡ Ok policy → slice_get policy n ≡ Some line → line.node ≡ node_of.Alias kind defs
@@ -62,8 +62,8 @@ pub fn drop_is_refused_for_a_splice_alone()
     policy_is_cut();
 }
 
-/// A prune of a policy that is refused is refused for a splice: a line would not read as before but for the one definition less, or
-/// this would not own exactly the bytes that go with it.
+/// A prune of a policy is refused for a splice alone. A line would not read as before but for the one definition less, or this would
+/// not own exactly the bytes that go with it.
 pub fn prune_is_refused_for_a_splice_alone()
     ensures { (policy : List LineOf) (fault : EditFaultOf) → read_of (join (texts policy)) ≡ Ok policy
         → step_of Edit.Prune (texts policy) ≡ Err fault → fault ≡ EditFault.BadSplice }
@@ -80,8 +80,8 @@ pub fn prune_is_refused_for_a_splice_alone()
     policy_is_cut();
 }
 
-/// A policy with another name for an alias that it defines is a policy, while lines and text are within the limits. An alias may be
-/// defined by the new name, and none of the kind was. Each line has the new name wherever the old one meant that alias, and says the
+/// A policy with another name for an alias that it defines is a policy, while lines and text are within the limits. The new name may
+/// define an alias, and defines none of the kind yet. Each line has the new name wherever the old one meant that alias, and says the
 /// same with it.
 pub fn renamed_policy_is_one()
     ensures { (kind : KindOf) (name fresh : List ℕ) (policy : List LineOf) → read_of (join (texts policy)) ≡ Ok policy
@@ -112,8 +112,8 @@ pub fn renamed_lines_are()
     names_stand();
 }
 
-/// A rename of an alias that is defined is refused for its size alone, where an alias may be defined by the new name, and none of the kind
-/// is defined or mentioned by it: a line or the text would be too long.
+/// A rename of a defined alias is refused for its size alone: a line or the text would be too long. The new name may define an alias, and
+/// is neither defined nor mentioned in the kind.
 pub fn rename_is_refused_for_its_size_alone()
     ensures { (kind : KindOf) (name fresh : List ℕ) (policy : List LineOf) (fault : EditFaultOf) → read_of (join (texts policy)) ≡ Ok policy
         → is_some (place_of kind name policy) ≡ true → IsDefinableName fresh → is_taken kind fresh policy ≡ false
@@ -134,7 +134,7 @@ pub fn rename_is_refused_for_its_size_alone()
     policy_is_cut();
 }
 
-/// Within the limits such a rename leads to the lines with the new name, and one rename takes it back: the old name given back gives the
+/// Within the limits such a rename leads to the lines with the new name. One rename takes it back: the old name, given again, leads to the
 /// lines before.
 pub fn rename_is_taken_back()
     ensures forth { (kind : KindOf) (name fresh : List ℕ) (policy : List LineOf) → read_of (join (texts policy)) ≡ Ok policy
