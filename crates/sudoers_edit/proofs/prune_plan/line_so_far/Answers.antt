@@ -1,0 +1,22 @@
+use Rattle.std.proofs.Common.{◌≡◌, ◌∙◌, ◌∷◌, ◌++◌, [], ℕ, List, Option, Some, None, reverse, ap, sym}
+use Rattle.std.proofs.lemmas.List.{reverse-append}
+use Rattle.std.specs.Option.{option_or}
+use Rattle.std.specs.Prelude.{slice_get}
+use Rattle.sudoers_tree.specs.declared.line_change.LineChange.{LineChange}
+use Rattle.sudoers_tree.specs.Policy.{texts}
+use Rattle.sudoers_edit.specs.internal.Drafts.{replaced_by}
+use Rattle.sudoers_edit.proofs.DraftOut.{replaced_first}
+use Rattle.sudoers_edit.proofs.PolicyLemmas.{text_at}
+use Rattle.sudoers_edit.proofs.prune_plan.line_so_far.Goals as goal
+
+-- what the last change says of the line
+last_says : (n : ℕ) (before changes : List LineChange) (last : LineChange) → changes ≡ before ++ last ∷ [] → replaced_by n (last ∷ []) ≡ replaced_by n (reverse changes)
+last_says n before changes last is =
+    sym (ap (λ cs. replaced_by n (reverse cs)) is ∙ ap (replaced_by n) (reverse-append before (last ∷ [])) ∙ replaced_first n last (reverse before))
+
+pub returns-in-None : goal.returns-in-None
+returns-in-None c =
+    let line : Option (List ℕ) = slice_get (texts c.args.policy.now) c.args.line in
+    c.line-in-None.ensures ∙ sym (text_at c.args.policy.now c.args.line)
+    ∙ ap (λ (o : Option (List ℕ)). option_or o line)
+    (c.in-None.ensures ∙ last_says c.args.line c.in-Some.field-0-1.now c.args.changes.now c.in-Some.last.now c.in-Some.ensures.cases.0)
