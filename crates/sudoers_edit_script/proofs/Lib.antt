@@ -1,4 +1,5 @@
 pub mod EndLemmas
+mod FileLemmas
 mod FrontLemmas
 mod NumberLemmas
 mod OneSpelling
@@ -6,6 +7,7 @@ mod PhysicalLemmas
 mod ReadingLemmas
 mod ScriptLemmas
 mod SpellingLemmas
+mod TakenLemmas
 mod WholeLines
 mod WordLemmas
 mod WritingLemmas

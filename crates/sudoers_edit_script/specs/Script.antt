@@ -95,7 +95,12 @@ set_behind last edit = unwrap_or (file_in edit) last
 -- the edits, one after another, where this file was set last
 abbrev pub spelling_since : ℕ → List Edit → List ℕ
 spelling_since last [] = []
-spelling_since last (edit ∷ edits) = set_before last (file_in edit) ++ spell edit ++ spelling_since (set_behind last edit) edits
+spelling_since last (edit ∷ edits) = set_before last (file_in edit) ++ (spell edit ++ spelling_since (set_behind last edit) edits)
+
+-- the file that is set after edits
+abbrev pub file_behind : ℕ → List Edit → ℕ
+file_behind last [] = last
+file_behind last (edit ∷ edits) = file_behind (set_behind last edit) edits
 
 -- the edits, one after another; at first the file is the first one
 abbrev pub spelling : List Edit → List ℕ

@@ -92,19 +92,30 @@ abbrev pub alone : Edit → List (List ℕ) → Said
 alone edit [] = says.Whole edit
 alone edit (word ∷ more) = says.Flawed flaw.Word
 
+-- what `add` says, by the words behind it
+abbrev pub adding : List (List ℕ) → Said
+adding more =
+    said_or (λ alias. said_or (λ at. says.Begin (draft.AddMember alias.0 alias.1 at)) (ok_or (place_of_word alias.2) flaw.Number)) (alias_and_word more)
+
+-- what `drop` says
+abbrev pub dropping : List (List ℕ) → Said
+dropping more =
+    said_or (λ alias. said_or (λ at. says.Whole (DropMember alias.0 alias.1 at)) (ok_or (place_of_word alias.2) flaw.Number)) (alias_and_word more)
+
+-- what `rename` says
+abbrev pub renaming : List (List ℕ) → Said
+renaming more = said_or (λ alias. if is_word alias.2 then says.Whole (Rename alias.0 alias.1 alias.2) else says.Flawed flaw.Word) (alias_and_word more)
+
 -- what a command of an ended line says where this file is set, by the words behind its first
 abbrev pub said_by : ℕ → Command → List (List ℕ) → Said
 said_by file by.Insert more = said_or (λ at. says.Begin (draft.Insert file at)) (one_place more)
 said_by file by.Delete more = said_or (λ at. says.Whole (Delete file at)) (one_place more)
 said_by file by.Move more = said_or (λ places. says.Whole (Move file places.0 places.1)) (two_places more)
-said_by file by.AddMember more =
-    said_or (λ alias. said_or (λ at. says.Begin (draft.AddMember alias.0 alias.1 at)) (ok_or (place_of_word alias.2) flaw.Number)) (alias_and_word more)
-said_by file by.DropMember more =
-    said_or (λ alias. said_or (λ at. says.Whole (DropMember alias.0 alias.1 at)) (ok_or (place_of_word alias.2) flaw.Number)) (alias_and_word more)
+said_by file by.AddMember more = adding more
+said_by file by.DropMember more = dropping more
 said_by file by.AddDef more = said_or (λ places. says.Begin (draft.AddDef file places.0 places.1)) (two_places more)
 said_by file by.DropDef more = said_or (λ places. says.Whole (DropDef file places.0 places.1)) (two_places more)
-said_by file by.Rename more =
-    said_or (λ alias. if is_word alias.2 then says.Whole (Rename alias.0 alias.1 alias.2) else says.Flawed flaw.Word) (alias_and_word more)
+said_by file by.Rename more = renaming more
 said_by file by.EndLine more = alone (EndLine file) more
 said_by file by.OpenEnd more = alone (OpenEnd file) more
 said_by file by.Prune more = alone Prune more

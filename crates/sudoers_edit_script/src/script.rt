@@ -1,5 +1,5 @@
 //! Reading a script, the text of a list of edits.
-ghost use Rattle.std.specs.Prelude.{◌≡◌, ◌+◌, ◌^◌, ◌<◌, ◌≤◌, ◌∷◌, ℕ, List, [], length, Option, IfOk, IfErr, OnOk, ⊥};
+ghost use Rattle.std.specs.Prelude.{◌≡◌, ◌+◌, ◌^◌, ◌<◌, ◌≤◌, ◌∷◌, ℕ, List, [], length, Option, IfOk, IfErr, OnOk};
 ghost use Rattle.sudoers_edit_script.specs.Script.{spelling, edit_limit};
 ghost use Rattle.sudoers_edit_script.specs.ScriptReading.{reading, Reads, Tells, Rest, Between, before, with_room, command_line, file_line_at, first_line, later_line};
 ghost use Rattle.sudoers_edit_script.specs.internal.ScriptStanding.{behind, next, outcome};

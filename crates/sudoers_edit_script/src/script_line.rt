@@ -1,11 +1,10 @@
 //! What a line of a script says.
-ghost use Rattle.std.specs.Prelude.{◌≡◌, ◌≤◌, ◌∷◌, ℕ, ◌==◌, ◌||◌, [], length, take, drop, IfOk, MatchOption, MatchResult, Ok, Err};
+ghost use Rattle.std.specs.Prelude.{◌≡◌, ◌≤◌, ◌∷◌, ◌==◌, ◌||◌, [], length, take, drop, IfOk, MatchOption, MatchResult, Ok, Err};
 ghost use Rattle.std.specs.List.{list_any};
 ghost use Rattle.sudoers_line.specs.Piece.{looked_up};
 ghost use Rattle.sudoers_edit_script.specs.Script.{is_word as has_word};
-ghost use Rattle.sudoers_edit_script.specs.ScriptReading.{alias_and_word, alone, file_said, kinds, names_lines as has_line_word, one_place, place_of_word, said_by, said_by_words, sense, text_in, two_places, without_end as line_body, words};
+ghost use Rattle.sudoers_edit_script.specs.ScriptReading.{adding, alias_and_word, alone, dropping, file_said, kinds, names_lines as has_line_word, one_place, place_of_word, renaming, said_by, said_by_words, sense, text_in, two_places, without_end as line_body, words};
 ghost use Rattle.sudoers_edit_script.specs.internal.ScriptStanding.{words_behind};
-ghost use Rattle.sudoers_edit_script.specs.declared.command.Command.TheVariants as by;
 
 use crate::command::{Command, command_of};
 use crate::draft::Draft;
@@ -176,7 +175,7 @@ fn alias_behind(rest: &[u8]) -> Result<(Kind, &[u8], &[u8]), Flaw>
 
 /// What `add` says, by the rest of its line.
 fn add_said(alloc: Global, rest: &[u8]) -> Result<Said, AllocError>
-    ensures { IfOk result (λ said. (file : ℕ) → said ≡ said_by file by.AddMember (words_behind rest.now)) }
+    ensures { IfOk result (λ said. said ≡ adding (words_behind rest.now)) }
 {
     match alias_behind(rest) {
         Ok((kind, name, word)) => match place_of(word) {
@@ -192,7 +191,7 @@ fn add_said(alloc: Global, rest: &[u8]) -> Result<Said, AllocError>
 
 /// What `drop` says, by the rest of its line.
 fn drop_said(alloc: Global, rest: &[u8]) -> Result<Said, AllocError>
-    ensures { IfOk result (λ said. (file : ℕ) → said ≡ said_by file by.DropMember (words_behind rest.now)) }
+    ensures { IfOk result (λ said. said ≡ dropping (words_behind rest.now)) }
 {
     match alias_behind(rest) {
         Ok((kind, name, word)) => match place_of(word) {
@@ -208,7 +207,7 @@ fn drop_said(alloc: Global, rest: &[u8]) -> Result<Said, AllocError>
 
 /// What `rename` says, by the rest of its line.
 fn rename_said(alloc: Global, rest: &[u8]) -> Result<Said, AllocError>
-    ensures { IfOk result (λ said. (file : ℕ) → said ≡ said_by file by.Rename (words_behind rest.now)) }
+    ensures { IfOk result (λ said. said ≡ renaming (words_behind rest.now)) }
 {
     match alias_behind(rest) {
         Ok((kind, name, fresh)) => {
