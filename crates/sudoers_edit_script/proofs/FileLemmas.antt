@@ -1,9 +1,10 @@
 -- The `file` lines of a spelling.
-use Rattle.std.proofs.Common.{◌≡◌, ◌⊎◌, ℕ, ◌+◌, ◌≤◌, ◌^◌, false, ◌==◌, List, [], ◌∷◌, ◌++◌, Option, Some, None, refl, sym, ap, ◌∙◌, inl, inr, append_assoc}
+use Rattle.std.specs.Prelude.{if◌then◌else◌}
+use Rattle.std.proofs.Common.{◌≡◌, ◌⊎◌, ℕ, ◌+◌, ◌≤◌, ◌^◌, Bool, false, ◌==◌, List, [], ◌∷◌, ◌++◌, Option, Some, None, refl, sym, ap, ◌∙◌, inl, inr, append_assoc}
 use Rattle.std.specs.Option.{unwrap_or}
-use Rattle.std.proofs.lemmas.Bool.{cases_Bool, eqb-true}
+use Rattle.std.proofs.lemmas.Bool.{cases_Bool, eqb-true, eq-eqb}
 use Rattle.sudoers_edit_script.specs.Physical.{physical_lines}
-use Rattle.sudoers_edit_script.specs.Script.{text_lines, spell, file_in, file_line, set_before, set_behind, IsNumbered, IsSpellable}
+use Rattle.sudoers_edit_script.specs.Script.{text_lines, spell, file_in, file_line, set_before, set_behind, spelling_since, IsNumbered, IsSpellable}
 use Rattle.sudoers_edit_script.specs.declared.edit.Edit.{Edit}
 use Rattle.sudoers_edit_script.specs.declared.edit.Edit.TheVariants.{Insert, Delete, Move, AddMember, DropMember, AddDef, DropDef, Rename, EndLine, OpenEnd, Prune}
 use Rattle.sudoers_edit_script.proofs.WordLemmas.{line_of, spell-line, lines-command}
@@ -28,6 +29,36 @@ sets last (Some file) =
       | inl t ↦ inl (record { none = rw t refl; same = eqb-true file last t })
       | inr f ↦ inr (record { to = file; is = refl; other = f; line = rw f refl })
     ]
+
+-- no `file` line stands before the command of an edit that leaves the file that is set
+unset : (last : ℕ) (file : Option ℕ) → unwrap_or file last ≡ last → set_before last file ≡ []
+unset last None same = refl
+unset last (Some file) same = rw (eq-eqb file last same) refl
+
+-- so its edits are spelled behind it
+pub since_unset : (last : ℕ) (edit : Edit) (edits : List Edit) → set_behind last edit ≡ last
+    → spelling_since last (edit ∷ edits) ≡ spell edit ++ spelling_since last edits
+since_unset last edit edits same =
+    ap (λ (z : List ℕ). z ++ (spell edit ++ spelling_since (set_behind last edit) edits)) (unset last (file_in edit) same)
+    ∙ ap (λ (f : ℕ). spell edit ++ spelling_since f edits) same
+
+-- There is a first edit, and it names lines of this file, or of none.
+abbrev pub IsFirst : Option ℕ → List Edit → Type 0
+IsFirst file [] = ⊥
+IsFirst file (edit ∷ edits) = file_in edit ≡ file
+
+-- edits that begin in another file than the one that is set begin with a `file` line
+pub since_set : (last file : ℕ) (edits : List Edit) → IsFirst (Some file) edits → (file == last) ≡ false → spelling_since last edits ≡ file_line file ++ spelling_since file edits
+since_set last file [] first other = absurd first
+since_set last file (edit ∷ edits) first other =
+    let spelled : Option ℕ → ℕ → List ℕ = λ o set. set_before set o ++ (spell edit ++ spelling_since (unwrap_or o set) edits) in
+    let rest : List ℕ = spell edit ++ spelling_since file edits in
+    ap (λ (o : Option ℕ). spelled o last) first
+    ∙ ap (λ (b : Bool). (if b then [] else file_line file) ++ rest) other
+    ∙ sym (ap (λ (z : List ℕ). file_line file ++ z) (
+    ap (λ (o : Option ℕ). spelled o file) first
+    ∙ ap (λ (b : Bool). (if b then [] else file_line file) ++ rest) (eq-eqb file file refl)
+    ))
 
 -- the number of the file that is set after an edit fits
 pub set_fits : (last : ℕ) (edit : Edit) → last + 1 ≤ 2 ^ 32 → IsNumbered edit → set_behind last edit + 1 ≤ 2 ^ 32

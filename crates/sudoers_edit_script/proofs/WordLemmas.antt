@@ -6,7 +6,7 @@ use Rattle.std.proofs.lemmas.Bool.{false≢true, cases_Bool, eqb-true, or_parts,
 use Rattle.memchr.specs.Find.{NoneBefore, Nowhere, Passes, is_byte}
 use Rattle.std.specs.Prelude.{codes, not, ◌||◌, Option, Some, None, Ok, if◌then◌else◌}
 use Rattle.std.specs.List.{list_any}
-use Rattle.std.specs.Option.{ok_or, is_some}
+use Rattle.std.specs.Option.{ok_or, is_some, unwrap_or}
 use Rattle.std.specs.Str.{bytes_eq}
 use Rattle.std.proofs.lemmas.Slice.Eq.{bytes_eq-Decides}
 use Rattle.sudoers_text.specs.Ended.{ends_in_lf}
@@ -685,6 +685,20 @@ names-command edit h =
     ap (λ (t : List ℕ). words_name_lines (words t)) (without_end-push (spaced (command_words edit)))
     ∙ ap words_name_lines (command-words edit h)
     ∙ words_name edit
+
+-- a `file` line does not
+pub names-file : (file : ℕ) → file + 1 ≤ 2 ^ 32 → names_lines (file_line file) ≡ false
+names-file file h =
+    ap (λ (t : List ℕ). words_name_lines (words t)) (without_end-push (spaced (codes "file" ∷ number file ∷ [])))
+    ∙ ap words_name_lines (words-spaced (codes "file") (number file ∷ []) (file_are_words file h))
+
+-- so the edit of such a line, where this file is set, names lines of this file
+pub named : (last : ℕ) (edit : Edit) (l : List ℕ) → Commands last edit l → names_lines l ≡ true → file_in edit ≡ Some last
+named last edit l told names = some_last (file_in edit) (sym (ap names_lines told.0 ∙ names-command edit told.1) ∙ names) told.2
+  where
+    some_last : (file : Option ℕ) → is_some file ≡ true → unwrap_or file last ≡ last → file ≡ Some last
+    some_last None some same = cc
+    some_last (Some f) some same = ap Some same
 
 -- a line of a text with its LF, behind `|`
 pub lines-more : (k rest : List ℕ) → IsLine k → ends_in_lf k ≡ true → physical_lines (124 ∷ k ++ rest) ≡ (124 ∷ k) ∷ physical_lines rest
