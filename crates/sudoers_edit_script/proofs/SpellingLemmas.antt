@@ -54,11 +54,11 @@ file_no_text : (said : Said) (file : Option ℕ) → said ≡ says.File file →
 file_no_text said file e = record { more = λ f. cc; last = λ f. cc; unended = λ f. cc }
 
 -- The first line of a spelling, which is none of a text, and the lines behind it.
-record IsBegun (last : ℕ) (text : List ℕ) : Type 0 where
-  line : List ℕ
-  more : List (List ℕ)
-  lines : physical_lines text ≡ line ∷ more
-  none : IsNoText (sense last line)
+pub record IsBegun (last : ℕ) (text : List ℕ) : Type 0 where
+  pub line : List ℕ
+  pub more : List (List ℕ)
+  pub lines : physical_lines text ≡ line ∷ more
+  pub none : IsNoText (sense last line)
 
 -- the lines of a spelling that begins with a `file` line
 lines_set : (file : ℕ) (edit : Edit) (rest : List ℕ) → file + 1 ≤ 2 ^ 32 → IsSpellable edit
@@ -67,11 +67,11 @@ lines_set file edit rest fits h =
     lines-file file (spell edit ++ rest) fits ∙ ap (λ (ls : List (List ℕ)). file_line file ∷ ls) (lines_spelled_edit edit rest h)
 
 -- a file that a `file` line sets has a number that fits
-to_fits : (last : ℕ) (edit : Edit) (s : IsSet last (file_in edit)) → last + 1 ≤ 2 ^ 32 → IsSpellable edit → s.to + 1 ≤ 2 ^ 32
+pub to_fits : (last : ℕ) (edit : Edit) (s : IsSet last (file_in edit)) → last + 1 ≤ 2 ^ 32 → IsSpellable edit → s.to + 1 ≤ 2 ^ 32
 to_fits last edit s fits h = subst (λ (f : ℕ). f + 1 ≤ 2 ^ 32) (set_to last edit s) (set_fits last edit fits h.0)
 
 -- a spelling begins with such a line
-spelling_begun : (last : ℕ) (edit : Edit) (edits : List Edit) → last + 1 ≤ 2 ^ 32 → IsSpellable edit → IsBegun last (spelling_since last (edit ∷ edits))
+pub spelling_begun : (last : ℕ) (edit : Edit) (edits : List Edit) → last + 1 ≤ 2 ^ 32 → IsSpellable edit → IsBegun last (spelling_since last (edit ∷ edits))
 spelling_begun last edit edits fits h =
     let rest : List ℕ = spelling_since (set_behind last edit) edits in
     elim (sets last (file_in edit)) [
