@@ -1,3 +1,4 @@
+mod CommandLemmas
 pub mod EndLemmas
 mod FileLemmas
 mod FrontLemmas
@@ -7,6 +8,7 @@ mod PhysicalLemmas
 mod ReadingLemmas
 mod ScriptLemmas
 mod SpellingLemmas
+mod StepLemmas
 mod TakenLemmas
 mod WholeLines
 mod WordLemmas

@@ -31,7 +31,7 @@ use Rattle.sudoers_edit_script.proofs.EndLemmas.{ended_parts, ended-push}
 use Rattle.sudoers_edit_script.proofs.PhysicalLemmas.{IsLine, without_end-ended, without_end-push, line-push, lines-ended}
 
 -- a byte other than a space goes onto the first word of the rest
-words-other : (b : ℕ) (bs : List ℕ) → (b == 32) ≡ false → words (b ∷ bs) ≡ onto b (words bs)
+pub words-other : (b : ℕ) (bs : List ℕ) → (b == 32) ≡ false → words (b ∷ bs) ≡ onto b (words bs)
 words-other b bs h = rw h refl
 
 -- a space ends an empty word
