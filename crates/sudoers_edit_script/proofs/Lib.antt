@@ -9,6 +9,7 @@ mod ReadingLemmas
 mod ScriptLemmas
 mod SpellingLemmas
 mod StepLemmas
+mod StopLemmas
 mod TakenLemmas
 mod WholeLines
 mod WordLemmas

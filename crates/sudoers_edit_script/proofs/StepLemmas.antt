@@ -56,15 +56,15 @@ IsTold faults.NoMemory line alone standing count = ⊥
 -- A line after which the reading goes on.
 pub record Goes (result : Rest → Result (List Edit) ScriptFault) (text : List ℕ) (standing : Standing) (line count : ℕ) : Type 0 where
   pub edits : List Edit
-  pub then : Standing
+  pub next : Standing
   pub file : ℕ
   pub total : ℕ
-  pub gives : (rest : Rest) → result rest ≡ behind edits (rest then file total)
+  pub gives : (rest : Rest) → result rest ≡ behind edits (rest next file total)
   pub ended : ends_in_lf text ≡ true
-  pub live : IsLive then (line + 1) total
+  pub live : IsLive next (line + 1) total
   pub set : file + 1 ≤ 2 ^ 32
   pub fits : total ≤ 65536
-  pub sum : length edits + opened then + count ≡ opened standing + total
+  pub sum : length edits + opened next + count ≡ opened standing + total
 
 -- What a line gives is a fault, which is told there.
 pub record IsFailure (result : Result (List Edit) ScriptFault) (standing : Standing) (last line count : ℕ) : Type 0 where
@@ -152,7 +152,7 @@ whole_step edit text last line count set told fits =
       | inl t ↦ inr (too_many _ last line count fits t (λ rest. no_room count (before edit (rest Between last (count + 1))) t))
       | inr f ↦ inl (record {
         edits = edit ∷ [];
-        then = Between;
+        next = Between;
         file = last;
         total = count + 1;
         gives = λ rest. has_room count (before edit (rest Between last (count + 1))) f ∙ before_one edit (rest Between last (count + 1));
@@ -210,7 +210,7 @@ set_step file text last line count set ended proper pos fits =
       | inl t ↦ inr (λ lines. filed_full lines file last line count fits t)
       | inr f ↦ inl (record {
         edits = [];
-        then = Filed (Some file) line;
+        next = Filed (Some file) line;
         file = last;
         total = count;
         gives = λ rest. behind_none (rest (Filed (Some file) line) last count);
@@ -244,7 +244,7 @@ command_step (says.Begin begun) text last line count set told pos fits =
       | inl t ↦ inr (too_many _ last line count fits t (λ rest. no_room count (rest (Begun begun line) last (count + 1)) t))
       | inr f ↦ inl (record {
         edits = [];
-        then = Begun begun line;
+        next = Begun begun line;
         file = last;
         total = count + 1;
         gives = λ rest. has_room count (rest (Begun begun line) last (count + 1)) f ∙ behind_none (rest (Begun begun line) last (count + 1));
@@ -281,7 +281,7 @@ filed_step text file at last line count true names pos live =
     elim (command_step (sense file text) text file line count live.2 (says_sense file text live.2) pos (omega (arith, live.3))) [
       | inl g ↦ inl (record {
         edits = g.edits;
-        then = g.then;
+        next = g.next;
         file = g.file;
         total = g.total;
         gives = g.gives;
@@ -310,7 +310,7 @@ first_step : (said : Said) (text t : List ℕ) (last line count : ℕ) (begun : 
 first_step says.More text t last line count begun at set told placed fits =
     inl (record {
       edits = [];
-      then = Going begun t;
+      next = Going begun t;
       file = last;
       total = count;
       gives = λ rest. behind_none (rest (Going begun t) last count);
@@ -323,7 +323,7 @@ first_step says.More text t last line count begun at set told placed fits =
 first_step says.Last text t last line count begun at set told placed fits =
     inl (record {
       edits = with_text begun t ∷ [];
-      then = Between;
+      next = Between;
       file = last;
       total = count;
       gives = λ rest. before_one (with_text begun t) (rest Between last count);
@@ -349,10 +349,10 @@ going_step : (said : Said) (text : List ℕ) (last line count : ℕ) (begun : Dr
 going_step said text last line count begun so_far (inl g) =
     inl (record {
       edits = with_text begun so_far ∷ g.edits;
-      then = g.then;
+      next = g.next;
       file = g.file;
       total = g.total;
-      gives = λ rest. ap (before (with_text begun so_far)) (g.gives rest) ∙ before-behind (with_text begun so_far) g.edits (rest g.then g.file g.total);
+      gives = λ rest. ap (before (with_text begun so_far)) (g.gives rest) ∙ before-behind (with_text begun so_far) g.edits (rest g.next g.file g.total);
       ended = g.ended;
       live = g.live;
       set = g.set;
@@ -373,7 +373,7 @@ later_step : (said : Said) (text t : List ℕ) (last line count : ℕ) (begun : 
 later_step says.More text t last line count begun so_far set told pos fits =
     inl (record {
       edits = [];
-      then = Going begun (so_far ++ t);
+      next = Going begun (so_far ++ t);
       file = last;
       total = count;
       gives = λ rest. behind_none (rest (Going begun (so_far ++ t)) last count);
@@ -387,7 +387,7 @@ later_step says.Last text [] last line count begun so_far set told pos fits = in
 later_step says.Last text (b ∷ t) last line count begun so_far set told pos fits =
     inl (record {
       edits = with_text begun (so_far ++ b ∷ t) ∷ [];
-      then = Between;
+      next = Between;
       file = last;
       total = count;
       gives = λ rest. before_one (with_text begun (so_far ++ b ∷ t)) (rest Between last count);
