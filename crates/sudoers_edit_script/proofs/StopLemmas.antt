@@ -1,10 +1,10 @@
 -- Where a reading stops with a fault: the lines before could go on, and with the next line none can.
-use Rattle.std.proofs.Common.{◌≡◌, ◌⊎◌, ℕ, suc, ◌+◌, ◌^◌, ◌<◌, ◌≤◌, true, false, List, [], ◌∷◌, ◌++◌, length, take, Option, Some, None, refl, sym, ap, subst, ◌∙◌, arith, inl, inr}
-use Rattle.std.specs.Prelude.{Result, Ok, Err, nat_le, codes}
+use Rattle.std.proofs.Common.{◌≡◌, ◌⊎◌, ℕ, suc, ◌+◌, ◌^◌, ◌<◌, ◌≤◌, true, List, [], ◌∷◌, ◌++◌, length, take, Some, None, refl, sym, ap, subst, ◌∙◌, arith, inl, inr}
+use Rattle.std.specs.Prelude.{Result, Ok, Err, codes}
 use Rattle.std.proofs.lemmas.List.{length-append}
 use Rattle.std.proofs.lemmas.Bool.{lt-leb}
 use Rattle.sudoers_text.specs.Ended.{ends_in_lf}
-use Rattle.sudoers_edit_script.specs.ScriptReading.{Standing, Between, Filed, Begun, Going, Rest, with_text, edits_from}
+use Rattle.sudoers_edit_script.specs.ScriptReading.{Standing, Between, Filed, Begun, Going, with_text, edits_from}
 use Rattle.sudoers_edit_script.specs.internal.ScriptStanding.{behind}
 use Rattle.sudoers_edit_script.specs.declared.edit.Edit.{Edit}
 use Rattle.sudoers_edit_script.specs.declared.edit.Edit.TheVariants.{EndLine}
