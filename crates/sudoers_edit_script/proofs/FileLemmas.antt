@@ -48,7 +48,8 @@ IsFirst file [] = ⊥
 IsFirst file (edit ∷ edits) = file_in edit ≡ file
 
 -- edits that begin in another file than the one that is set begin with a `file` line
-pub since_set : (last file : ℕ) (edits : List Edit) → IsFirst (Some file) edits → (file == last) ≡ false → spelling_since last edits ≡ file_line file ++ spelling_since file edits
+pub since_set : (last file : ℕ) (edits : List Edit) → IsFirst (Some file) edits → (file == last) ≡ false
+    → spelling_since last edits ≡ file_line file ++ spelling_since file edits
 since_set last file [] first other = absurd first
 since_set last file (edit ∷ edits) first other =
     let spelled : Option ℕ → ℕ → List ℕ = λ o set. set_before set o ++ (spell edit ++ spelling_since (unwrap_or o set) edits) in
@@ -79,7 +80,8 @@ pub set_to : (last : ℕ) (edit : Edit) (s : IsSet last (file_in edit)) → set_
 set_to last edit s = ap (λ (o : Option ℕ). unwrap_or o last) s.is
 
 -- the first line of an edit's spelling, before anything
-pub lines_spelled_edit : (edit : Edit) (rest : List ℕ) → IsSpellable edit → physical_lines (spell edit ++ rest) ≡ line_of edit ∷ physical_lines (text_lines edit ++ rest)
+pub lines_spelled_edit : (edit : Edit) (rest : List ℕ) → IsSpellable edit
+    → physical_lines (spell edit ++ rest) ≡ line_of edit ∷ physical_lines (text_lines edit ++ rest)
 lines_spelled_edit edit rest h =
     ap (λ (z : List ℕ). physical_lines (z ++ rest)) (spell-line edit)
     ∙ ap physical_lines (append_assoc (line_of edit) (text_lines edit) rest)

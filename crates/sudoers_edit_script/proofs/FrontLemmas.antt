@@ -49,7 +49,8 @@ ended-front [] ls ended = tt
 ended-front (k ∷ ks) ls ended = (ended.0, ended-front ks ls ended.1)
 
 -- lines with LF that give edits are the lines of their spelling
-spelled_by : (ks : List (List ℕ)) (edits : List Edit) → AreLines ks → AreEnded ks → edits_from ks 1 Between 0 0 ≡ Ok edits → (ks ≡ physical_lines (spelling edits)) × (length edits ≤ edit_limit) × AreSpellable edits
+spelled_by : (ks : List (List ℕ)) (edits : List Edit) → AreLines ks → AreEnded ks → edits_from ks 1 Between 0 0 ≡ Ok edits
+    → (ks ≡ physical_lines (spelling edits)) × (length edits ≤ edit_limit) × AreSpellable edits
 spelled_by ks edits each ended e =
     let s = lines_spelled ks each 1 Between 0 0 edits (omega arith) tt (omega arith) e in
     (lines-joined ks each ended ∙ ap physical_lines s.text, omega (arith, s.few), s.spellable)
@@ -70,14 +71,16 @@ front_before text fault s =
     record { more = s.more; edits = s.edits; spellable = by.2; few = by.1; whole = by.0 }
 
 -- and with its line they are none
-dead_behind : (text : List ℕ) (fault : ScriptFault) (s : TextStops text fault) → s.read < length (physical_lines text) → IsFront (take (suc s.read) (physical_lines text)) → ⊥
+dead_behind : (text : List ℕ) (fault : ScriptFault) (s : TextStops text fault) → s.read < length (physical_lines text)
+    → IsFront (take (suc s.read) (physical_lines text)) → ⊥
 dead_behind text fault s h f =
     let told : IsFault (edits_from (take (suc s.read) (physical_lines text) ++ f.more) 1 Between 0 0) = s.dead h f.more in
     let spelled : edits_from (physical_lines (spelling f.edits)) 1 Between 0 0 ≡ Ok f.edits = spelling_read f.edits f.spellable f.few in
     subst IsFault (ap (λ (ls : List (List ℕ)). edits_from ls 1 Between 0 0) f.whole ∙ spelled) told
 
 -- the line of a fault that is told at a line
-dead_line : (text : List ℕ) (fault : ScriptFault) (line : ℕ) (s : TextStops text fault) → line ≡ 1 + s.read → s.read < length (physical_lines text) → IsDeadLine line (physical_lines text)
+dead_line : (text : List ℕ) (fault : ScriptFault) (line : ℕ) (s : TextStops text fault) → line ≡ 1 + s.read → s.read < length (physical_lines text)
+    → IsDeadLine line (physical_lines text)
 dead_line text fault line s at h =
     record {
       counted = omega (arith, at);
@@ -88,7 +91,8 @@ dead_line text fault line s at h =
     }
 
 -- the line of a fault that wants another line than the next
-wanting_line : (text : List ℕ) (fault : ScriptFault) (line : ℕ) (s : TextStops text fault) → (s.read < length (physical_lines text)) ⊎ (s.read ≡ length (physical_lines text))
+wanting_line : (text : List ℕ) (fault : ScriptFault) (line : ℕ) (s : TextStops text fault)
+    → (s.read < length (physical_lines text)) ⊎ (s.read ≡ length (physical_lines text))
     → IsWanting fault line (1 + s.read) (edits_from (take s.read (physical_lines text)) 1 Between 0 0) → WantsNext line (physical_lines text)
 wanting_line text fault line s last w =
     let at : line ≡ s.read = omega (arith, w.0) in
@@ -111,7 +115,8 @@ wanting_line text fault line s last w =
 -- THE LAWS
 
 -- a line that may not stand there is the first with which the lines are no front, or a `file` line before a line that is
-pub word_dead : (text : List ℕ) (line : ℕ) → reading text ≡ Err (faults.BadWord line) → IsDeadLine line (physical_lines text) ⊎ WantsNext line (physical_lines text)
+pub word_dead : (text : List ℕ) (line : ℕ) → reading text ≡ Err (faults.BadWord line)
+    → IsDeadLine line (physical_lines text) ⊎ WantsNext line (physical_lines text)
 word_dead text line e =
     let s = text_stops text (faults.BadWord line) e in
     elim s.told [

@@ -223,10 +223,11 @@ spelled_some last edit edits fits n e =
     cc
 
 -- two edits whose spellings begin one text are one if the same file is set for both, and the same is behind them
-same_spell : (last : ℕ) (edit other : Edit) (rest more : List ℕ) → IsSpellable edit → IsSpellable other → IsBehind rest → IsBehind more → set_behind last edit ≡ set_behind last other
+same_spell : (last : ℕ) (edit other : Edit) (rest more : List ℕ) → IsSpellable edit → IsSpellable other → IsBehind rest → IsBehind more
+    → set_behind last edit ≡ set_behind last other
     → spell edit ++ rest ≡ spell other ++ more → (edit ≡ other) × (rest ≡ more)
 same_spell last edit other rest more n m r s set e =
-    let lines = same_lines (line_of edit) (line_of other) (spell edit ++ rest) (spell other ++ more) (physical_lines (text_lines edit ++ rest)) (physical_lines (text_lines other ++ more)) (lines_spelled_edit edit rest n) (lines_spelled_edit other more m) e in
+    let lines = same_lines _ _ _ _ _ _ (lines_spelled_edit edit rest n) (lines_spelled_edit other more m) e in
     let said : said_of edit ≡ said_of other =
     sym (sense-command last edit n) ∙ ap (sense (set_behind last edit)) lines.0
     ∙ ap (λ (f : ℕ). sense f (line_of other)) set ∙ sense-command last other m in
@@ -235,15 +236,19 @@ same_spell last edit other rest more n m r s set e =
 -- the line of a command is no `file` line
 no_file : (last file : ℕ) (edit : Edit) (rest more : List ℕ) → IsSpellable edit → file + 1 ≤ 2 ^ 32 → spell edit ++ rest ≡ file_line file ++ more → ⊥
 no_file last file edit rest more n fits e =
-    let lines = same_lines (line_of edit) (file_line file) (spell edit ++ rest) (file_line file ++ more) (physical_lines (text_lines edit ++ rest)) (physical_lines more) (lines_spelled_edit edit rest n) (lines-file file more fits) e in
+    let lines = same_lines _ _ _ _ _ _ (lines_spelled_edit edit rest n) (lines-file file more fits) e in
     let said : said_of edit ≡ says.File (Some file) =
     sym (sense-command last edit n) ∙ ap (sense (set_behind last edit)) lines.0 ∙ sense-file (set_behind last edit) file fits in
-    by_text (λ x. said_of x ≡ says.File (Some file) → ⊥) (λ begun text f. (let no : says.Begin begun ≡ says.File (Some file) = sym (texted begun text).said ∙ f in cc)) (λ x whole none f. (let no : says.Whole x ≡ says.File (Some file) = sym whole ∙ f in cc)) edit said
+    by_text (λ x. said_of x ≡ says.File (Some file) → ⊥)
+    (λ begun text f. (let no : says.Begin begun ≡ says.File (Some file) = sym (texted begun text).said ∙ f in cc))
+    (λ x whole none f. (let no : says.Whole x ≡ says.File (Some file) = sym whole ∙ f in cc))
+    edit said
 
 -- two `file` lines that begin one text set one file, and the same is behind them
-same_file : (file other : ℕ) (rest more : List ℕ) → file + 1 ≤ 2 ^ 32 → other + 1 ≤ 2 ^ 32 → file_line file ++ rest ≡ file_line other ++ more → (file ≡ other) × (rest ≡ more)
+same_file : (file other : ℕ) (rest more : List ℕ) → file + 1 ≤ 2 ^ 32 → other + 1 ≤ 2 ^ 32 → file_line file ++ rest ≡ file_line other ++ more
+    → (file ≡ other) × (rest ≡ more)
 same_file file other rest more fits fit e =
-    let lines = same_lines (file_line file) (file_line other) (file_line file ++ rest) (file_line other ++ more) (physical_lines rest) (physical_lines more) (lines-file file rest fits) (lines-file other more fit) e in
+    let lines = same_lines _ _ _ _ _ _ (lines-file file rest fits) (lines-file other more fit) e in
     let said : says.File (Some file) ≡ says.File (Some other) = sym (sense-file 0 file fits) ∙ ap (sense 0) lines.0 ∙ sense-file 0 other fit in
     (cc, same_text rest more lines.1)
 
@@ -253,28 +258,33 @@ same_first : (last : ℕ) (edit other : Edit) (rest more : List ℕ) → last + 
 same_first last edit other rest more fits n m r q e =
     let a : List ℕ = spell edit ++ rest in
     let b : List ℕ = spell other ++ more in
+    let known : (z w : List ℕ) → set_before last (file_in edit) ≡ z → set_before last (file_in other) ≡ w → z ++ a ≡ w ++ b =
+    λ z w f g. sym (ap (λ (x : List ℕ). x ++ a) f) ∙ e ∙ ap (λ (x : List ℕ). x ++ b) g in
     elim (sets last (file_in edit)) [
       | inl u ↦ elim (sets last (file_in other)) [
-        | inl v ↦ same_spell last edit other rest more n m r q (u.same ∙ sym v.same) (sym (ap (λ (z : List ℕ). z ++ a) u.none) ∙ e ∙ ap (λ (z : List ℕ). z ++ b) v.none)
-        | inr t ↦ absurd (no_file last t.to edit rest b n (to_fits last other t fits m) (sym (ap (λ (z : List ℕ). z ++ a) u.none) ∙ e ∙ ap (λ (z : List ℕ). z ++ b) t.line))
+        | inl v ↦ same_spell last edit other rest more n m r q (u.same ∙ sym v.same) (known [] [] u.none v.none)
+        | inr t ↦ absurd (no_file last t.to edit rest b n (to_fits last other t fits m) (known [] (file_line t.to) u.none t.line))
       ]
       | inr s ↦ elim (sets last (file_in other)) [
-        | inl v ↦ absurd (no_file last s.to other more a m (to_fits last edit s fits n) (sym (ap (λ (z : List ℕ). z ++ b) v.none) ∙ sym e ∙ ap (λ (z : List ℕ). z ++ a) s.line))
+        | inl v ↦ absurd (no_file last s.to other more a m (to_fits last edit s fits n) (sym (known (file_line s.to) [] s.line v.none)))
         | inr t ↦
-            let same = same_file s.to t.to a b (to_fits last edit s fits n) (to_fits last other t fits m) (sym (ap (λ (z : List ℕ). z ++ a) s.line) ∙ e ∙ ap (λ (z : List ℕ). z ++ b) t.line) in
+            let same = same_file s.to t.to a b (to_fits last edit s fits n) (to_fits last other t fits m)
+            (known (file_line s.to) (file_line t.to) s.line t.line) in
             same_spell last edit other rest more n m r q (set_to last edit s ∙ same.0 ∙ sym (set_to last other t)) same.1
       ]
     ]
 
 -- two lists of edits have two spellings where the same file is set
-since_injective : (last : ℕ) (edits others : List Edit) → last + 1 ≤ 2 ^ 32 → AreSpellable edits → AreSpellable others → spelling_since last edits ≡ spelling_since last others → edits ≡ others
+since_injective : (last : ℕ) (edits others : List Edit) → last + 1 ≤ 2 ^ 32 → AreSpellable edits → AreSpellable others
+    → spelling_since last edits ≡ spelling_since last others → edits ≡ others
 since_injective last [] [] fits n m e = refl
 since_injective last [] (other ∷ others) fits n m e = absurd (spelled_some last other others fits m.0 (sym e))
 since_injective last (edit ∷ edits) [] fits n m e = absurd (spelled_some last edit edits fits n.0 e)
 since_injective last (edit ∷ edits) (other ∷ others) fits n m e =
     let f : ℕ = set_behind last edit in
     let g : ℕ = set_behind last other in
-    let same = same_first last edit other (spelling_since f edits) (spelling_since g others) fits n.0 m.0 (behind_spelled f edits) (behind_spelled g others) e in
+    let same = same_first last edit other (spelling_since f edits) (spelling_since g others) fits n.0 m.0
+    (behind_spelled f edits) (behind_spelled g others) e in
     let rest : spelling_since f edits ≡ spelling_since f others = same.1 ∙ ap (λ (x : Edit). spelling_since (set_behind last x) others) (sym same.0) in
     ap (λ (x : Edit). x ∷ edits) same.0 ∙ ap (λ (xs : List Edit). other ∷ xs) (since_injective f edits others (set_fits last edit fits n.0.0) n.1 m.1 rest)
 

@@ -64,7 +64,8 @@ pub record Spells (standing : Standing) (last : ℕ) (lines : List (List ℕ)) (
 -- what the lines behind give is spelled by them
 abbrev pub AreSpelled : Rest → List (List ℕ) → Type 0
 AreSpelled rest lines =
-    (standing : Standing) (last count : ℕ) (edits : List Edit) → last + 1 ≤ 2 ^ 32 → IsFair last standing → count ≤ 65536 → rest standing last count ≡ Ok edits → Spells standing last lines edits count
+    (standing : Standing) (last count : ℕ) (edits : List Edit) → last + 1 ≤ 2 ^ 32 → IsFair last standing → count ≤ 65536
+    → rest standing last count ≡ Ok edits → Spells standing last lines edits count
 
 -- edits that begin with this one come from those behind it
 before_ok : (edit : Edit) (r : Result (List Edit) ScriptFault) (edits : List Edit) → before edit r ≡ Ok edits → (more : List Edit) × (r ≡ Ok more) × (edits ≡ edit ∷ more)
@@ -144,7 +145,8 @@ same_set last begun text same = ap (λ (file : Option ℕ). unwrap_or file last)
 -- COMMANDS
 
 -- the line of a command that is all of its edit, and the lines behind it, spell what they give
-whole_spelled : (edit : Edit) (rest : Rest) (lines : List (List ℕ)) (l : List ℕ) (last count : ℕ) (edits : List Edit) → last + 1 ≤ 2 ^ 32 → Commands last edit l → text_lines edit ≡ [] → AreSpelled rest lines
+whole_spelled : (edit : Edit) (rest : Rest) (lines : List (List ℕ)) (l : List ℕ) (last count : ℕ) (edits : List Edit) → last + 1 ≤ 2 ^ 32
+    → Commands last edit l → text_lines edit ≡ [] → AreSpelled rest lines
     → with_room count (before edit (rest Between last (count + 1))) ≡ Ok edits → Spells Between last (l ∷ lines) edits count
 whole_spelled edit rest lines l last count edits set told whole behind e =
     let r = room_ok count (before edit (rest Between last (count + 1))) edits e in
@@ -160,7 +162,8 @@ whole_spelled edit rest lines l last count edits set told whole behind e =
     })
 
 -- a `file` line that gives edits sets another file
-file_ok : (rest : Rest) (last line count file : ℕ) (edits : List Edit) → file_line_at rest last line count (Some file) ≡ Ok edits → ((file == last) ≡ false) × (rest (Filed (Some file) line) last count ≡ Ok edits)
+file_ok : (rest : Rest) (last line count file : ℕ) (edits : List Edit) → file_line_at rest last line count (Some file) ≡ Ok edits
+    → ((file == last) ≡ false) × (rest (Filed (Some file) line) last count ≡ Ok edits)
 file_ok rest last line count file edits e =
     elim (cases_Bool (file == last)) [
       | inl t ↦ let no : Err (faults.BadWord line) ≡ Ok edits = rw t at e in cc
@@ -168,7 +171,8 @@ file_ok rest last line count file edits e =
     ]
 
 -- a line where a command has to come, and the lines behind it, spell what they give
-command_spelled : (rest : Rest) (lines : List (List ℕ)) (l : List ℕ) (last line count : ℕ) (edits : List Edit) (said : Said) → last + 1 ≤ 2 ^ 32 → Says last said l → AreSpelled rest lines → count ≤ 65536
+command_spelled : (rest : Rest) (lines : List (List ℕ)) (l : List ℕ) (last line count : ℕ) (edits : List Edit) (said : Said) → last + 1 ≤ 2 ^ 32
+    → Says last said l → AreSpelled rest lines → count ≤ 65536
     → command_line rest last line count said ≡ Ok edits → Spells Between last (l ∷ lines) edits count
 command_spelled rest lines l last line count edits (says.Begin begun) set told behind fits e =
     let r = room_ok count (rest (Begun begun line) last (count + 1)) edits e in
@@ -179,7 +183,8 @@ command_spelled rest lines l last line count edits (says.Begin begun) set told b
       few = omega (arith, s.few);
       spellable = s.spellable;
     }
-command_spelled rest lines l last line count edits (says.Whole edit) set told behind fits e = whole_spelled edit rest lines l last count edits set told.0 told.1 behind e
+command_spelled rest lines l last line count edits (says.Whole edit) set told behind fits e =
+    whole_spelled edit rest lines l last count edits set told.0 told.1 behind e
 command_spelled rest lines l last line count edits (says.File (Some file)) set told behind fits e =
     let o = file_ok rest last line count file edits e in
     let s = behind (Filed (Some file) line) last count edits set (o.0, told.1) fits o.1 in
@@ -199,7 +204,8 @@ command_spelled rest lines l last line count edits says.Unended set told behind 
 command_spelled rest lines l last line count edits says.Other set told behind fits e = cc
 
 -- the first edit that such a line gives, if it names lines, is in the file that is set
-command_head : (rest : Rest) (lines : List (List ℕ)) (l : List ℕ) (last line count : ℕ) (edits : List Edit) (said : Said) → last + 1 ≤ 2 ^ 32 → Says last said l → names_lines l ≡ true → AreSpelled rest lines → count ≤ 65536
+command_head : (rest : Rest) (lines : List (List ℕ)) (l : List ℕ) (last line count : ℕ) (edits : List Edit) (said : Said) → last + 1 ≤ 2 ^ 32
+    → Says last said l → names_lines l ≡ true → AreSpelled rest lines → count ≤ 65536
     → command_line rest last line count said ≡ Ok edits → IsFirst (Some last) edits
 command_head rest lines l last line count edits (says.Begin begun) set told names behind fits e =
     let r = room_ok count (rest (Begun begun line) last (count + 1)) edits e in
@@ -221,7 +227,8 @@ command_head rest lines l last line count edits says.Unended set told names behi
 command_head rest lines l last line count edits says.Other set told names behind fits e = cc
 
 -- a line right behind a `file` line, and the lines behind it, spell what they give
-filed_spelled : (rest : Rest) (lines : List (List ℕ)) (l : List ℕ) (last line count at : ℕ) (file : Option ℕ) (edits : List Edit) (names : Bool) → names_lines l ≡ names → IsFair last (Filed file at) → AreSpelled rest lines → count ≤ 65536
+filed_spelled : (rest : Rest) (lines : List (List ℕ)) (l : List ℕ) (last line count at : ℕ) (file : Option ℕ) (edits : List Edit) (names : Bool)
+    → names_lines l ≡ names → IsFair last (Filed file at) → AreSpelled rest lines → count ≤ 65536
     → filed_line (λ f. command_line rest f line count (sense f l)) at file names ≡ Ok edits → Spells (Filed file at) last (l ∷ lines) edits count
 filed_spelled rest lines l last line count at file edits false names fair behind fits e = cc
 filed_spelled rest lines l last line count at None edits true names fair behind fits e = cc
@@ -238,7 +245,8 @@ filed_spelled rest lines l last line count at (Some file) edits true names fair 
 -- THE FIRST LINE OF A TEXT
 
 -- the first line of a text, with its LF
-more_first : (lines : List (List ℕ)) (l t : List ℕ) (begun : Draft) (last at count : ℕ) (edits : List Edit) → l ≡ 124 ∷ t → ends_in_lf t ≡ true → IsLine l → Spells (Going begun t) last lines edits count → Spells (Begun begun at) last (l ∷ lines) edits count
+more_first : (lines : List (List ℕ)) (l t : List ℕ) (begun : Draft) (last at count : ℕ) (edits : List Edit) → l ≡ 124 ∷ t → ends_in_lf t ≡ true → IsLine l
+    → Spells (Going begun t) last lines edits count → Spells (Begun begun at) last (l ∷ lines) edits count
 more_first lines l t begun last at count edits e h is s =
     let line : IsLine t = more_line t h (subst (λ (z : List ℕ). IsLine z) e is) in
     record {
@@ -253,7 +261,8 @@ more_first lines l t begun last at count edits e h is s =
     }
 
 -- a text of one line, without LF
-last_first : (lines : List (List ℕ)) (l t : List ℕ) (begun : Draft) (last at count : ℕ) (more : List Edit) → l ≡ 62 ∷ t ++ 10 ∷ [] → IsLine l → IsOpen last begun → Spells Between last lines more count → Spells (Begun begun at) last (l ∷ lines) (with_text begun t ∷ more) count
+last_first : (lines : List (List ℕ)) (l t : List ℕ) (begun : Draft) (last at count : ℕ) (more : List Edit) → l ≡ 62 ∷ t ++ 10 ∷ [] → IsLine l
+    → IsOpen last begun → Spells Between last lines more count → Spells (Begun begun at) last (l ∷ lines) (with_text begun t ∷ more) count
 last_first lines l t begun last at count more e is n s =
     let text : l ≡ payload t = e ∙ sym (payload_unended t (subst (λ (z : List ℕ). IsLine z) e is)) in
     record {
@@ -269,14 +278,17 @@ last_first lines l t begun last at count more e is n s =
     }
 
 -- a line right behind a command that wants a text, and the lines behind it, spell what they give
-first_spelled : (rest : Rest) (lines : List (List ℕ)) (l : List ℕ) (last line count : ℕ) (begun : Draft) (at : ℕ) (edits : List Edit) (said : Said) → last + 1 ≤ 2 ^ 32 → Says last said l → IsLine l → AreSpelled rest lines → IsOpen last begun → count ≤ 65536 → first_line rest last line count begun at (text_in said l) said ≡ Ok edits → Spells (Begun begun at) last (l ∷ lines) edits count
+first_spelled : (rest : Rest) (lines : List (List ℕ)) (l : List ℕ) (last line count : ℕ) (begun : Draft) (at : ℕ) (edits : List Edit) (said : Said)
+    → last + 1 ≤ 2 ^ 32 → Says last said l → IsLine l → AreSpelled rest lines → IsOpen last begun → count ≤ 65536
+    → first_line rest last line count begun at (text_in said l) said ≡ Ok edits → Spells (Begun begun at) last (l ∷ lines) edits count
 first_spelled rest lines l last line count begun at edits says.More set told is behind n fits e =
     let same : drop 1 l ≡ told.0 = ap (drop 1) told.1 in
     let read : rest (Going begun told.0) last count ≡ Ok edits = rw same at e in
     more_first lines l told.0 begun last at count edits told.1 told.2 is (behind (Going begun told.0) last count edits set (n, told.2) fits read)
 first_spelled rest lines l last line count begun at edits says.Last set told is behind n fits e =
     let same : drop 1 (without_end l) ≡ told.0 = ap (λ (z : List ℕ). drop 1 (without_end z)) told.1 ∙ text-last told.0 in
-    let read : before (with_text begun told.0) (rest Between last count) ≡ Ok edits = ap (λ (z : List ℕ). before (with_text begun z) (rest Between last count)) (sym same) ∙ e in
+    let read : before (with_text begun told.0) (rest Between last count) ≡ Ok edits =
+    ap (λ (z : List ℕ). before (with_text begun z) (rest Between last count)) (sym same) ∙ e in
     let b = before_ok (with_text begun told.0) (rest Between last count) edits read in
     subst (λ (es : List Edit). Spells (Begun begun at) last (l ∷ lines) es count) (sym b.2)
     (last_first lines l told.0 begun last at count b.0 told.1 is n (behind Between last count b.0 set tt fits b.1))
@@ -290,7 +302,9 @@ first_spelled rest lines l last line count begun at edits says.Other set told is
 -- A LATER LINE
 
 -- one line more of a text, with its LF
-more_later : (lines : List (List ℕ)) (l t : List ℕ) (begun : Draft) (last count : ℕ) (so_far : List ℕ) (edits : List Edit) → l ≡ 124 ∷ t → ends_in_lf t ≡ true → IsLine l → ends_in_lf so_far ≡ true → Spells (Going begun (so_far ++ t)) last lines edits count → Spells (Going begun so_far) last (l ∷ lines) edits count
+more_later : (lines : List (List ℕ)) (l t : List ℕ) (begun : Draft) (last count : ℕ) (so_far : List ℕ) (edits : List Edit) → l ≡ 124 ∷ t
+    → ends_in_lf t ≡ true → IsLine l → ends_in_lf so_far ≡ true → Spells (Going begun (so_far ++ t)) last lines edits count
+    → Spells (Going begun so_far) last (l ∷ lines) edits count
 more_later lines l t begun last count so_far edits e h is ended s =
     let line : IsLine t = more_line t h (subst (λ (z : List ℕ). IsLine z) e is) in
     record {
@@ -301,7 +315,9 @@ more_later lines l t begun last count so_far edits e h is ended s =
     }
 
 -- the last line of a text, without LF
-last_later : (lines : List (List ℕ)) (l t : List ℕ) (begun : Draft) (last count : ℕ) (so_far : List ℕ) (more : List Edit) → l ≡ 62 ∷ t ++ 10 ∷ [] → (t ≡ [] → ⊥) → IsLine l → IsOpen last begun → ends_in_lf so_far ≡ true → Spells Between last lines more count → Spells (Going begun so_far) last (l ∷ lines) (with_text begun (so_far ++ t) ∷ more) count
+last_later : (lines : List (List ℕ)) (l t : List ℕ) (begun : Draft) (last count : ℕ) (so_far : List ℕ) (more : List Edit) → l ≡ 62 ∷ t ++ 10 ∷ []
+    → (t ≡ [] → ⊥) → IsLine l → IsOpen last begun → ends_in_lf so_far ≡ true → Spells Between last lines more count
+    → Spells (Going begun so_far) last (l ∷ lines) (with_text begun (so_far ++ t) ∷ more) count
 last_later lines l t begun last count so_far more e some is n ended s =
     let text : l ≡ payload t = e ∙ sym (payload_unended t (subst (λ (z : List ℕ). IsLine z) e is)) in
     record {
@@ -313,12 +329,16 @@ last_later lines l t begun last count so_far more e some is n ended s =
     }
 
 -- a last line that gives edits is not empty
-later_last_ok : (rest : Rest) (last line count : ℕ) (begun : Draft) (so_far t : List ℕ) (edits : List Edit) → later_line rest last line count begun so_far t says.Last ≡ Ok edits → (t ≡ [] → ⊥) × (before (with_text begun (so_far ++ t)) (rest Between last count) ≡ Ok edits)
+later_last_ok : (rest : Rest) (last line count : ℕ) (begun : Draft) (so_far t : List ℕ) (edits : List Edit)
+    → later_line rest last line count begun so_far t says.Last ≡ Ok edits
+    → (t ≡ [] → ⊥) × (before (with_text begun (so_far ++ t)) (rest Between last count) ≡ Ok edits)
 later_last_ok rest last line count begun so_far [] edits e = cc
 later_last_ok rest last line count begun so_far (b ∷ t) edits e = (λ z. cc, e)
 
 -- a line that is none of the text, behind it
-ends_later : (rest : Rest) (lines : List (List ℕ)) (l : List ℕ) (last line count : ℕ) (begun : Draft) (so_far : List ℕ) (edits : List Edit) (said : Said) → last + 1 ≤ 2 ^ 32 → Says last said l → AreSpelled rest lines → IsOpen last begun → count ≤ 65536 → before (with_text begun so_far) (command_line rest last line count said) ≡ Ok edits → Spells (Going begun so_far) last (l ∷ lines) edits count
+ends_later : (rest : Rest) (lines : List (List ℕ)) (l : List ℕ) (last line count : ℕ) (begun : Draft) (so_far : List ℕ) (edits : List Edit) (said : Said)
+    → last + 1 ≤ 2 ^ 32 → Says last said l → AreSpelled rest lines → IsOpen last begun → count ≤ 65536
+    → before (with_text begun so_far) (command_line rest last line count said) ≡ Ok edits → Spells (Going begun so_far) last (l ∷ lines) edits count
 ends_later rest lines l last line count begun so_far edits said set told behind n fits e =
     let b = before_ok (with_text begun so_far) (command_line rest last line count said) edits e in
     let s = command_spelled rest lines l last line count b.0 said set told behind fits b.1 in
@@ -331,7 +351,10 @@ ends_later rest lines l last line count begun so_far edits said set told behind 
     })
 
 -- a line behind a part of a text, and the lines behind it, spell what they give
-later_spelled : (rest : Rest) (lines : List (List ℕ)) (l : List ℕ) (last line count : ℕ) (begun : Draft) (so_far : List ℕ) (edits : List Edit) (said : Said) → last + 1 ≤ 2 ^ 32 → Says last said l → IsLine l → AreSpelled rest lines → IsOpen last begun → ends_in_lf so_far ≡ true → count ≤ 65536 → later_line rest last line count begun so_far (text_in said l) said ≡ Ok edits → Spells (Going begun so_far) last (l ∷ lines) edits count
+later_spelled : (rest : Rest) (lines : List (List ℕ)) (l : List ℕ) (last line count : ℕ) (begun : Draft) (so_far : List ℕ) (edits : List Edit) (said : Said) → last + 1 ≤ 2 ^ 32 → Says last said l
+    → IsLine l → AreSpelled rest lines → IsOpen last begun → ends_in_lf so_far ≡ true → count ≤ 65536
+    → later_line rest last line count begun so_far (text_in said l) said ≡ Ok edits
+    → Spells (Going begun so_far) last (l ∷ lines) edits count
 later_spelled rest lines l last line count begun so_far edits says.More set told is behind n ended fits e =
     let same : drop 1 l ≡ told.0 = ap (drop 1) told.1 in
     let read : rest (Going begun (so_far ++ told.0)) last count ≡ Ok edits = rw same at e in
@@ -339,7 +362,8 @@ later_spelled rest lines l last line count begun so_far edits says.More set told
     (behind (Going begun (so_far ++ told.0)) last count edits set (n, ended_append so_far told.0 told.2) fits read)
 later_spelled rest lines l last line count begun so_far edits says.Last set told is behind n ended fits e =
     let same : drop 1 (without_end l) ≡ told.0 = ap (λ (z : List ℕ). drop 1 (without_end z)) told.1 ∙ text-last told.0 in
-    let read : later_line rest last line count begun so_far told.0 says.Last ≡ Ok edits = ap (λ (z : List ℕ). later_line rest last line count begun so_far z says.Last) (sym same) ∙ e in
+    let read : later_line rest last line count begun so_far told.0 says.Last ≡ Ok edits =
+    ap (λ (z : List ℕ). later_line rest last line count begun so_far z says.Last) (sym same) ∙ e in
     let o = later_last_ok rest last line count begun so_far told.0 edits read in
     let b = before_ok (with_text begun (so_far ++ told.0)) (rest Between last count) edits o.1 in
     subst (λ (es : List Edit). Spells (Going begun so_far) last (l ∷ lines) es count) (sym b.2)
@@ -359,7 +383,8 @@ later_spelled rest lines l last line count begun so_far edits says.Other set tol
 -- ALL LINES
 
 -- no line spells what is open
-no_lines : (line : ℕ) (standing : Standing) (last count : ℕ) (edits : List Edit) → IsFair last standing → count ≤ 65536 → edits_from [] line standing last count ≡ Ok edits → Spells standing last [] edits count
+no_lines : (line : ℕ) (standing : Standing) (last count : ℕ) (edits : List Edit) → IsFair last standing → count ≤ 65536
+    → edits_from [] line standing last count ≡ Ok edits → Spells standing last [] edits count
 no_lines line Between last count edits fair fits e =
     let same : [] ≡ edits = cc in
     subst (λ (es : List Edit). Spells Between last [] es count) same (record { text = refl; head = tt; few = omega arith; spellable = tt })
@@ -375,7 +400,8 @@ no_lines line (Going begun so_far) last count edits fair fits e =
     })
 
 -- one line, by where it stands
-one_line : (l : List ℕ) (lines : List (List ℕ)) (line : ℕ) → IsLine l → AreSpelled (edits_from lines (line + 1)) lines → AreSpelled (edits_from (l ∷ lines) line) (l ∷ lines)
+one_line : (l : List ℕ) (lines : List (List ℕ)) (line : ℕ) → IsLine l → AreSpelled (edits_from lines (line + 1)) lines
+    → AreSpelled (edits_from (l ∷ lines) line) (l ∷ lines)
 one_line l lines line is behind Between last count edits set fair fits e =
     command_spelled (edits_from lines (line + 1)) lines l last line count edits (sense last l) set (says_sense last l set) behind fits e
 one_line l lines line is behind (Filed file at) last count edits set fair fits e =

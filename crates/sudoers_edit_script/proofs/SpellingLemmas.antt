@@ -29,12 +29,16 @@ GivesBetween rest last count edits = (line : ℕ) → edits_from (physical_lines
 
 -- The lines behind give these edits behind the text of an edit, whatever it is.
 abbrev GivesGoing : List ℕ → ℕ → ℕ → List Edit → Type 0
-GivesGoing rest last count edits = (line : ℕ) (begun : Draft) (so_far : List ℕ) → edits_from (physical_lines rest) line (Going begun so_far) last count ≡ Ok (with_text begun so_far ∷ edits)
+GivesGoing rest last count edits =
+    (line : ℕ) (begun : Draft) (so_far : List ℕ) → edits_from (physical_lines rest) line (Going begun so_far) last count ≡ Ok (with_text begun so_far ∷ edits)
 
 -- a line that is a command or a `file` line, behind a text
-going_command : (text : List ℕ) (lines : List (List ℕ)) (line last count : ℕ) (begun : Draft) (so_far : List ℕ) (edits : List Edit) → IsNoText (sense last text) → edits_from (text ∷ lines) line Between last count ≡ Ok edits → edits_from (text ∷ lines) line (Going begun so_far) last count ≡ Ok (with_text begun so_far ∷ edits)
+going_command : (text : List ℕ) (lines : List (List ℕ)) (line last count : ℕ) (begun : Draft) (so_far : List ℕ) (edits : List Edit)
+    → IsNoText (sense last text) → edits_from (text ∷ lines) line Between last count ≡ Ok edits
+    → edits_from (text ∷ lines) line (Going begun so_far) last count ≡ Ok (with_text begun so_far ∷ edits)
 going_command text lines line last count begun so_far edits none e =
-    later_line-command (edits_from lines (line + 1)) last line count begun so_far (text_in (sense last text) text) (sense last text) none ∙ ap (before (with_text begun so_far)) e
+    later_line-command (edits_from lines (line + 1)) last line count begun so_far (text_in (sense last text) text) (sense last text) none
+    ∙ ap (before (with_text begun so_far)) e
 
 -- the command of an edit that wants a text is no line of one
 begin_no_text : (said : Said) (begun : Draft) → said ≡ says.Begin begun → IsNoText said
@@ -91,7 +95,8 @@ spelling_begun last edit edits fits h =
     ]
 
 -- a spelling that gives its edits where a command has to come gives them behind a text too
-gives_going : (edits : List Edit) (last count : ℕ) → last + 1 ≤ 2 ^ 32 → AreSpellable edits → GivesBetween (spelling_since last edits) last count edits → GivesGoing (spelling_since last edits) last count edits
+gives_going : (edits : List Edit) (last count : ℕ) → last + 1 ≤ 2 ^ 32 → AreSpellable edits → GivesBetween (spelling_since last edits) last count edits
+    → GivesGoing (spelling_since last edits) last count edits
 gives_going [] last count fits n h = λ line begun so_far. refl
 gives_going (edit ∷ edits) last count fits n h =
     λ line begun so_far.
@@ -134,27 +139,32 @@ lines_payload_last k rest is unended =
     ∙ lines-last k rest (unended_lacks k is unended)
 
 -- a line with LF grows a text
-later_more : (rest : Rest) (last line count : ℕ) (begun : Draft) (so_far k : List ℕ) (said : Said) → said ≡ says.More → later_line rest last line count begun so_far (text_in said (124 ∷ k)) said ≡ rest (Going begun (so_far ++ k)) last count
+later_more : (rest : Rest) (last line count : ℕ) (begun : Draft) (so_far k : List ℕ) (said : Said) → said ≡ says.More
+    → later_line rest last line count begun so_far (text_in said (124 ∷ k)) said ≡ rest (Going begun (so_far ++ k)) last count
 later_more rest last line count begun so_far k said e = rw e refl
 
 -- a line with LF begins a text
-first_more : (rest : Rest) (last line count : ℕ) (begun : Draft) (at : ℕ) (k : List ℕ) (said : Said) → said ≡ says.More → first_line rest last line count begun at (text_in said (124 ∷ k)) said ≡ rest (Going begun k) last count
+first_more : (rest : Rest) (last line count : ℕ) (begun : Draft) (at : ℕ) (k : List ℕ) (said : Said) → said ≡ says.More
+    → first_line rest last line count begun at (text_in said (124 ∷ k)) said ≡ rest (Going begun k) last count
 first_more rest last line count begun at k said e = rw e refl
 
 -- a line without LF ends a text
-later_last_some : (rest : Rest) (last line count : ℕ) (begun : Draft) (so_far k : List ℕ) → IsLine k → later_line rest last line count begun so_far k says.Last ≡ before (with_text begun (so_far ++ k)) (rest Between last count)
+later_last_some : (rest : Rest) (last line count : ℕ) (begun : Draft) (so_far k : List ℕ) → IsLine k
+    → later_line rest last line count begun so_far k says.Last ≡ before (with_text begun (so_far ++ k)) (rest Between last count)
 later_last_some rest last line count begun so_far [] is = absurd is
 later_last_some rest last line count begun so_far (b ∷ bs) is = refl
 
 -- so it does as it is spelled
-later_last : (rest : Rest) (last line count : ℕ) (begun : Draft) (so_far k : List ℕ) → IsLine k → later_line rest last line count begun so_far (text_in (sense last (62 ∷ k ++ 10 ∷ [])) (62 ∷ k ++ 10 ∷ [])) (sense last (62 ∷ k ++ 10 ∷ [])) ≡ before (with_text begun (so_far ++ k)) (rest Between last count)
+later_last : (rest : Rest) (last line count : ℕ) (begun : Draft) (so_far k : List ℕ) → IsLine k
+    → later_line rest last line count begun so_far (text_in (sense last (62 ∷ k ++ 10 ∷ [])) (62 ∷ k ++ 10 ∷ [])) (sense last (62 ∷ k ++ 10 ∷ [])) ≡ before (with_text begun (so_far ++ k)) (rest Between last count)
 later_last rest last line count begun so_far k is =
     ap (λ (s : Said). later_line rest last line count begun so_far (text_in s (62 ∷ k ++ 10 ∷ [])) s) (sense-last last k)
     ∙ ap (λ (t : List ℕ). later_line rest last line count begun so_far t says.Last) (text-last k)
     ∙ later_last_some rest last line count begun so_far k is
 
 -- a line without LF alone is a text
-first_last : (rest : Rest) (last line count : ℕ) (begun : Draft) (at : ℕ) (k : List ℕ) → first_line rest last line count begun at (text_in (sense last (62 ∷ k ++ 10 ∷ [])) (62 ∷ k ++ 10 ∷ [])) (sense last (62 ∷ k ++ 10 ∷ [])) ≡ before (with_text begun k) (rest Between last count)
+first_last : (rest : Rest) (last line count : ℕ) (begun : Draft) (at : ℕ) (k : List ℕ)
+    → first_line rest last line count begun at (text_in (sense last (62 ∷ k ++ 10 ∷ [])) (62 ∷ k ++ 10 ∷ [])) (sense last (62 ∷ k ++ 10 ∷ [])) ≡ before (with_text begun k) (rest Between last count)
 first_last rest last line count begun at k =
     ap (λ (s : Said). first_line rest last line count begun at (text_in s (62 ∷ k ++ 10 ∷ [])) s) (sense-last last k)
     ∙ ap (λ (t : List ℕ). first_line rest last line count begun at t says.Last) (text-last k)
@@ -164,7 +174,9 @@ unended_alone : (k next : List ℕ) (ks : List (List ℕ)) → ends_in_lf k ≡ 
 unended_alone k next ks u h = let p : true ≡ false = rw u at h in true≢false p
 
 -- more lines of a text, behind these
-read_more : (ks : List (List ℕ)) (rest : List ℕ) (last count : ℕ) (edits : List Edit) → AreLines ks → has_unended_inside ks ≡ false → GivesBetween rest last count edits → GivesGoing rest last count edits → (line : ℕ) (begun : Draft) (so_far : List ℕ) → edits_from (physical_lines (flat_map payload_line ks ++ rest)) line (Going begun so_far) last count ≡ Ok (with_text begun (so_far ++ join ks) ∷ edits)
+read_more : (ks : List (List ℕ)) (rest : List ℕ) (last count : ℕ) (edits : List Edit) → AreLines ks → has_unended_inside ks ≡ false
+    → GivesBetween rest last count edits → GivesGoing rest last count edits → (line : ℕ) (begun : Draft) (so_far : List ℕ)
+    → edits_from (physical_lines (flat_map payload_line ks ++ rest)) line (Going begun so_far) last count ≡ Ok (with_text begun (so_far ++ join ks) ∷ edits)
 read_more [] rest last count edits each ended between going line begun so_far =
     going line begun so_far ∙ ap (λ (t : List ℕ). Ok (with_text begun t ∷ edits)) (sym (append-nil so_far))
 read_more (k ∷ []) rest last count edits each ended between going line begun so_far =
@@ -191,7 +203,9 @@ read_more (k ∷ next ∷ ks) rest last count edits each ended between going lin
     ]
 
 -- the lines of a text, right behind its command
-read_first : (ks : List (List ℕ)) (rest : List ℕ) (last count : ℕ) (edits : List Edit) → AreLines ks → (ks ≡ [] → ⊥) → has_unended_inside ks ≡ false → GivesBetween rest last count edits → GivesGoing rest last count edits → (line : ℕ) (begun : Draft) (at : ℕ) → edits_from (physical_lines (flat_map payload_line ks ++ rest)) line (Begun begun at) last count ≡ Ok (with_text begun (join ks) ∷ edits)
+read_first : (ks : List (List ℕ)) (rest : List ℕ) (last count : ℕ) (edits : List Edit) → AreLines ks → (ks ≡ [] → ⊥) → has_unended_inside ks ≡ false
+    → GivesBetween rest last count edits → GivesGoing rest last count edits → (line : ℕ) (begun : Draft) (at : ℕ)
+    → edits_from (physical_lines (flat_map payload_line ks ++ rest)) line (Begun begun at) last count ≡ Ok (with_text begun (join ks) ∷ edits)
 read_first [] rest last count edits each some ended between going line begun at = absurd (some refl)
 read_first (k ∷ []) rest last count edits each some ended between going line begun at =
     elim (cases_Bool (ends_in_lf k)) [
@@ -216,7 +230,9 @@ read_first (k ∷ next ∷ ks) rest last count edits each some ended between goi
     ]
 
 -- a payload is read as its text
-read_payload : (text rest : List ℕ) (last count : ℕ) (edits : List Edit) → GivesBetween rest last count edits → GivesGoing rest last count edits → (line : ℕ) (begun : Draft) (at : ℕ) → edits_from (physical_lines (payload text ++ rest)) line (Begun begun at) last count ≡ Ok (with_text begun text ∷ edits)
+read_payload : (text rest : List ℕ) (last count : ℕ) (edits : List Edit) → GivesBetween rest last count edits → GivesGoing rest last count edits
+    → (line : ℕ) (begun : Draft) (at : ℕ)
+    → edits_from (physical_lines (payload text ++ rest)) line (Begun begun at) last count ≡ Ok (with_text begun text ∷ edits)
 read_payload [] rest last count edits between going line begun at =
     ap (λ (ls : List (List ℕ)). edits_from ls line (Begun begun at) last count) (lines-last [] rest refl)
     ∙ first_last (edits_from (physical_lines rest) (line + 1)) last line count begun at []
@@ -247,7 +263,8 @@ read_texted last count edits fits begun text n rest between going line =
     ∙ read_payload text rest file (count + 1) edits between going (line + 1) begun line
 
 -- so is one whose command is all of it
-read_whole : (last count : ℕ) (edits : List Edit) → count < 65536 → (edit : Edit) → said_of edit ≡ says.Whole edit → text_lines edit ≡ [] → IsEditRead last count edits edit
+read_whole : (last count : ℕ) (edits : List Edit) → count < 65536 → (edit : Edit) → said_of edit ≡ says.Whole edit → text_lines edit ≡ []
+    → IsEditRead last count edits edit
 read_whole last count edits fits edit said none n rest between going line =
     let file : ℕ = set_behind last edit in
     let lines : Rest = edits_from (physical_lines rest) (line + 1) in
@@ -281,7 +298,8 @@ read_since last count edit edits fits n gives line =
     ]
 
 -- a spelling is read, with room for it
-read_spelled : (edits : List Edit) → AreSpellable edits → (last count : ℕ) → last + 1 ≤ 2 ^ 32 → length edits + count ≤ 65536 → GivesBetween (spelling_since last edits) last count edits
+read_spelled : (edits : List Edit) → AreSpellable edits → (last count : ℕ) → last + 1 ≤ 2 ^ 32 → length edits + count ≤ 65536
+    → GivesBetween (spelling_since last edits) last count edits
 read_spelled [] n last count set fits = λ line. refl
 read_spelled (edit ∷ edits) n last count set fits =
     let file : ℕ = set_behind last edit in

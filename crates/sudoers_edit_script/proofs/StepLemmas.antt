@@ -27,7 +27,8 @@ step (Begun begun at) last line count text rest = first_line rest last line coun
 step (Going begun so_far) last line count text rest = later_line rest last line count begun so_far (text_in (sense last text) text) (sense last text)
 
 -- so it does before other lines
-pub edits-step : (text : List ℕ) (lines : List (List ℕ)) (line : ℕ) (standing : Standing) (last count : ℕ) → edits_from (text ∷ lines) line standing last count ≡ step standing last line count text (edits_from lines (line + 1))
+pub edits-step : (text : List ℕ) (lines : List (List ℕ)) (line : ℕ) (standing : Standing) (last count : ℕ)
+    → edits_from (text ∷ lines) line standing last count ≡ step standing last line count text (edits_from lines (line + 1))
 edits-step text lines line Between last count = refl
 edits-step text lines line (Filed file at) last count = refl
 edits-step text lines line (Begun begun at) last count = refl
@@ -76,6 +77,10 @@ pub record IsFailure (result : Result (List Edit) ScriptFault) (standing : Stand
 abbrev pub Fails : (Rest → Result (List Edit) ScriptFault) → Standing → ℕ → ℕ → ℕ → Type 0
 Fails result standing last line count = (lines : List (List ℕ)) → IsFailure (result (edits_from lines (line + 1))) standing last line count
 
+-- After a line the reading goes on, or it fails there.
+abbrev pub Steps : (Rest → Result (List Edit) ScriptFault) → List ℕ → Standing → ℕ → ℕ → ℕ → Type 0
+Steps result text standing last line count = Goes result text standing line count ⊎ Fails result standing last line count
+
 -- nothing before
 behind_none : (r : Result (List Edit) ScriptFault) → r ≡ behind [] r
 behind_none (Ok more) = refl
@@ -111,22 +116,26 @@ has_room count r f = rw f refl
 -- FAULTS
 
 -- one command too many
-too_many : (result : Rest → Result (List Edit) ScriptFault) (last line count : ℕ) → count ≤ 65536 → nat_le 65536 count ≡ true → ((rest : Rest) → result rest ≡ Err faults.TooMany) → Fails result Between last line count
+too_many : (result : Rest → Result (List Edit) ScriptFault) (last line count : ℕ) → count ≤ 65536 → nat_le 65536 count ≡ true
+    → ((rest : Rest) → result rest ≡ Err faults.TooMany) → Fails result Between last line count
 too_many result last line count fits t gives lines =
     let full : 65536 ≤ count = leb-true 65536 count t in
     record { fault = faults.TooMany; gives = gives (edits_from lines (line + 1)); told = ([], refl, omega arith) }
 
 -- a line that may not stand there
-bad_word : (result : Rest → Result (List Edit) ScriptFault) (standing : Standing) (last line count : ℕ) → ((rest : Rest) → result rest ≡ Err (faults.BadWord line)) → Fails result standing last line count
+bad_word : (result : Rest → Result (List Edit) ScriptFault) (standing : Standing) (last line count : ℕ)
+    → ((rest : Rest) → result rest ≡ Err (faults.BadWord line)) → Fails result standing last line count
 bad_word result standing last line count gives lines = record { fault = faults.BadWord line; gives = gives (edits_from lines (line + 1)); told = inl refl }
 
 -- a line with a flaw
-flawed_step : (f : Flaw) (result : Rest → Result (List Edit) ScriptFault) (last line count : ℕ) → ((rest : Rest) → result rest ≡ Err (fault_of f line)) → Fails result Between last line count
+flawed_step : (f : Flaw) (result : Rest → Result (List Edit) ScriptFault) (last line count : ℕ) → ((rest : Rest) → result rest ≡ Err (fault_of f line))
+    → Fails result Between last line count
 flawed_step flaw.Word result last line count gives = bad_word result Between last line count gives
 flawed_step flaw.Number result last line count gives = λ lines. record { fault = faults.BadNumber line; gives = gives (edits_from lines (line + 1)); told = refl }
 
 -- a fault that is told where a command has to come is told elsewhere too, if one command too many is
-told_elsewhere : (fault : ScriptFault) (line count : ℕ) (alone : Result (List Edit) ScriptFault) (standing : Standing) → IsTold fault line (Ok []) Between count → (count ≡ 65536 → IsTold faults.TooMany line alone standing count)
+told_elsewhere : (fault : ScriptFault) (line count : ℕ) (alone : Result (List Edit) ScriptFault) (standing : Standing)
+    → IsTold fault line (Ok []) Between count → (count ≡ 65536 → IsTold faults.TooMany line alone standing count)
     → IsTold fault line alone standing count
 told_elsewhere (faults.BadWord at) line count alone standing (inl h) full = inl h
 told_elsewhere (faults.BadWord at) line count alone standing (inr w) full = let no = w.2 in cc
@@ -146,7 +155,7 @@ command_ended last edit text told = ended_by text (spaced (command_words edit)) 
 
 -- the line of a command that is all of its edit
 whole_step : (edit : Edit) (text : List ℕ) (last line count : ℕ) → last + 1 ≤ 2 ^ 32 → Commands last edit text → count ≤ 65536
-    → Goes (λ rest. with_room count (before edit (rest Between last (count + 1)))) text Between line count ⊎ Fails (λ rest. with_room count (before edit (rest Between last (count + 1)))) Between last line count
+    → Steps (λ rest. with_room count (before edit (rest Between last (count + 1)))) text Between last line count
 whole_step edit text last line count set told fits =
     elim (cases_Bool (nat_le 65536 count)) [
       | inl t ↦ inr (too_many _ last line count fits t (λ rest. no_room count (before edit (rest Between last (count + 1))) t))
@@ -167,7 +176,8 @@ whole_step edit text last line count set told fits =
 -- FILE LINES
 
 -- a command behind a `file` line is one too many
-full_command : (rest : Rest) (file line count : ℕ) (said : Said) → IsCommand said → nat_le 65536 count ≡ true → command_line rest file line count said ≡ Err faults.TooMany
+full_command : (rest : Rest) (file line count : ℕ) (said : Said) → IsCommand said → nat_le 65536 count ≡ true
+    → command_line rest file line count said ≡ Err faults.TooMany
 full_command rest file line count (says.Begin begun) is t = no_room count (rest (Begun begun line) file (count + 1)) t
 full_command rest file line count (says.Whole edit) is t = no_room count (before edit (rest Between file (count + 1))) t
 full_command rest file line count (says.Flawed f) is t = no_room count (Err (fault_of f line)) t
@@ -178,7 +188,8 @@ full_command rest file line count says.Unended is t = absurd is
 full_command rest file line count says.Other is t = absurd is
 
 -- what a line gives right behind a `file` line that no command may follow
-filed_full : (lines : List (List ℕ)) (file last line count : ℕ) → count ≤ 65536 → nat_le 65536 count ≡ true → IsFailure (edits_from lines (line + 1) (Filed (Some file) line) last count) Between last line count
+filed_full : (lines : List (List ℕ)) (file last line count : ℕ) → count ≤ 65536 → nat_le 65536 count ≡ true
+    → IsFailure (edits_from lines (line + 1) (Filed (Some file) line) last count) Between last line count
 filed_full [] file last line count fits t = record { fault = faults.BadWord line; gives = refl; told = inl refl }
 filed_full (text ∷ lines) file last line count fits t =
     let gives : ℕ → Result (List Edit) ScriptFault = λ f. command_line (edits_from lines (line + 1 + 1)) f (line + 1) count (sense f text) in
@@ -204,7 +215,7 @@ filed_none (text ∷ lines) last line count =
 
 -- a `file` line that sets another file
 set_step : (file : ℕ) (text : List ℕ) (last line count : ℕ) → last + 1 ≤ 2 ^ 32 → ends_in_lf text ≡ true → file + 1 ≤ 2 ^ 32 → 0 < line → count ≤ 65536
-    → Goes (λ rest. rest (Filed (Some file) line) last count) text Between line count ⊎ Fails (λ rest. rest (Filed (Some file) line) last count) Between last line count
+    → Steps (λ rest. rest (Filed (Some file) line) last count) text Between last line count
 set_step file text last line count set ended proper pos fits =
     elim (cases_Bool (nat_le 65536 count)) [
       | inl t ↦ inr (λ lines. filed_full lines file last line count fits t)
@@ -224,7 +235,7 @@ set_step file text last line count set ended proper pos fits =
 
 -- a `file` line
 file_step : (file : ℕ) (text : List ℕ) (last line count : ℕ) → last + 1 ≤ 2 ^ 32 → ends_in_lf text ≡ true → file + 1 ≤ 2 ^ 32 → 0 < line → count ≤ 65536
-    → Goes (λ rest. file_line_at rest last line count (Some file)) text Between line count ⊎ Fails (λ rest. file_line_at rest last line count (Some file)) Between last line count
+    → Steps (λ rest. file_line_at rest last line count (Some file)) text Between last line count
 file_step file text last line count set ended proper pos fits =
     elim (cases_Bool (file == last)) [
       | inl t ↦ inr (bad_word (λ rest. file_line_at rest last line count (Some file)) Between last line count (λ rest. rw t refl))
@@ -233,12 +244,13 @@ file_step file text last line count set ended proper pos fits =
 
 -- A LINE WHERE A COMMAND HAS TO COME
 
--- Behind a line where a command has to come the reading goes on, or it fails there.
-abbrev Steps : Said → List ℕ → ℕ → ℕ → ℕ → Type 0
-Steps said text last line count = Goes (λ rest. command_line rest last line count said) text Between line count ⊎ Fails (λ rest. command_line rest last line count said) Between last line count
+-- After a line that says this where a command has to come the reading goes on, or it fails there.
+abbrev CommandSteps : Said → List ℕ → ℕ → ℕ → ℕ → Type 0
+CommandSteps said text last line count = Steps (λ rest. command_line rest last line count said) text Between last line count
 
 -- so it is for each line
-command_step : (said : Said) (text : List ℕ) (last line count : ℕ) → last + 1 ≤ 2 ^ 32 → Says last said text → 0 < line → count ≤ 65536 → Steps said text last line count
+command_step : (said : Said) (text : List ℕ) (last line count : ℕ) → last + 1 ≤ 2 ^ 32 → Says last said text → 0 < line → count ≤ 65536
+    → CommandSteps said text last line count
 command_step (says.Begin begun) text last line count set told pos fits =
     elim (cases_Bool (nat_le 65536 count)) [
       | inl t ↦ inr (too_many _ last line count fits t (λ rest. no_room count (rest (Begun begun line) last (count + 1)) t))
@@ -273,8 +285,7 @@ command_step says.Other text last line count set told pos fits = inr (bad_word _
 
 -- a line right behind a `file` line
 filed_step : (text : List ℕ) (file at last line count : ℕ) (names : Bool) → names_lines text ≡ names → 0 < line → IsLive (Filed (Some file) at) line count
-    → Goes (λ rest. filed_line (λ f. command_line rest f line count (sense f text)) at (Some file) names) text (Filed (Some file) at) line count
-    ⊎ Fails (λ rest. filed_line (λ f. command_line rest f line count (sense f text)) at (Some file) names) (Filed (Some file) at) last line count
+    → Steps (λ rest. filed_line (λ f. command_line rest f line count (sense f text)) at (Some file) names) text (Filed (Some file) at) last line count
 filed_step text file at last line count false names pos live =
     inr (λ lines. record { fault = faults.BadWord at; gives = refl; told = inr (live.0, live.1, refl) })
 filed_step text file at last line count true names pos live =
@@ -294,19 +305,22 @@ filed_step text file at last line count true names pos live =
       | inr f ↦ inr (λ lines. record {
         fault = (f lines).fault;
         gives = (f lines).gives;
-        told = told_elsewhere (f lines).fault line count (Err (faults.BadWord at)) (Filed (Some file) at) (f lines).told (λ full. absurd (omega (arith, full, live.3)));
+        told = told_elsewhere (f lines).fault line count (Err (faults.BadWord at)) (Filed (Some file) at) (f lines).told
+            (λ full. absurd (omega (arith, full, live.3)));
       })
     ]
 
 -- THE FIRST LINE OF A TEXT
 
 -- no text behind a command
-no_payload : (result : Rest → Result (List Edit) ScriptFault) (last line count : ℕ) (begun : Draft) (at : ℕ) → (at + 1 ≡ line) × (0 < at) → ((rest : Rest) → result rest ≡ Err (faults.NoPayload at)) → Fails result (Begun begun at) last line count
+no_payload : (result : Rest → Result (List Edit) ScriptFault) (last line count : ℕ) (begun : Draft) (at : ℕ) → (at + 1 ≡ line) × (0 < at)
+    → ((rest : Rest) → result rest ≡ Err (faults.NoPayload at)) → Fails result (Begun begun at) last line count
 no_payload result last line count begun at placed gives lines = record { fault = faults.NoPayload at; gives = gives (edits_from lines (line + 1)); told = (placed.0, placed.1, refl) }
 
 -- a line right behind a command that wants a text
-first_step : (said : Said) (text t : List ℕ) (last line count : ℕ) (begun : Draft) (at : ℕ) → last + 1 ≤ 2 ^ 32 → Says last said text → (at + 1 ≡ line) × (0 < at) → count ≤ 65536
-    → Goes (λ rest. first_line rest last line count begun at t said) text (Begun begun at) line count ⊎ Fails (λ rest. first_line rest last line count begun at t said) (Begun begun at) last line count
+first_step : (said : Said) (text t : List ℕ) (last line count : ℕ) (begun : Draft) (at : ℕ) → last + 1 ≤ 2 ^ 32 → Says last said text
+    → (at + 1 ≡ line) × (0 < at) → count ≤ 65536
+    → Steps (λ rest. first_line rest last line count begun at t said) text (Begun begun at) last line count
 first_step says.More text t last line count begun at set told placed fits =
     inl (record {
       edits = [];
@@ -343,9 +357,8 @@ first_step says.Other text t last line count begun at set told placed fits = inr
 -- A LATER LINE
 
 -- a command behind a text
-going_step : (said : Said) (text : List ℕ) (last line count : ℕ) (begun : Draft) (so_far : List ℕ) → Steps said text last line count
-    → Goes (λ rest. before (with_text begun so_far) (command_line rest last line count said)) text (Going begun so_far) line count
-    ⊎ Fails (λ rest. before (with_text begun so_far) (command_line rest last line count said)) (Going begun so_far) last line count
+going_step : (said : Said) (text : List ℕ) (last line count : ℕ) (begun : Draft) (so_far : List ℕ) → CommandSteps said text last line count
+    → Steps (λ rest. before (with_text begun so_far) (command_line rest last line count said)) text (Going begun so_far) last line count
 going_step said text last line count begun so_far (inl g) =
     inl (record {
       edits = with_text begun so_far ∷ g.edits;
@@ -368,8 +381,9 @@ going_step said text last line count begun so_far (inr f) =
     })
 
 -- a line behind a part of a text
-later_step : (said : Said) (text t : List ℕ) (last line count : ℕ) (begun : Draft) (so_far : List ℕ) → last + 1 ≤ 2 ^ 32 → Says last said text → 0 < line → count ≤ 65536
-    → Goes (λ rest. later_line rest last line count begun so_far t said) text (Going begun so_far) line count ⊎ Fails (λ rest. later_line rest last line count begun so_far t said) (Going begun so_far) last line count
+later_step : (said : Said) (text t : List ℕ) (last line count : ℕ) (begun : Draft) (so_far : List ℕ) → last + 1 ≤ 2 ^ 32 → Says last said text → 0 < line
+    → count ≤ 65536
+    → Steps (λ rest. later_line rest last line count begun so_far t said) text (Going begun so_far) last line count
 later_step says.More text t last line count begun so_far set told pos fits =
     inl (record {
       edits = [];
@@ -398,19 +412,26 @@ later_step says.Last text (b ∷ t) last line count begun so_far set told pos fi
       sum = omega arith;
     })
 later_step says.Unended text t last line count begun so_far set told pos fits = inr (bad_word _ (Going begun so_far) last line count (λ rest. refl))
-later_step (says.Begin other) text t last line count begun so_far set told pos fits = going_step (says.Begin other) text last line count begun so_far (command_step (says.Begin other) text last line count set told pos fits)
-later_step (says.Whole edit) text t last line count begun so_far set told pos fits = going_step (says.Whole edit) text last line count begun so_far (command_step (says.Whole edit) text last line count set told pos fits)
-later_step (says.Flawed f) text t last line count begun so_far set told pos fits = going_step (says.Flawed f) text last line count begun so_far (command_step (says.Flawed f) text last line count set told pos fits)
-later_step (says.File file) text t last line count begun so_far set told pos fits = going_step (says.File file) text last line count begun so_far (command_step (says.File file) text last line count set told pos fits)
-later_step says.Other text t last line count begun so_far set told pos fits = going_step says.Other text last line count begun so_far (command_step says.Other text last line count set told pos fits)
+later_step (says.Begin other) text t last line count begun so_far set told pos fits =
+    going_step (says.Begin other) text last line count begun so_far (command_step (says.Begin other) text last line count set told pos fits)
+later_step (says.Whole edit) text t last line count begun so_far set told pos fits =
+    going_step (says.Whole edit) text last line count begun so_far (command_step (says.Whole edit) text last line count set told pos fits)
+later_step (says.Flawed f) text t last line count begun so_far set told pos fits =
+    going_step (says.Flawed f) text last line count begun so_far (command_step (says.Flawed f) text last line count set told pos fits)
+later_step (says.File file) text t last line count begun so_far set told pos fits =
+    going_step (says.File file) text last line count begun so_far (command_step (says.File file) text last line count set told pos fits)
+later_step says.Other text t last line count begun so_far set told pos fits =
+    going_step says.Other text last line count begun so_far (command_step says.Other text last line count set told pos fits)
 
 -- EACH LINE
 
 -- after a line the reading goes on, or it fails there
 pub one_step : (standing : Standing) (text : List ℕ) (last line count : ℕ) → 0 < line → last + 1 ≤ 2 ^ 32 → IsLive standing line count → count ≤ 65536
-    → Goes (step standing last line count text) text standing line count ⊎ Fails (step standing last line count text) standing last line count
+    → Steps (step standing last line count text) text standing last line count
 one_step Between text last line count pos set live fits = command_step (sense last text) text last line count set (says_sense last text set) pos fits
 one_step (Filed None at) text last line count pos set live fits = absurd live
 one_step (Filed (Some file) at) text last line count pos set live fits = filed_step text file at last line count (names_lines text) refl pos live
-one_step (Begun begun at) text last line count pos set live fits = first_step (sense last text) text (text_in (sense last text) text) last line count begun at set (says_sense last text set) live fits
-one_step (Going begun so_far) text last line count pos set live fits = later_step (sense last text) text (text_in (sense last text) text) last line count begun so_far set (says_sense last text set) pos fits
+one_step (Begun begun at) text last line count pos set live fits =
+    first_step (sense last text) text (text_in (sense last text) text) last line count begun at set (says_sense last text set) live fits
+one_step (Going begun so_far) text last line count pos set live fits =
+    later_step (sense last text) text (text_in (sense last text) text) last line count begun so_far set (says_sense last text set) pos fits

@@ -83,7 +83,8 @@ fault_behind edits (Ok more) h = h
 fault_behind edits (Err fault) h = tt
 
 -- what is told behind one line more
-told_behind : (fault : ScriptFault) (at : ℕ) (r : Result (List Edit) ScriptFault) (edits : List Edit) (standing next : Standing) (count total : ℕ) → length edits + opened next + count ≡ opened standing + total
+told_behind : (fault : ScriptFault) (at : ℕ) (r : Result (List Edit) ScriptFault) (edits : List Edit) (standing next : Standing) (count total : ℕ)
+    → length edits + opened next + count ≡ opened standing + total
     → IsTold fault at r next total → IsTold fault at (behind edits r) standing count
 told_behind (faults.BadWord l) at r edits standing next count total sum (inl h) = inl h
 told_behind (faults.BadWord l) at r edits standing next count total sum (inr w) = inr (w.0, w.1, ap (behind edits) w.2)
@@ -94,7 +95,8 @@ told_behind faults.TooMany at r edits standing next count total sum h =
 told_behind faults.NoMemory at r edits standing next count total sum h = absurd h
 
 -- so it is at the end
-end_behind : (fault : ScriptFault) (at : ℕ) (r : Result (List Edit) ScriptFault) (edits : List Edit) → IsToldAtEnd fault at r → IsToldAtEnd fault at (behind edits r)
+end_behind : (fault : ScriptFault) (at : ℕ) (r : Result (List Edit) ScriptFault) (edits : List Edit) → IsToldAtEnd fault at r
+    → IsToldAtEnd fault at (behind edits r)
 end_behind (faults.BadWord l) at r edits h = (h.0, h.1, ap (behind edits) h.2)
 end_behind (faults.BadNumber l) at r edits h = absurd h
 end_behind (faults.NoPayload l) at r edits h = (h.0, h.1, ap (behind edits) h.2)
@@ -104,7 +106,8 @@ end_behind faults.NoMemory at r edits h = absurd h
 -- ALL LINES
 
 -- at the end of the lines
-stops_end : (line : ℕ) (standing : Standing) (last count : ℕ) (fault : ScriptFault) → IsLive standing line count → edits_from [] line standing last count ≡ Err fault → Stops [] line standing last count fault
+stops_end : (line : ℕ) (standing : Standing) (last count : ℕ) (fault : ScriptFault) → IsLive standing line count
+    → edits_from [] line standing last count ≡ Err fault → Stops [] line standing last count fault
 stops_end line Between last count fault live e = cc
 stops_end line (Filed None at) last count fault live e = absurd live
 stops_end line (Filed (Some file) at) last count fault live e =
@@ -136,7 +139,8 @@ stops_end line (Begun begun at) last count fault live e =
 stops_end line (Going begun so_far) last count fault live e = cc
 
 -- at the first line
-stops_here : (text : List ℕ) (lines : List (List ℕ)) (line : ℕ) (standing : Standing) (last count : ℕ) (fault : ScriptFault) → IsLive standing line count → Fails (step standing last line count text) standing last line count
+stops_here : (text : List ℕ) (lines : List (List ℕ)) (line : ℕ) (standing : Standing) (last count : ℕ) (fault : ScriptFault) → IsLive standing line count
+    → Fails (step standing last line count text) standing last line count
     → edits_from (text ∷ lines) line standing last count ≡ Err fault → Stops (text ∷ lines) line standing last count fault
 stops_here text lines line standing last count fault live f e =
     let w = ways line standing last count live in
@@ -152,8 +156,11 @@ stops_here text lines line standing last count fault live f e =
       ended = w.ended;
       alive = w.gives;
       dead = λ h other. subst IsFault (sym (edits-step text other line standing last count ∙ (f other).gives)) tt;
-      told = inl (omega arith, subst (λ (l : ℕ). IsTold fault l (edits_from [] line standing last count) standing count) at
-          (subst (λ (z : ScriptFault). IsTold z line (edits_from [] line standing last count) standing count) same here.told));
+      told = inl (
+        omega arith,
+        subst (λ (l : ℕ). IsTold fault l (edits_from [] line standing last count) standing count) at
+            (subst (λ (z : ScriptFault). IsTold z line (edits_from [] line standing last count) standing count) same here.told),
+      );
     }
 
 -- at a later line
@@ -161,7 +168,7 @@ stops_later : (text : List ℕ) (lines : List (List ℕ)) (line : ℕ) (standing
     → Stops lines (line + 1) g.next g.file g.total fault → Stops (text ∷ lines) line standing last count fault
 stops_later text lines line standing last count fault g s =
     let goes : (ls : List (List ℕ)) → edits_from (text ∷ ls) line standing last count ≡ behind g.edits (edits_from ls (line + 1) g.next g.file g.total) =
-        λ ls. edits-step text ls line standing last count ∙ g.gives (edits_from ls (line + 1)) in
+    λ ls. edits-step text ls line standing last count ∙ g.gives (edits_from ls (line + 1)) in
     let at : line + 1 + s.read ≡ line + suc s.read = omega arith in
     let alone : Result (List Edit) ScriptFault = edits_from (take s.read lines) (line + 1) g.next g.file g.total in
     record {
@@ -175,17 +182,24 @@ stops_later text lines line standing last count fault g s =
           subst IsFault (sym (goes (take (suc s.read) lines ++ other)))
           (fault_behind g.edits (edits_from (take (suc s.read) lines ++ other) (line + 1) g.next g.file g.total) (s.dead (omega (arith, h)) other));
       told = (elim s.told [
-        | inl h ↦ inl (omega (arith, h.0), subst (λ (l : ℕ). IsTold fault l (edits_from (take (suc s.read) (text ∷ lines)) line standing last count) standing count) at
-            (subst (λ (r : Result (List Edit) ScriptFault). IsTold fault (line + 1 + s.read) r standing count) (sym (goes (take s.read lines)))
-            (told_behind fault (line + 1 + s.read) alone g.edits standing g.next count g.total g.sum h.1)))
-        | inr h ↦ inr (omega (arith, h.0), subst (λ (l : ℕ). IsToldAtEnd fault l (edits_from (take (suc s.read) (text ∷ lines)) line standing last count)) at
-            (subst (λ (r : Result (List Edit) ScriptFault). IsToldAtEnd fault (line + 1 + s.read) r) (sym (goes (take s.read lines)))
-            (end_behind fault (line + 1 + s.read) alone g.edits h.1)))
+        | inl h ↦ inl (
+          omega (arith, h.0),
+          subst (λ (l : ℕ). IsTold fault l (edits_from (take (suc s.read) (text ∷ lines)) line standing last count) standing count) at
+              (subst (λ (r : Result (List Edit) ScriptFault). IsTold fault (line + 1 + s.read) r standing count) (sym (goes (take s.read lines)))
+              (told_behind fault (line + 1 + s.read) alone g.edits standing g.next count g.total g.sum h.1)),
+        )
+        | inr h ↦ inr (
+          omega (arith, h.0),
+          subst (λ (l : ℕ). IsToldAtEnd fault l (edits_from (take (suc s.read) (text ∷ lines)) line standing last count)) at
+              (subst (λ (r : Result (List Edit) ScriptFault). IsToldAtEnd fault (line + 1 + s.read) r) (sym (goes (take s.read lines)))
+              (end_behind fault (line + 1 + s.read) alone g.edits h.1)),
+        )
       ]);
     }
 
 -- how a reading of lines stops
-pub stops : (lines : List (List ℕ)) (line : ℕ) (standing : Standing) (last count : ℕ) (fault : ScriptFault) → 0 < line → last + 1 ≤ 2 ^ 32 → IsLive standing line count → count ≤ 65536
+pub stops : (lines : List (List ℕ)) (line : ℕ) (standing : Standing) (last count : ℕ) (fault : ScriptFault) → 0 < line → last + 1 ≤ 2 ^ 32
+    → IsLive standing line count → count ≤ 65536
     → edits_from lines line standing last count ≡ Err fault → Stops lines line standing last count fault
 stops [] line standing last count fault pos set live fits e = stops_end line standing last count fault live e
 stops (text ∷ lines) line standing last count fault pos set live fits e =

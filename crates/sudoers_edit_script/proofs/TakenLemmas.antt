@@ -20,12 +20,11 @@ by_next last (x ∷ xs) (suc n) edit h e =
     let more = by_next (set_behind last x) xs n edit (omega (arith, h)) e in
     let so_far : List ℕ = spelling_since (set_behind last x) (take n xs) in
     let set : List ℕ = set_before (file_behind (set_behind last x) (take n xs)) (file_in edit) in
-    let a : List ℕ = set_before last (file_in x) in
-    (
+    let a : List ℕ = set_before last (file_in x) in (
       ap (λ (z : List ℕ). a ++ (spell x ++ z)) more.0
-      ∙ ap (λ (z : List ℕ). a ++ z) (sym (append_assoc (spell x) (so_far ++ set) (spell edit)) ∙ ap (λ (z : List ℕ). z ++ spell edit) (sym (append_assoc (spell x) so_far set)))
-      ∙ sym (append_assoc a ((spell x ++ so_far) ++ set) (spell edit))
-      ∙ ap (λ (z : List ℕ). z ++ spell edit) (sym (append_assoc a (spell x ++ so_far) set)),
+          ∙ ap (λ (z : List ℕ). a ++ z) (sym (append_assoc (spell x) (so_far ++ set) (spell edit)) ∙ ap (λ (z : List ℕ). z ++ spell edit) (sym (append_assoc (spell x) so_far set)))
+          ∙ sym (append_assoc a ((spell x ++ so_far) ++ set) (spell edit))
+          ∙ ap (λ (z : List ℕ). z ++ spell edit) (sym (append_assoc a (spell x ++ so_far) set)),
       more.1,
     )
 

@@ -287,12 +287,14 @@ Say last says.Unended ws = ⊥
 Say last says.Other ws = Unit {0}
 
 -- a place behind a command makes it say so
-say_place : (last : ℕ) (say : ℕ → Said) (w : List ℕ) (o : Option ℕ) (ws : List (List ℕ)) → place_of_word w ≡ o → ((at : ℕ) → w ≡ number at → at + 1 ≤ 2 ^ 32 → Say last (say at) ws) → Say last (said_or say (ok_or o flaw.Number)) ws
+say_place : (last : ℕ) (say : ℕ → Said) (w : List ℕ) (o : Option ℕ) (ws : List (List ℕ)) → place_of_word w ≡ o
+    → ((at : ℕ) → w ≡ number at → at + 1 ≤ 2 ^ 32 → Say last (say at) ws) → Say last (said_or say (ok_or o flaw.Number)) ws
 say_place last say w (Some at) ws e h = let p = place_spelled w at e in h at p.0 p.1
 say_place last say w None ws e h = tt
 
 -- one place behind it does
-say_one : (last : ℕ) (say : ℕ → Said) (first : List ℕ) (ws : List (List ℕ)) → ((at : ℕ) → at + 1 ≤ 2 ^ 32 → Say last (say at) (first ∷ number at ∷ [])) → Say last (said_or say (one_place ws)) (first ∷ ws)
+say_one : (last : ℕ) (say : ℕ → Said) (first : List ℕ) (ws : List (List ℕ)) → ((at : ℕ) → at + 1 ≤ 2 ^ 32 → Say last (say at) (first ∷ number at ∷ []))
+    → Say last (said_or say (one_place ws)) (first ∷ ws)
 say_one last say first [] h = tt
 say_one last say first (w ∷ []) h =
     say_place last say w (place_of_word w) (first ∷ w ∷ []) refl (λ at e fits. subst (λ (z : List ℕ). Say last (say at) (first ∷ z ∷ [])) (sym e) (h at fits))
@@ -306,7 +308,9 @@ say_both last say v w (Some m) None ws e f h = tt
 say_both last say v w None p ws e f h = tt
 
 -- two places behind a command make it say so
-say_two : (last : ℕ) (say : ℕ × ℕ → Said) (first : List ℕ) (ws : List (List ℕ)) → ((m n : ℕ) → m + 1 ≤ 2 ^ 32 → n + 1 ≤ 2 ^ 32 → Say last (say (m, n)) (first ∷ number m ∷ number n ∷ [])) → Say last (said_or say (two_places ws)) (first ∷ ws)
+say_two : (last : ℕ) (say : ℕ × ℕ → Said) (first : List ℕ) (ws : List (List ℕ))
+    → ((m n : ℕ) → m + 1 ≤ 2 ^ 32 → n + 1 ≤ 2 ^ 32 → Say last (say (m, n)) (first ∷ number m ∷ number n ∷ []))
+    → Say last (said_or say (two_places ws)) (first ∷ ws)
 say_two last say first [] h = tt
 say_two last say first (v ∷ []) h = tt
 say_two last say first (v ∷ w ∷ []) h =
@@ -326,7 +330,8 @@ say_kind last say w name more None ws e h = tt
 
 -- a kind, a name and one word more behind a command make it say so
 say_alias : (last : ℕ) (say : Kind × List ℕ × List ℕ → Said) (first : List ℕ) (ws : List (List ℕ))
-    → ((kind : Kind) (name more : List ℕ) → is_word name ≡ true → Say last (say (kind, name, more)) (first ∷ kind_word kind ∷ name ∷ more ∷ [])) → Say last (said_or say (alias_and_word ws)) (first ∷ ws)
+    → ((kind : Kind) (name more : List ℕ) → is_word name ≡ true → Say last (say (kind, name, more)) (first ∷ kind_word kind ∷ name ∷ more ∷ []))
+    → Say last (said_or say (alias_and_word ws)) (first ∷ ws)
 say_alias last say first [] h = tt
 say_alias last say first (w ∷ []) h = tt
 say_alias last say first (w ∷ name ∷ []) h = tt
@@ -345,7 +350,8 @@ say_member last say first ws h =
     subst (λ (z : List ℕ). Say last (say (kind, name, more) at) (first ∷ kind_word kind ∷ name ∷ z ∷ [])) (sym e) (h kind name more at is fits)))
 
 -- no word more behind a command makes it say so
-say_alone : (last : ℕ) (edit : Edit) (first : List ℕ) (ws : List (List ℕ)) → AreOf last edit (first ∷ []) → text_lines edit ≡ [] → Say last (alone edit ws) (first ∷ ws)
+say_alone : (last : ℕ) (edit : Edit) (first : List ℕ) (ws : List (List ℕ)) → AreOf last edit (first ∷ []) → text_lines edit ≡ []
+    → Say last (alone edit ws) (first ∷ ws)
 say_alone last edit first [] h k = (h, k)
 say_alone last edit first (w ∷ ws) h k = tt
 
@@ -374,7 +380,8 @@ say_by last set by.OpenEnd ws = say_alone last (OpenEnd last) (codes "openend") 
 say_by last set by.Prune ws = say_alone last Prune (codes "prune") ws (refl, (tt, refl), refl) refl
 
 -- so are the words of an ended line, where their first is that of a command
-say_if : (last : ℕ) → last + 1 ≤ 2 ^ 32 → (w : List ℕ) (ws : List (List ℕ)) (o : Option Command) → looked_up commands w ≡ o → Say last (said_if last true ws o) (w ∷ ws)
+say_if : (last : ℕ) → last + 1 ≤ 2 ^ 32 → (w : List ℕ) (ws : List (List ℕ)) (o : Option Command) → looked_up commands w ≡ o
+    → Say last (said_if last true ws o) (w ∷ ws)
 say_if last set w ws None e = tt
 say_if last set w ws (Some command) e =
     subst (λ (z : List ℕ). Say last (said_by last command ws) (z ∷ ws)) (sym (word_spelled w command e)) (say_by last set command ws)
@@ -558,7 +565,8 @@ says_sense last (b ∷ bs) set =
 -- THE LINES OF A SPELLING
 
 -- a line of words is the first
-lines-words : (ws : List (List ℕ)) (rest : List ℕ) → AreWords ws → physical_lines ((spaced ws ++ 10 ∷ []) ++ rest) ≡ (spaced ws ++ 10 ∷ []) ∷ physical_lines rest
+lines-words : (ws : List (List ℕ)) (rest : List ℕ) → AreWords ws
+    → physical_lines ((spaced ws ++ 10 ∷ []) ++ rest) ≡ (spaced ws ++ 10 ∷ []) ∷ physical_lines rest
 lines-words ws rest h = lines-ended (spaced ws ++ 10 ∷ []) rest (line-push (spaced ws) (spaced_lacks ws h)) (ended-push (spaced ws))
 
 -- the line of a command is the first
@@ -584,7 +592,8 @@ sense_words last (OpenEnd file) = refl
 sense_words last Prune = refl
 
 -- words whose line says this, with LF and without
-said-line : (last : ℕ) (ws : List (List ℕ)) → words (spaced ws) ≡ ws → said_by_words last (ends_in_lf (spaced ws ++ 10 ∷ [])) (words (without_end (spaced ws ++ 10 ∷ []))) ≡ said_by_words last true ws
+said-line : (last : ℕ) (ws : List (List ℕ)) → words (spaced ws) ≡ ws
+    → said_by_words last (ends_in_lf (spaced ws ++ 10 ∷ [])) (words (without_end (spaced ws ++ 10 ∷ []))) ≡ said_by_words last true ws
 said-line last ws h =
     ap (λ (b : Bool). said_by_words last b (words (without_end (spaced ws ++ 10 ∷ [])))) (ended-push (spaced ws))
     ∙ ap (λ (t : List ℕ). said_by_words last true (words t)) (without_end-push (spaced ws))

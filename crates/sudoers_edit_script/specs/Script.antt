@@ -88,21 +88,21 @@ abbrev pub set_before : ℕ → Option ℕ → List ℕ
 set_before last None = []
 set_before last (Some file) = if file == last then [] else file_line file
 
--- the file that is set after an edit
+-- the file that is set after an edit where the file `last` was set before it
 abbrev pub set_behind : ℕ → Edit → ℕ
 set_behind last edit = unwrap_or (file_in edit) last
 
--- the edits, one after another, where this file was set last
+-- the edits, one after another, where the file `last` was set last
 abbrev pub spelling_since : ℕ → List Edit → List ℕ
 spelling_since last [] = []
 spelling_since last (edit ∷ edits) = set_before last (file_in edit) ++ (spell edit ++ spelling_since (set_behind last edit) edits)
 
--- the file that is set after edits
+-- the same after edits
 abbrev pub file_behind : ℕ → List Edit → ℕ
 file_behind last [] = last
 file_behind last (edit ∷ edits) = file_behind (set_behind last edit) edits
 
--- the edits, one after another; at first the file is the first one
+-- the edits, one after another; at first the file 0 is set
 abbrev pub spelling : List Edit → List ℕ
 spelling edits = spelling_since 0 edits
 

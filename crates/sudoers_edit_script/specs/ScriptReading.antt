@@ -126,7 +126,7 @@ said_if file ended more None = says.Other
 said_if file true more (Some command) = said_by file command more
 said_if file false more (Some command) = says.Flawed flaw.Word
 
--- what a line says whose first word is `file`, by the words behind it: it ends in LF, and they are one
+-- what a line whose first word is `file` says, by the words behind it: the line ends in LF, and they are one
 abbrev pub file_said : Bool → List (List ℕ) → Said
 file_said true (word ∷ []) = says.File (place_of_word word)
 file_said _ _ = says.Other
@@ -154,7 +154,7 @@ text_in says.More line = drop 1 line
 text_in says.Last line = drop 1 (without_end line)
 text_in _ line = []
 
--- the edit of such a command names lines
+-- the edits of a command name lines
 abbrev pub has_lines : Command → Bool
 has_lines by.AddMember = false
 has_lines by.DropMember = false
@@ -162,11 +162,11 @@ has_lines by.Rename = false
 has_lines by.Prune = false
 has_lines _ = true
 
--- the word is that of such a command
+-- a word is that of a command whose edits name lines
 abbrev pub word_names_lines : List ℕ → Bool
 word_names_lines word = option_map_or has_lines (looked_up commands word) false
 
--- the first of words is
+-- the first of these words is
 abbrev pub words_name_lines : List (List ℕ) → Bool
 words_name_lines [] = false
 words_name_lines (word ∷ more) = word_names_lines word
@@ -183,9 +183,9 @@ with_text (draft.Insert file at) text = Insert file at text
 with_text (draft.AddMember kind name at) text = AddMember kind name at text
 with_text (draft.AddDef file line at) text = AddDef file line at text
 
--- Between two lines of a script a command has to come; or one that names lines, behind the `file` line on this line, whose
--- number is that of this file, if it is one; or the first line of the text that a command wants, which stands on this line; or
--- more of its text may come, of which there is this so far.
+-- Between two lines of a script a command has to come. Behind a `file` line, which stands on this line, a command has to come
+-- that names lines of this file; there is no file if the number of the `file` line is none. Behind a command that wants a text, and
+-- that stands on this line, the first line of the text has to come. Behind a part of a text, which is this, more of it may come.
 pub data Standing : Type 0 where
   Between : Standing
   Filed : Option ℕ → ℕ → Standing
@@ -210,12 +210,12 @@ abbrev pub fault_of : Flaw → ℕ → ScriptFault
 fault_of flaw.Word line = faults.BadWord line
 fault_of flaw.Number line = faults.BadNumber line
 
--- a `file` line on this line, where the file `last` is set: it sets another, or its number is none
+-- Where a command has to come and the file `last` is set stands a `file` line, of this file or of a number that is none.
 abbrev pub file_line_at : Rest → ℕ → ℕ → ℕ → Option ℕ → Result (List Edit) ScriptFault
 file_line_at rest last line count None = rest (Filed None line) last count
 file_line_at rest last line count (Some file) = if file == last then Err (faults.BadWord line) else rest (Filed (Some file) line) last count
 
--- where a command has to come, with this file set and behind so many commands, this line stands
+-- Where a command has to come and the file `last` is set, behind so many commands, this line stands.
 abbrev pub command_line : Rest → ℕ → ℕ → ℕ → Said → Result (List Edit) ScriptFault
 command_line rest last line count (says.Begin begun) = with_room count (rest (Begun begun line) last (count + 1))
 command_line rest last line count (says.Whole edit) = with_room count (before edit (rest Between last (count + 1)))
@@ -223,8 +223,8 @@ command_line rest last line count (says.Flawed f) = with_room count (Err (fault_
 command_line rest last line count (says.File file) = file_line_at rest last line count file
 command_line rest last line count _ = Err (faults.BadWord line)
 
--- Right behind a `file` line on the line `at` stands a line that names lines, or another. This is what that line and those behind
--- it give as commands in a file.
+-- Right behind a `file` line, which stands on the line `at`, stands a line that names lines, or another. The function says what
+-- that line and those behind it give where a file is set.
 abbrev pub filed_line : (ℕ → Result (List Edit) ScriptFault) → ℕ → Option ℕ → Bool → Result (List Edit) ScriptFault
 filed_line gives at file false = Err (faults.BadWord at)
 filed_line gives at None true = Err (faults.BadNumber at)

@@ -20,7 +20,7 @@ pub enum Command {
 }
 
 impl Command {
-    /// Returns whether the edit of this command names lines.
+    /// Returns whether the edits of this command name lines.
     pub fn has_lines(self) -> bool
         ensures { result ≡ names_lines self }
     {

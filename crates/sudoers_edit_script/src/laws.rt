@@ -48,8 +48,8 @@ pub fn spelling_is_whole_lines()
         → AllByRecursion (λ line. slice_index line 0 ≢ 37) (physical_lines (spelling edits)) }
 {}
 
-/// A line with a bad number is the first line with which the lines of the text are no front of a script. So is a line that is no
-/// command, no `file` line and no text; `BadWord` names such a line, or a `file` line that needs a command which does not follow.
+/// A line with a bad number is the first line with which the lines of the text are no front of a script. `BadWord` names such a
+/// line too, or a `file` line that wants a command which does not follow.
 pub fn word_fault_is_at_the_first_dead_line()
     ensures word { (text : List ℕ) (line : ℕ) → reading text ≡ Err (ScriptFault.BadWord line)
         → IsDeadLine line (physical_lines text) ⊎ WantsNext line (physical_lines text) }

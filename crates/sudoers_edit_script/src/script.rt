@@ -18,8 +18,8 @@ pub const MAX_EDITS: usize = 65_536;
 /// Why a text is no script. Lines count from 1.
 #[derive(Clone, Copy, Debug, PartialEq, Eq, Error)]
 pub enum ScriptFault {
-    /// This line is no command, no `file` line and no part of a text that may stand there; or it is a `file` line, and no command
-    /// that names lines follows.
+    /// This line is no command, no `file` line and no part of a text that may stand there. Or it is a `file` line, and no
+    /// command that names lines follows.
     #[error("line {line}: BadWord")]
     BadWord { line: usize },
     /// A word in the place of a number of this line is no number from 1 to 4,294,967,296.
@@ -260,6 +260,7 @@ impl Reading {
         let said = sense_of(alloc, self.file, line)?;
         let text = text_of(line, &said);
         match replace(&mut self.pending, Open::Nothing) {
+            // `set_file` leaves no `file` line pending.
             Open::Nothing | Open::Filed { .. } => self.take_command(said)?,
             Open::Begun { draft, line: begun } => {
                 self.take_first(alloc, draft, begun, text, said)?;

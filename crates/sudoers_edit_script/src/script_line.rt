@@ -232,13 +232,8 @@ fn alone_said(edit: Edit, rest: &[u8]) -> Said
     Said::Whole(edit)
 }
 
-/// What a command says in a file, by the rest of its line, which ends in LF.
-fn command_said(
-    alloc: Global,
-    file: u32,
-    command: Command,
-    rest: &[u8],
-) -> Result<Said, AllocError>
+/// Returns what a command says where this file is set, by the rest of its line, which ends in LF.
+fn command_said(alloc: Global, file: u32, command: Command, rest: &[u8]) -> Result<Said, AllocError>
     ensures { IfOk result (λ said. said ≡ said_by file command (words_behind rest.now)) }
 {
     match command {
@@ -271,7 +266,7 @@ fn command_said(
     }
 }
 
-/// What a `file` line says, by the rest of it.
+/// Returns what a `file` line says, by the rest of it.
 fn file_line_said(rest: &[u8], is_ended: bool) -> Said
     ensures { result ≡ file_said is_ended (words_behind rest.now) }
 {
@@ -281,7 +276,7 @@ fn file_line_said(rest: &[u8], is_ended: bool) -> Said
     }
 }
 
-/// What a line says in a file, by its words.
+/// Returns what a line says where this file is set, by its words.
 fn words_said(alloc: Global, file: u32, text: &[u8], is_ended: bool) -> Result<Said, AllocError>
     ensures { IfOk result (λ said. said ≡ said_by_words file is_ended (words text.now)) }
 {
@@ -296,7 +291,7 @@ fn words_said(alloc: Global, file: u32, text: &[u8], is_ended: bool) -> Result<S
     }
 }
 
-/// The line without the LF at its end.
+/// Returns the line without the LF at its end.
 fn without_end(line: &[u8]) -> &[u8]
     ensures { result.now ≡ line_body line.now }
 {
@@ -307,7 +302,7 @@ fn without_end(line: &[u8]) -> &[u8]
     }
 }
 
-/// Returns whether the first word of a line is the command of an edit that names lines.
+/// Returns whether the first word of a line is that of a command whose edits name lines.
 pub fn names_lines(line: &[u8]) -> bool
     ensures { result ≡ has_line_word line.now }
 {
@@ -318,7 +313,7 @@ pub fn names_lines(line: &[u8]) -> bool
     }
 }
 
-/// What a line says where this file is set.
+/// Returns what a line says where this file is set.
 pub fn sense_of(alloc: Global, file: u32, line: &[u8]) -> Result<Said, AllocError>
     ensures { IfOk result (λ said. said ≡ sense file line.now) }
 {
@@ -332,7 +327,7 @@ pub fn sense_of(alloc: Global, file: u32, line: &[u8]) -> Result<Said, AllocErro
     }
 }
 
-/// The bytes behind the first one.
+/// Returns the bytes behind the first one.
 fn behind_first(text: &[u8]) -> &[u8]
     ensures { result.now ≡ drop 1 text.now }
 {

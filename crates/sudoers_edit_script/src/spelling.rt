@@ -171,7 +171,7 @@ fn append_edit(alloc: Global, out: &mut Vec<u8>, edit: &Edit) -> Result<(), Allo
     append_text(out, edit)
 }
 
-/// The file whose lines an edit names, if it names any.
+/// Returns the file whose lines an edit names, if it names any.
 fn file_of(edit: &Edit) -> Option<u32>
     ensures { result ≡ file_in edit.now }
 {
@@ -183,20 +183,13 @@ fn file_of(edit: &Edit) -> Option<u32>
         | Edit::DropDef { file, .. }
         | Edit::EndLine { file }
         | Edit::OpenEnd { file } => Some(*file),
-        Edit::AddMember { .. }
-        | Edit::DropMember { .. }
-        | Edit::Rename { .. }
-        | Edit::Prune => None,
+        Edit::AddMember { .. } | Edit::DropMember { .. } | Edit::Rename { .. } | Edit::Prune =>
+            None,
     }
 }
 
-/// Appends the `file` line that an edit needs where the file `last` is set, and returns the file that is set then.
-fn append_file(
-    alloc: Global,
-    out: &mut Vec<u8>,
-    last: u32,
-    edit: &Edit,
-) -> Result<u32, AllocError>
+/// Appends the `file` line that an edit needs where the file `last` is set. Returns the file that is set then.
+fn append_file(alloc: Global, out: &mut Vec<u8>, last: u32, edit: &Edit) -> Result<u32, AllocError>
     ensures out { OnOk result (out.new.items ≡ out.old.items ++ set_before last (file_in edit.now)) }
     ensures file { IfOk result (λ file. file ≡ set_behind last edit.now) }
 {

@@ -12,8 +12,7 @@ loop-count-preserved c =
     let edit = c.index-edits-count.result in
     let few : c.loop-count.count < 65536 = c.if-count-ge-MAX_EDITS.false in
     let named : c.loop-count.count + 1 + prefix_len is_named (drop (c.loop-count.count + 1) c.args.edits.now) ≡ prefix_len is_named c.args.edits.now =
-        grind (arith, common_steps) in
-    (
+    grind (arith, common_steps) in (
       omega (arith, few),
       c.in_ok-append_edit.ensures ∙ ap (λ (z : List ℕ). z ++ spell edit) c.in_ok-file.ensures.out ∙ rw (i.1, i.2) (sym t.spelled),
       c.in_ok-file.ensures.file ∙ ap (λ (f : ℕ). set_behind f edit) i.2 ∙ sym t.file,
