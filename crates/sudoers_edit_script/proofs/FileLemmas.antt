@@ -5,9 +5,11 @@ use Rattle.std.specs.Option.{unwrap_or}
 use Rattle.std.proofs.lemmas.Bool.{cases_Bool, eqb-true, eq-eqb}
 use Rattle.sudoers_edit_script.specs.Physical.{physical_lines}
 use Rattle.sudoers_edit_script.specs.Script.{text_lines, spell, file_in, file_line, set_before, set_behind, spelling_since, IsNumbered, IsSpellable}
+use Rattle.sudoers_edit_script.specs.ScriptReading.{with_text}
+use Rattle.sudoers_edit_script.specs.declared.draft.Draft.{Draft}
 use Rattle.sudoers_edit_script.specs.declared.edit.Edit.{Edit}
 use Rattle.sudoers_edit_script.specs.declared.edit.Edit.TheVariants.{Insert, Delete, Move, AddMember, DropMember, AddDef, DropDef, Rename, EndLine, OpenEnd, Prune}
-use Rattle.sudoers_edit_script.proofs.WordLemmas.{line_of, spell-line, lines-command}
+use Rattle.sudoers_edit_script.proofs.LineLemmas.{line_of, texted, spell-line, lines-command}
 
 -- Before a command in this file, or in none, no `file` line stands: the file is set, or it needs none.
 pub record IsUnset (last : ℕ) (file : Option ℕ) : Type 0 where
@@ -78,6 +80,10 @@ set_fits last Prune fits h = fits
 -- the file that a `file` line sets before a command is that of its edit
 pub set_to : (last : ℕ) (edit : Edit) (s : IsSet last (file_in edit)) → set_behind last edit ≡ s.to
 set_to last edit s = ap (λ (o : Option ℕ). unwrap_or o last) s.is
+
+-- the file that an edit with a text leaves is that of its command
+pub same_set : (last : ℕ) (begun : Draft) (text : List ℕ) → set_behind last (with_text begun []) ≡ last → set_behind last (with_text begun text) ≡ last
+same_set last begun text same = ap (λ (file : Option ℕ). unwrap_or file last) (texted begun text).file ∙ same
 
 -- the first line of an edit's spelling, before anything
 pub lines_spelled_edit : (edit : Edit) (rest : List ℕ) → IsSpellable edit

@@ -14,7 +14,7 @@ use Rattle.sudoers_edit_script.specs.declared.script.ScriptFault.TheVariants as 
 use Rattle.sudoers_edit_script.proofs.PhysicalLemmas.{IsLine, AreLines, join, lines-each, lines-ended}
 use Rattle.sudoers_edit_script.proofs.ScriptLemmas.{lines_spelled, read_spelling}
 use Rattle.sudoers_edit_script.proofs.SpellingLemmas.{spelling_read}
-use Rattle.sudoers_edit_script.proofs.StepLemmas.{IsWanting, IsTold}
+use Rattle.sudoers_edit_script.proofs.ToldLemmas.{IsWanting, IsTold}
 use Rattle.sudoers_edit_script.proofs.StopLemmas.{AreEnded, IsFault, Stops, stops}
 
 -- FRONTS

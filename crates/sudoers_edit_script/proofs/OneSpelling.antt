@@ -13,7 +13,7 @@ use Rattle.sudoers_edit_script.specs.declared.script_line.Said.TheVariants as sa
 use Rattle.sudoers_edit_script.proofs.EndLemmas.{ended-push}
 use Rattle.sudoers_edit_script.proofs.FileLemmas.{sets, set_fits, set_to, lines_spelled_edit}
 use Rattle.sudoers_edit_script.proofs.PhysicalLemmas.{IsLine, AreLines, join, lines-each, lines-ended, line-push, unended_lacks, without_end-push}
-use Rattle.sudoers_edit_script.proofs.WordLemmas.{line_of, said_of, by_text, texted, sense-command, sense-file, lines-file}
+use Rattle.sudoers_edit_script.proofs.LineLemmas.{line_of, said_of, by_text, texted, sense-command, sense-file, lines-file}
 use Rattle.sudoers_edit_script.proofs.SpellingLemmas.{spelling_begun, to_fits}
 
 -- the lines of a text determine it

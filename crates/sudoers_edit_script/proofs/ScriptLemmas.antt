@@ -1,13 +1,10 @@
 -- What is read as edits is their spelling.
-use Rattle.std.proofs.Common.{◌≡◌, ℕ, ◌+◌, ◌^◌, ◌<◌, ◌≤◌, Bool, true, false, List, [], ◌∷◌, ◌++◌, length, drop, Option, Some, None, refl, sym, ap, subst, ◌∙◌, arith, inl, inr, append_assoc, append-nil}
+use Rattle.std.proofs.Common.{◌≡◌, ℕ, ◌+◌, ◌^◌, ◌<◌, ◌≤◌, Bool, true, false, List, [], ◌∷◌, ◌++◌, length, drop, Option, Some, None, refl, sym, ap, subst, ◌∙◌, arith, inl, inr, append_assoc}
 use Rattle.std.specs.Prelude.{Result, Ok, Err, IfOk, nat_le, ◌==◌}
-use Rattle.std.specs.List.{flat_map}
-use Rattle.std.specs.Option.{unwrap_or}
 use Rattle.std.proofs.lemmas.Bool.{true≢false, cases_Bool, leb-false, eqb-true}
-use Rattle.std.proofs.lemmas.Grind.{flat_map-append}
 use Rattle.sudoers_text.specs.Ended.{ends_in_lf}
 use Rattle.sudoers_edit_script.specs.Physical.{physical_lines}
-use Rattle.sudoers_edit_script.specs.Script.{payload, payload_line, text_lines, spell, file_in, file_line, set_behind, spelling_since, spelling, IsSpellable, AreSpellable, edit_limit}
+use Rattle.sudoers_edit_script.specs.Script.{payload, text_lines, spell, file_in, file_line, set_behind, spelling_since, spelling, IsSpellable, AreSpellable, edit_limit}
 use Rattle.sudoers_edit_script.specs.ScriptReading.{Standing, Between, Filed, Begun, Going, Rest, before, with_room, with_text, fault_of, file_line_at, command_line, filed_line, first_line, later_line, edits_from, sense, names_lines, text_in, without_end, reading, Reads}
 use Rattle.sudoers_edit_script.specs.declared.draft.Draft.{Draft}
 use Rattle.sudoers_edit_script.specs.declared.edit.Edit.{Edit}
@@ -15,9 +12,10 @@ use Rattle.sudoers_edit_script.specs.declared.script_line.Said.{Said}
 use Rattle.sudoers_edit_script.specs.declared.script_line.Said.TheVariants as says
 use Rattle.sudoers_edit_script.specs.declared.script.ScriptFault.{ScriptFault}
 use Rattle.sudoers_edit_script.specs.declared.script.ScriptFault.TheVariants as faults
-use Rattle.sudoers_edit_script.proofs.FileLemmas.{IsFirst, since_unset, since_set}
-use Rattle.sudoers_edit_script.proofs.PhysicalLemmas.{IsLine, AreLines, join, lines-each, lines-one, lines-append, lacks_line, lacks_unended, push_lacks}
-use Rattle.sudoers_edit_script.proofs.WordLemmas.{line_of, texted, spell_whole, spell_texted, Commands, Says, says_sense, named, names-file, text-last}
+use Rattle.sudoers_edit_script.proofs.FileLemmas.{IsFirst, since_unset, since_set, same_set}
+use Rattle.sudoers_edit_script.proofs.PhysicalLemmas.{IsLine, AreLines, join, lines-each}
+use Rattle.sudoers_edit_script.proofs.LineLemmas.{line_of, texted, spell_whole, spell_texted, Commands, Says, says_sense, named, names-file, text-last}
+use Rattle.sudoers_edit_script.proofs.PayloadLemmas.{ended_append, grown, line_some, more_line, payload_ended, payload_unended}
 
 -- what has been read of a `file` line, or of an edit that is open
 abbrev pub front : Standing → List ℕ
@@ -79,68 +77,6 @@ room_ok count r edits e =
       | inl t ↦ let no : Err faults.TooMany ≡ Ok edits = rw t at e in cc
       | inr f ↦ (leb-false 65536 count f, rw f at e)
     ]
-
--- PAYLOADS
-
--- the payload of a line with its LF
-payload_ended : (t : List ℕ) → IsLine t → ends_in_lf t ≡ true → payload t ≡ 124 ∷ t
-payload_ended [] is h = absurd is
-payload_ended (b ∷ bs) is h =
-    ap (flat_map payload_line) (lines-one (b ∷ bs) is) ∙ append-nil (payload_line (b ∷ bs)) ∙ rw h refl
-
--- the payload of the rest of a text, which may be empty
-payload_unended : (t : List ℕ) → IsLine (62 ∷ t ++ 10 ∷ []) → payload t ≡ 62 ∷ t ++ 10 ∷ []
-payload_unended [] is = refl
-payload_unended (b ∷ bs) is =
-    let lacks = push_lacks (62 ∷ b ∷ bs) is in
-    let h : ends_in_lf (b ∷ bs) ≡ false = lacks_unended (b ∷ bs) lacks in
-    ap (flat_map payload_line) (lines-one (b ∷ bs) (lacks_line b bs lacks)) ∙ append-nil (payload_line (b ∷ bs)) ∙ rw h refl
-
--- the payload of a text that is not empty
-payload_some : (t : List ℕ) → (t ≡ [] → ⊥) → payload t ≡ flat_map payload_line (physical_lines t)
-payload_some [] some = absurd (some refl)
-payload_some (b ∷ bs) some = refl
-
--- more behind a text that ends in LF
-payload-append : (a t : List ℕ) → ends_in_lf a ≡ true → (t ≡ [] → ⊥) → payload (a ++ t) ≡ payload a ++ payload t
-payload-append [] t h some = cc
-payload-append (a ∷ bs) t h some =
-    ap (flat_map payload_line) (lines-append (a ∷ bs) t h)
-    ∙ flat_map-append payload_line (physical_lines (a ∷ bs)) (physical_lines t)
-    ∙ ap (λ (z : List ℕ). payload (a ∷ bs) ++ z) (sym (payload_some t some))
-
--- a line behind `|` is one
-more_line : (t : List ℕ) → ends_in_lf t ≡ true → IsLine (124 ∷ t) → IsLine t
-more_line [] h is = cc
-more_line (b ∷ bs) h is = is.1
-
--- a line is not empty
-line_some : (t : List ℕ) → IsLine t → t ≡ [] → ⊥
-line_some [] is e = is
-line_some (b ∷ bs) is e = cc
-
--- what ends in LF ends any text in it
-ended_append : (a t : List ℕ) → ends_in_lf t ≡ true → ends_in_lf (a ++ t) ≡ true
-ended_append [] t h = h
-ended_append (a ∷ []) [] h = cc
-ended_append (a ∷ []) (b ∷ bs) h = h
-ended_append (a ∷ b ∷ bs) t h = ended_append (b ∷ bs) t h
-
--- the spelling of an open edit whose text grows by a line
-grown : (so_far l t : List ℕ) (begun : Draft) (lines : List (List ℕ)) → ends_in_lf so_far ≡ true → (t ≡ [] → ⊥) → l ≡ payload t → spell (with_text begun so_far) ++ (l ++ join lines) ≡ spell (with_text begun (so_far ++ t)) ++ join lines
-grown so_far l t begun lines ended some e =
-    sym (append_assoc (spell (with_text begun so_far)) l (join lines))
-    ∙ ap (λ (z : List ℕ). z ++ join lines) (
-    ap (λ (z : List ℕ). z ++ l) (spell_texted begun so_far)
-    ∙ ap (λ (z : List ℕ). (line_of (with_text begun []) ++ payload so_far) ++ z) e
-    ∙ append_assoc (line_of (with_text begun [])) (payload so_far) (payload t)
-    ∙ ap (λ (z : List ℕ). line_of (with_text begun []) ++ z) (sym (payload-append so_far t ended some))
-    ∙ sym (spell_texted begun (so_far ++ t))
-    )
-
--- the file that an edit with a text leaves is that of its command
-same_set : (last : ℕ) (begun : Draft) (text : List ℕ) → set_behind last (with_text begun []) ≡ last → set_behind last (with_text begun text) ≡ last
-same_set last begun text same = ap (λ (file : Option ℕ). unwrap_or file last) (texted begun text).file ∙ same
 
 -- COMMANDS
 

@@ -17,7 +17,7 @@ use Rattle.sudoers_edit_script.specs.declared.script.ScriptFault.TheVariants as 
 use Rattle.sudoers_edit_script.proofs.FileLemmas.{IsSet, sets, set_fits, set_to, lines_spelled_edit}
 use Rattle.sudoers_edit_script.proofs.PhysicalLemmas.{IsLine, AreLines, join, lines-each, unended_lacks}
 use Rattle.sudoers_edit_script.proofs.ReadingLemmas.{IsNoText, later_line-command}
-use Rattle.sudoers_edit_script.proofs.WordLemmas.{line_of, said_of, by_text, texted, sense-command, sense-file, names-command, lines-file, lines-more, sense-more, lines-last, sense-last, text-last}
+use Rattle.sudoers_edit_script.proofs.LineLemmas.{line_of, said_of, by_text, texted, sense-command, sense-file, names-command, lines-file, lines-more, sense-more, lines-last, sense-last, text-last}
 
 -- with room for one command more
 room : (count : ℕ) (r : Result (List Edit) ScriptFault) → count < 65536 → with_room count r ≡ r

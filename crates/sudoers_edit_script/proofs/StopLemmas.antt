@@ -12,7 +12,8 @@ use Rattle.sudoers_edit_script.specs.declared.script.ScriptFault.{ScriptFault}
 use Rattle.sudoers_edit_script.specs.declared.script.ScriptFault.TheVariants as faults
 use Rattle.sudoers_edit_script.proofs.PhysicalLemmas.{AreLines, line-push}
 use Rattle.sudoers_edit_script.proofs.ScriptLemmas.{opened}
-use Rattle.sudoers_edit_script.proofs.StepLemmas.{step, edits-step, IsLive, IsWanting, IsTold, Goes, Fails, has_room, one_step}
+use Rattle.sudoers_edit_script.proofs.StepLemmas.{one_step}
+use Rattle.sudoers_edit_script.proofs.ToldLemmas.{step, edits-step, IsLive, IsWanting, IsTold, Goes, Fails, has_room}
 
 -- Each ends in LF.
 abbrev pub AreEnded : List (List ℕ) → Type 0

@@ -10,7 +10,7 @@ use Rattle.sudoers_edit_script.specs.declared.edit.Edit.TheVariants.{Insert, Del
 use Rattle.sudoers_edit_script.proofs.FileLemmas.{sets, set_fits}
 use Rattle.sudoers_edit_script.proofs.PhysicalLemmas.{lines-ended}
 use Rattle.sudoers_edit_script.proofs.SpellingLemmas.{to_fits}
-use Rattle.sudoers_edit_script.proofs.WordLemmas.{line_of, by_text, texted, spell-line, lines-command, lines-file}
+use Rattle.sudoers_edit_script.proofs.LineLemmas.{line_of, by_text, texted, spell-line, lines-command, lines-file}
 use Rattle.sudoers_edit_script.proofs.OneSpelling.{AreParts, parts, parts-each, part_line}
 
 -- The line does not begin with `%`.
