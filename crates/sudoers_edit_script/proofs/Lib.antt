@@ -1,11 +1,20 @@
+mod CommandLemmas
 pub mod EndLemmas
+mod FileLemmas
 mod FrontLemmas
+mod LineLemmas
 mod NumberLemmas
 mod OneSpelling
+mod PayloadLemmas
 mod PhysicalLemmas
 mod ReadingLemmas
+mod SayLemmas
 mod ScriptLemmas
 mod SpellingLemmas
+mod StepLemmas
+mod StopLemmas
+mod TakenLemmas
+mod ToldLemmas
 mod WholeLines
 mod WordLemmas
 mod WritingLemmas

@@ -1,19 +1,20 @@
 -- Two lists of edits have two spellings, however many they are.
-use Rattle.std.proofs.Common.{◌≡◌, ℕ, true, false, List, [], ◌∷◌, ◌++◌, ◌==◌, refl, sym, ap, subst, ◌∙◌, arith, inl, inr, append_assoc}
+use Rattle.std.proofs.Common.{◌≡◌, ℕ, ◌+◌, ◌≤◌, ◌^◌, true, false, List, [], ◌∷◌, ◌++◌, ◌==◌, Some, refl, sym, ap, subst, ◌∙◌, arith, inl, inr, append_assoc}
 use Rattle.std.specs.List.{flat_map, list_any}
 use Rattle.std.proofs.lemmas.Bool.{false≢true, cases_Bool}
 use Rattle.sudoers_text.specs.Ended.{ends_in_lf}
 use Rattle.sudoers_edit_script.specs.Physical.{physical_lines}
-use Rattle.sudoers_edit_script.specs.Script.{payload, payload_line, text_lines, spelling, IsSpellable, AreSpellable}
+use Rattle.sudoers_edit_script.specs.Script.{payload, payload_line, text_lines, spell, file_in, file_line, set_before, set_behind, spelling_since, spelling, IsSpellable, AreSpellable}
 use Rattle.sudoers_edit_script.specs.ScriptReading.{with_text, sense, without_end}
 use Rattle.sudoers_edit_script.specs.declared.edit.Edit.{Edit}
 use Rattle.sudoers_edit_script.specs.declared.edit.Edit.TheVariants.{Insert, Delete, Move, AddMember, DropMember, AddDef, DropDef, Rename, EndLine, OpenEnd, Prune}
 use Rattle.sudoers_edit_script.specs.declared.script_line.Said.{Said}
 use Rattle.sudoers_edit_script.specs.declared.script_line.Said.TheVariants as says
 use Rattle.sudoers_edit_script.proofs.EndLemmas.{ended-push}
+use Rattle.sudoers_edit_script.proofs.FileLemmas.{sets, set_fits, set_to, lines_spelled_edit}
 use Rattle.sudoers_edit_script.proofs.PhysicalLemmas.{IsLine, AreLines, join, lines-each, lines-ended, line-push, unended_lacks, without_end-push}
-use Rattle.sudoers_edit_script.proofs.WordLemmas.{line_of, said_of, by_text, texted, sense-command}
-use Rattle.sudoers_edit_script.proofs.SpellingLemmas.{lines_spelled_edit}
+use Rattle.sudoers_edit_script.proofs.LineLemmas.{line_of, said_of, by_text, texted, sense-command, sense-file, lines-file}
+use Rattle.sudoers_edit_script.proofs.SpellingLemmas.{spelling_begun, to_fits}
 
 -- the lines of a text determine it
 same_text : (a b : List ℕ) → physical_lines a ≡ physical_lines b → a ≡ b
@@ -97,20 +98,29 @@ not_behind k more h =
       | inr f ↦ let g : IsBehind ((62 ∷ k ++ 10 ∷ []) ++ more) = rw f at h in g.1 refl
     ]
 
--- a spelling begins with no line of a payload
-behind_spelled : (edits : List Edit) → IsBehind (spelling edits)
-behind_spelled [] = tt
-behind_spelled (Insert at text ∷ edits) = (λ e. omega (arith, e), λ e. omega (arith, e))
-behind_spelled (Delete at ∷ edits) = (λ e. omega (arith, e), λ e. omega (arith, e))
-behind_spelled (Move from to ∷ edits) = (λ e. omega (arith, e), λ e. omega (arith, e))
-behind_spelled (AddMember kind name at splice ∷ edits) = (λ e. omega (arith, e), λ e. omega (arith, e))
-behind_spelled (DropMember kind name at ∷ edits) = (λ e. omega (arith, e), λ e. omega (arith, e))
-behind_spelled (AddDef line at splice ∷ edits) = (λ e. omega (arith, e), λ e. omega (arith, e))
-behind_spelled (DropDef line at ∷ edits) = (λ e. omega (arith, e), λ e. omega (arith, e))
-behind_spelled (Rename kind name fresh ∷ edits) = (λ e. omega (arith, e), λ e. omega (arith, e))
-behind_spelled (EndLine ∷ edits) = (λ e. omega (arith, e), λ e. omega (arith, e))
-behind_spelled (OpenEnd ∷ edits) = (λ e. omega (arith, e), λ e. omega (arith, e))
-behind_spelled (Prune ∷ edits) = (λ e. omega (arith, e), λ e. omega (arith, e))
+-- a command begins with no line of a payload
+behind_command : (edit : Edit) (rest : List ℕ) → IsBehind (spell edit ++ rest)
+behind_command (Insert file at text) rest = (λ e. omega (arith, e), λ e. omega (arith, e))
+behind_command (Delete file at) rest = (λ e. omega (arith, e), λ e. omega (arith, e))
+behind_command (Move file from to) rest = (λ e. omega (arith, e), λ e. omega (arith, e))
+behind_command (AddMember kind name at splice) rest = (λ e. omega (arith, e), λ e. omega (arith, e))
+behind_command (DropMember kind name at) rest = (λ e. omega (arith, e), λ e. omega (arith, e))
+behind_command (AddDef file line at splice) rest = (λ e. omega (arith, e), λ e. omega (arith, e))
+behind_command (DropDef file line at) rest = (λ e. omega (arith, e), λ e. omega (arith, e))
+behind_command (Rename kind name fresh) rest = (λ e. omega (arith, e), λ e. omega (arith, e))
+behind_command (EndLine file) rest = (λ e. omega (arith, e), λ e. omega (arith, e))
+behind_command (OpenEnd file) rest = (λ e. omega (arith, e), λ e. omega (arith, e))
+behind_command Prune rest = (λ e. omega (arith, e), λ e. omega (arith, e))
+
+-- nor does a spelling
+behind_spelled : (last : ℕ) (edits : List Edit) → IsBehind (spelling_since last edits)
+behind_spelled last [] = tt
+behind_spelled last (edit ∷ edits) =
+    let rest : List ℕ = spelling_since (set_behind last edit) edits in
+    elim (sets last (file_in edit)) [
+      | inl u ↦ subst (λ (z : List ℕ). IsBehind (z ++ (spell edit ++ rest))) (sym u.none) (behind_command edit rest)
+      | inr s ↦ subst (λ (z : List ℕ). IsBehind (z ++ (spell edit ++ rest))) (sym s.line) (λ e. omega (arith, e), λ e. omega (arith, e))
+    ]
 
 -- PAYLOADS
 
@@ -188,6 +198,7 @@ same_rest : (said : Said) (text word rest other : List ℕ) → IsBehind rest �
 same_rest (says.Begin begun) text word rest other r s e = let same = same_payload text word rest other r s e in (ap (with_text begun) same.0, same.1)
 same_rest (says.Whole edit) text word rest other r s e = (refl, e)
 same_rest (says.Flawed f) text word rest other r s e = (refl, e)
+same_rest (says.File file) text word rest other r s e = (refl, e)
 same_rest says.More text word rest other r s e = (refl, e)
 same_rest says.Last text word rest other r s e = (refl, e)
 same_rest says.Unended text word rest other r s e = (refl, e)
@@ -205,20 +216,78 @@ same_edit edit other rest more said r s e =
     (m.made ∙ same.0 ∙ ap (λ (x : Said). edit_of x n.text) said ∙ sym n.made, same.1)
 
 -- a spelling of an edit has bytes
-spelled_some : (edit : Edit) (edits : List Edit) → IsSpellable edit → spelling (edit ∷ edits) ≡ [] → ⊥
-spelled_some edit edits n e =
-    let no : line_of edit ∷ physical_lines (text_lines edit ++ spelling edits) ≡ [] = sym (lines_spelled_edit edit edits n) ∙ ap physical_lines e in
+spelled_some : (last : ℕ) (edit : Edit) (edits : List Edit) → last + 1 ≤ 2 ^ 32 → IsSpellable edit → spelling_since last (edit ∷ edits) ≡ [] → ⊥
+spelled_some last edit edits fits n e =
+    let b = spelling_begun last edit edits fits n in
+    let no : b.line ∷ b.more ≡ [] = sym b.lines ∙ ap physical_lines e in
     cc
+
+-- two edits whose spellings begin one text are one if the same file is set for both, and the same is behind them
+same_spell : (last : ℕ) (edit other : Edit) (rest more : List ℕ) → IsSpellable edit → IsSpellable other → IsBehind rest → IsBehind more
+    → set_behind last edit ≡ set_behind last other
+    → spell edit ++ rest ≡ spell other ++ more → (edit ≡ other) × (rest ≡ more)
+same_spell last edit other rest more n m r s set e =
+    let lines = same_lines _ _ _ _ _ _ (lines_spelled_edit edit rest n) (lines_spelled_edit other more m) e in
+    let said : said_of edit ≡ said_of other =
+    sym (sense-command last edit n) ∙ ap (sense (set_behind last edit)) lines.0
+    ∙ ap (λ (f : ℕ). sense f (line_of other)) set ∙ sense-command last other m in
+    same_edit edit other rest more said r s (same_text (text_lines edit ++ rest) (text_lines other ++ more) lines.1)
+
+-- the line of a command is no `file` line
+no_file : (last file : ℕ) (edit : Edit) (rest more : List ℕ) → IsSpellable edit → file + 1 ≤ 2 ^ 32 → spell edit ++ rest ≡ file_line file ++ more → ⊥
+no_file last file edit rest more n fits e =
+    let lines = same_lines _ _ _ _ _ _ (lines_spelled_edit edit rest n) (lines-file file more fits) e in
+    let said : said_of edit ≡ says.File (Some file) =
+    sym (sense-command last edit n) ∙ ap (sense (set_behind last edit)) lines.0 ∙ sense-file (set_behind last edit) file fits in
+    by_text (λ x. said_of x ≡ says.File (Some file) → ⊥)
+    (λ begun text f. (let no : says.Begin begun ≡ says.File (Some file) = sym (texted begun text).said ∙ f in cc))
+    (λ x whole none f. (let no : says.Whole x ≡ says.File (Some file) = sym whole ∙ f in cc))
+    edit said
+
+-- two `file` lines that begin one text set one file, and the same is behind them
+same_file : (file other : ℕ) (rest more : List ℕ) → file + 1 ≤ 2 ^ 32 → other + 1 ≤ 2 ^ 32 → file_line file ++ rest ≡ file_line other ++ more
+    → (file ≡ other) × (rest ≡ more)
+same_file file other rest more fits fit e =
+    let lines = same_lines _ _ _ _ _ _ (lines-file file rest fits) (lines-file other more fit) e in
+    let said : says.File (Some file) ≡ says.File (Some other) = sym (sense-file 0 file fits) ∙ ap (sense 0) lines.0 ∙ sense-file 0 other fit in
+    (cc, same_text rest more lines.1)
+
+-- two edits whose spellings, with their `file` lines, begin one text are one, and the same is behind them
+same_first : (last : ℕ) (edit other : Edit) (rest more : List ℕ) → last + 1 ≤ 2 ^ 32 → IsSpellable edit → IsSpellable other → IsBehind rest → IsBehind more
+    → set_before last (file_in edit) ++ (spell edit ++ rest) ≡ set_before last (file_in other) ++ (spell other ++ more) → (edit ≡ other) × (rest ≡ more)
+same_first last edit other rest more fits n m r q e =
+    let a : List ℕ = spell edit ++ rest in
+    let b : List ℕ = spell other ++ more in
+    let known : (z w : List ℕ) → set_before last (file_in edit) ≡ z → set_before last (file_in other) ≡ w → z ++ a ≡ w ++ b =
+    λ z w f g. sym (ap (λ (x : List ℕ). x ++ a) f) ∙ e ∙ ap (λ (x : List ℕ). x ++ b) g in
+    elim (sets last (file_in edit)) [
+      | inl u ↦ elim (sets last (file_in other)) [
+        | inl v ↦ same_spell last edit other rest more n m r q (u.same ∙ sym v.same) (known [] [] u.none v.none)
+        | inr t ↦ absurd (no_file last t.to edit rest b n (to_fits last other t fits m) (known [] (file_line t.to) u.none t.line))
+      ]
+      | inr s ↦ elim (sets last (file_in other)) [
+        | inl v ↦ absurd (no_file last s.to other more a m (to_fits last edit s fits n) (sym (known (file_line s.to) [] s.line v.none)))
+        | inr t ↦
+            let same = same_file s.to t.to a b (to_fits last edit s fits n) (to_fits last other t fits m)
+            (known (file_line s.to) (file_line t.to) s.line t.line) in
+            same_spell last edit other rest more n m r q (set_to last edit s ∙ same.0 ∙ sym (set_to last other t)) same.1
+      ]
+    ]
+
+-- two lists of edits have two spellings where the same file is set
+since_injective : (last : ℕ) (edits others : List Edit) → last + 1 ≤ 2 ^ 32 → AreSpellable edits → AreSpellable others
+    → spelling_since last edits ≡ spelling_since last others → edits ≡ others
+since_injective last [] [] fits n m e = refl
+since_injective last [] (other ∷ others) fits n m e = absurd (spelled_some last other others fits m.0 (sym e))
+since_injective last (edit ∷ edits) [] fits n m e = absurd (spelled_some last edit edits fits n.0 e)
+since_injective last (edit ∷ edits) (other ∷ others) fits n m e =
+    let f : ℕ = set_behind last edit in
+    let g : ℕ = set_behind last other in
+    let same = same_first last edit other (spelling_since f edits) (spelling_since g others) fits n.0 m.0
+    (behind_spelled f edits) (behind_spelled g others) e in
+    let rest : spelling_since f edits ≡ spelling_since f others = same.1 ∙ ap (λ (x : Edit). spelling_since (set_behind last x) others) (sym same.0) in
+    ap (λ (x : Edit). x ∷ edits) same.0 ∙ ap (λ (xs : List Edit). other ∷ xs) (since_injective f edits others (set_fits last edit fits n.0.0) n.1 m.1 rest)
 
 -- THE LAW: two lists of edits have two spellings
 pub spelling_injective : (edits others : List Edit) → AreSpellable edits → AreSpellable others → spelling edits ≡ spelling others → edits ≡ others
-spelling_injective [] [] n m e = refl
-spelling_injective [] (other ∷ others) n m e = absurd (spelled_some other others m.0 (sym e))
-spelling_injective (edit ∷ edits) [] n m e = absurd (spelled_some edit edits n.0 e)
-spelling_injective (edit ∷ edits) (other ∷ others) n m e =
-    let rest : List ℕ = text_lines edit ++ spelling edits in
-    let more : List ℕ = text_lines other ++ spelling others in
-    let lines = same_lines (line_of edit) (line_of other) (spelling (edit ∷ edits)) (spelling (other ∷ others)) (physical_lines rest) (physical_lines more) (lines_spelled_edit edit edits n.0) (lines_spelled_edit other others m.0) e in
-    let said : said_of edit ≡ said_of other = sym (sense-command edit n.0) ∙ ap sense lines.0 ∙ sense-command other m.0 in
-    let same = same_edit edit other (spelling edits) (spelling others) said (behind_spelled edits) (behind_spelled others) (same_text rest more lines.1) in
-    ap (λ (x : Edit). x ∷ edits) same.0 ∙ ap (λ (xs : List Edit). other ∷ xs) (spelling_injective edits others n.1 m.1 same.1)
+spelling_injective edits others n m e = since_injective 0 edits others (omega arith) n m e

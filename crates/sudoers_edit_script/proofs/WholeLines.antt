@@ -1,14 +1,16 @@
 -- A spelling is whole lines, and none of them begins with `%`.
-use Rattle.std.proofs.Common.{◌≡◌, ◌≢◌, ℕ, Bool, true, false, List, [], ◌∷◌, ◌++◌, slice_index, refl, sym, ap, subst, ◌∙◌, arith, append_assoc, append-nil}
+use Rattle.std.proofs.Common.{◌≡◌, ◌≢◌, ℕ, ◌+◌, ◌≤◌, ◌^◌, Bool, true, false, inl, inr, List, [], ◌∷◌, ◌++◌, slice_index, refl, sym, ap, subst, ◌∙◌, arith, append_assoc, append-nil}
 use Rattle.std.specs.List.{flat_map, AllByRecursion}
 use Rattle.sudoers_text.specs.Ended.{ends_in_lf}
 use Rattle.sudoers_edit_script.specs.Physical.{physical_lines}
-use Rattle.sudoers_edit_script.specs.Script.{payload, payload_line, text_lines, spell, spelling, IsSpellable, AreSpellable}
+use Rattle.sudoers_edit_script.specs.Script.{payload, payload_line, text_lines, spell, file_in, file_line, set_before, set_behind, spelling_since, spelling, IsSpellable, AreSpellable}
 use Rattle.sudoers_edit_script.specs.ScriptReading.{with_text}
 use Rattle.sudoers_edit_script.specs.declared.edit.Edit.{Edit}
 use Rattle.sudoers_edit_script.specs.declared.edit.Edit.TheVariants.{Insert, Delete, Move, AddMember, DropMember, AddDef, DropDef, Rename, EndLine, OpenEnd, Prune}
+use Rattle.sudoers_edit_script.proofs.FileLemmas.{sets, set_fits}
 use Rattle.sudoers_edit_script.proofs.PhysicalLemmas.{lines-ended}
-use Rattle.sudoers_edit_script.proofs.WordLemmas.{line_of, by_text, texted, spell-line, lines-command}
+use Rattle.sudoers_edit_script.proofs.SpellingLemmas.{to_fits}
+use Rattle.sudoers_edit_script.proofs.LineLemmas.{line_of, by_text, texted, spell-line, lines-command, lines-file}
 use Rattle.sudoers_edit_script.proofs.OneSpelling.{AreParts, parts, parts-each, part_line}
 
 -- The line does not begin with `%`.
@@ -39,16 +41,16 @@ two a b x y = record {
 
 -- the line of a command
 command_plain : (edit : Edit) → IsPlain (line_of edit)
-command_plain (Insert at text) = λ e. omega (arith, e)
-command_plain (Delete at) = λ e. omega (arith, e)
-command_plain (Move from to) = λ e. omega (arith, e)
+command_plain (Insert file at text) = λ e. omega (arith, e)
+command_plain (Delete file at) = λ e. omega (arith, e)
+command_plain (Move file from to) = λ e. omega (arith, e)
 command_plain (AddMember kind name at splice) = λ e. omega (arith, e)
 command_plain (DropMember kind name at) = λ e. omega (arith, e)
-command_plain (AddDef line at splice) = λ e. omega (arith, e)
-command_plain (DropDef line at) = λ e. omega (arith, e)
+command_plain (AddDef file line at splice) = λ e. omega (arith, e)
+command_plain (DropDef file line at) = λ e. omega (arith, e)
 command_plain (Rename kind name fresh) = λ e. omega (arith, e)
-command_plain EndLine = λ e. omega (arith, e)
-command_plain OpenEnd = λ e. omega (arith, e)
+command_plain (EndLine file) = λ e. omega (arith, e)
+command_plain (OpenEnd file) = λ e. omega (arith, e)
 command_plain Prune = λ e. omega (arith, e)
 
 command : (edit : Edit) → IsSpellable edit → IsWhole (line_of edit)
@@ -57,6 +59,18 @@ command edit n = record {
   before = λ rest. lines-command edit rest n;
   plain = (command_plain edit, tt);
 }
+
+-- the `file` line before a command, if there is one
+set_whole : (last : ℕ) (edit : Edit) → last + 1 ≤ 2 ^ 32 → IsSpellable edit → IsWhole (set_before last (file_in edit))
+set_whole last edit fits n =
+    elim (sets last (file_in edit)) [
+      | inl u ↦ subst IsWhole (sym u.none) no_lines
+      | inr s ↦ subst IsWhole (sym s.line) (record {
+        lines = file_line s.to ∷ [];
+        before = λ rest. lines-file s.to rest (to_fits last edit s fits n);
+        plain = (λ e. omega (arith, e), tt);
+      })
+    ]
 
 -- a line of a payload
 payload_plain : (k : List ℕ) → IsPlain (payload_line k)
@@ -87,9 +101,16 @@ edit_whole edit =
     (λ e said lines n. subst IsWhole (sym (spell-line e)) (two (line_of e) (text_lines e) (command e n) (subst IsWhole (sym lines) no_lines)))
     edit
 
+-- edits, where this file is set
+since_whole : (last : ℕ) (edits : List Edit) → last + 1 ≤ 2 ^ 32 → AreSpellable edits → IsWhole (spelling_since last edits)
+since_whole last [] fits n = no_lines
+since_whole last (edit ∷ edits) fits n =
+    let rest : List ℕ = spelling_since (set_behind last edit) edits in
+    two (set_before last (file_in edit)) (spell edit ++ rest) (set_whole last edit fits n.0)
+    (two (spell edit) rest (edit_whole edit n.0) (since_whole (set_behind last edit) edits (set_fits last edit fits n.0.0) n.1))
+
 whole : (edits : List Edit) → AreSpellable edits → IsWhole (spelling edits)
-whole [] n = no_lines
-whole (edit ∷ edits) n = two (spell edit) (spelling edits) (edit_whole edit n.0) (whole edits n.1)
+whole edits n = since_whole 0 edits (omega arith) n
 
 lines_are : (text : List ℕ) (w : IsWhole text) → physical_lines text ≡ w.lines
 lines_are text w = ap physical_lines (sym (append-nil text)) ∙ w.before [] ∙ append-nil w.lines

@@ -1,6 +1,7 @@
 -- The one spelling of a list of edits, and what writing it gives.
-use Rattle.std.specs.Prelude.{◌≡◌, ◌⊎◌, ℕ, ◌+◌, ◌-◌, ◌^◌, ◌<◌, ◌≤◌, ◌==◌, nat_lt, Bool, true, false, not, ◌&&◌, ◌||◌, List, [], ◌∷◌, ◌++◌, length, take, if◌then◌else◌, codes, Result, Ok, Err}
+use Rattle.std.specs.Prelude.{◌≡◌, ◌⊎◌, ℕ, ◌+◌, ◌-◌, ◌^◌, ◌<◌, ◌≤◌, ◌==◌, nat_lt, Bool, true, false, not, ◌&&◌, ◌||◌, List, [], ◌∷◌, ◌++◌, length, take, if◌then◌else◌, codes, Option, Some, None, Result, Ok, Err}
 use Rattle.std.specs.List.{flat_map, list_any, prefix_len}
+use Rattle.std.specs.Option.{unwrap_or}
 use Rattle.std.specs.Fmt.{decimal}
 use Rattle.sudoers_text.specs.Ended.{ends_in_lf}
 use Rattle.sudoers_line.specs.declared.node.Kind.{Kind}
@@ -24,7 +25,7 @@ abbrev pub payload : List ℕ → List ℕ
 payload [] = 62 ∷ 10 ∷ []
 payload (b ∷ bytes) = flat_map payload_line (physical_lines (b ∷ bytes))
 
--- a line's number in a script, or a place's: it counts from 1
+-- the number of a line, of a place or of a file in a script: it counts from 1
 abbrev pub number : ℕ → List ℕ
 number at = decimal (at + 1)
 
@@ -37,16 +38,16 @@ kind_word kind_of.Cmnd = codes "cmnd"
 
 -- the words of the line of an edit's command
 abbrev pub command_words : Edit → List (List ℕ)
-command_words (Insert at text) = codes "insert" ∷ number at ∷ []
-command_words (Delete at) = codes "delete" ∷ number at ∷ []
-command_words (Move from to) = codes "move" ∷ number from ∷ number to ∷ []
+command_words (Insert file at text) = codes "insert" ∷ number at ∷ []
+command_words (Delete file at) = codes "delete" ∷ number at ∷ []
+command_words (Move file from to) = codes "move" ∷ number from ∷ number to ∷ []
 command_words (AddMember kind name at splice) = codes "add" ∷ kind_word kind ∷ name ∷ number at ∷ []
 command_words (DropMember kind name at) = codes "drop" ∷ kind_word kind ∷ name ∷ number at ∷ []
-command_words (AddDef line at splice) = codes "adddef" ∷ number line ∷ number at ∷ []
-command_words (DropDef line at) = codes "dropdef" ∷ number line ∷ number at ∷ []
+command_words (AddDef file line at splice) = codes "adddef" ∷ number line ∷ number at ∷ []
+command_words (DropDef file line at) = codes "dropdef" ∷ number line ∷ number at ∷ []
 command_words (Rename kind name fresh) = codes "rename" ∷ kind_word kind ∷ name ∷ fresh ∷ []
-command_words EndLine = codes "endline" ∷ []
-command_words OpenEnd = codes "openend" ∷ []
+command_words (EndLine file) = codes "endline" ∷ []
+command_words (OpenEnd file) = codes "openend" ∷ []
 command_words Prune = codes "prune" ∷ []
 
 -- the words with one space between them
@@ -57,17 +58,53 @@ spaced (word ∷ next ∷ words) = word ++ 32 ∷ spaced (next ∷ words)
 
 -- the lines of the text that an edit brings
 abbrev pub text_lines : Edit → List ℕ
-text_lines (Insert at text) = payload text
+text_lines (Insert file at text) = payload text
 text_lines (AddMember kind name at splice) = payload splice
-text_lines (AddDef line at splice) = payload splice
+text_lines (AddDef file line at splice) = payload splice
 text_lines _ = []
 
 abbrev pub spell : Edit → List ℕ
 spell edit = spaced (command_words edit) ++ 10 ∷ text_lines edit
 
--- the edits, one after another
+-- FILES
+
+-- the file whose lines an edit names, if it names any
+abbrev pub file_in : Edit → Option ℕ
+file_in (Insert file at text) = Some file
+file_in (Delete file at) = Some file
+file_in (Move file from to) = Some file
+file_in (AddDef file line at splice) = Some file
+file_in (DropDef file line at) = Some file
+file_in (EndLine file) = Some file
+file_in (OpenEnd file) = Some file
+file_in _ = None
+
+-- the line that sets the file of the commands after it
+abbrev pub file_line : ℕ → List ℕ
+file_line file = spaced (codes "file" ∷ number file ∷ []) ++ 10 ∷ []
+
+-- what stands before the command of an edit in this file, if in any, where the file `last` was set last
+abbrev pub set_before : ℕ → Option ℕ → List ℕ
+set_before last None = []
+set_before last (Some file) = if file == last then [] else file_line file
+
+-- the file that is set after an edit where the file `last` was set before it
+abbrev pub set_behind : ℕ → Edit → ℕ
+set_behind last edit = unwrap_or (file_in edit) last
+
+-- the edits, one after another, where the file `last` was set last
+abbrev pub spelling_since : ℕ → List Edit → List ℕ
+spelling_since last [] = []
+spelling_since last (edit ∷ edits) = set_before last (file_in edit) ++ (spell edit ++ spelling_since (set_behind last edit) edits)
+
+-- the same after edits
+abbrev pub file_behind : ℕ → List Edit → ℕ
+file_behind last [] = last
+file_behind last (edit ∷ edits) = file_behind (set_behind last edit) edits
+
+-- the edits, one after another; at first the file 0 is set
 abbrev pub spelling : List Edit → List ℕ
-spelling edits = flat_map spell edits
+spelling edits = spelling_since 0 edits
 
 -- EDITS THAT HAVE A SPELLING
 
@@ -85,13 +122,15 @@ is_named _ = true
 
 -- Its numbers fit the words for them.
 abbrev pub IsNumbered : Edit → Type 0
-IsNumbered (Insert at text) = at + 1 ≤ 2 ^ 32
-IsNumbered (Delete at) = at + 1 ≤ 2 ^ 32
-IsNumbered (Move from to) = (from + 1 ≤ 2 ^ 32) × (to + 1 ≤ 2 ^ 32)
+IsNumbered (Insert file at text) = (file + 1 ≤ 2 ^ 32) × (at + 1 ≤ 2 ^ 32)
+IsNumbered (Delete file at) = (file + 1 ≤ 2 ^ 32) × (at + 1 ≤ 2 ^ 32)
+IsNumbered (Move file from to) = (file + 1 ≤ 2 ^ 32) × (from + 1 ≤ 2 ^ 32) × (to + 1 ≤ 2 ^ 32)
 IsNumbered (AddMember kind name at splice) = at + 1 ≤ 2 ^ 32
 IsNumbered (DropMember kind name at) = at + 1 ≤ 2 ^ 32
-IsNumbered (AddDef line at splice) = (line + 1 ≤ 2 ^ 32) × (at + 1 ≤ 2 ^ 32)
-IsNumbered (DropDef line at) = (line + 1 ≤ 2 ^ 32) × (at + 1 ≤ 2 ^ 32)
+IsNumbered (AddDef file line at splice) = (file + 1 ≤ 2 ^ 32) × (line + 1 ≤ 2 ^ 32) × (at + 1 ≤ 2 ^ 32)
+IsNumbered (DropDef file line at) = (file + 1 ≤ 2 ^ 32) × (line + 1 ≤ 2 ^ 32) × (at + 1 ≤ 2 ^ 32)
+IsNumbered (EndLine file) = file + 1 ≤ 2 ^ 32
+IsNumbered (OpenEnd file) = file + 1 ≤ 2 ^ 32
 IsNumbered _ = Unit {0}
 
 abbrev pub AreNumbered : List Edit → Type 0
@@ -136,7 +175,7 @@ pub record IsDeadLine (line : ℕ) (lines : List (List ℕ)) : Type 0 where
 
 -- Up to this line, counted from 1, these lines are a front of a script, and no script; and no line follows, or one
 -- with which they are no front.
-pub record WantsText (line : ℕ) (lines : List (List ℕ)) : Type 0 where
+pub record WantsNext (line : ℕ) (lines : List (List ℕ)) : Type 0 where
   pub counted : 0 < line
   pub within : line ≤ length lines
   pub front : IsFront (take line lines)

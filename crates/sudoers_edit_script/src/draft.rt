@@ -8,9 +8,9 @@ use sudoers_line::Kind;
 /// An edit whose command has been read, and whose text has not.
 #[derive(Drop)]
 pub enum Draft {
-    Insert { at: u32 },
+    Insert { file: u32, at: u32 },
     AddMember { kind: Kind, name: Text, at: u32 },
-    AddDef { line: u32, at: u32 },
+    AddDef { file: u32, line: u32, at: u32 },
 }
 
 impl Draft {
@@ -19,14 +19,15 @@ impl Draft {
         ensures { result ≡ with_text self text }
     {
         match self {
-            Draft::Insert { at } => Edit::Insert { at, text },
+            Draft::Insert { file, at } => Edit::Insert { file, at, text },
             Draft::AddMember { kind, name, at } => Edit::AddMember {
                 kind,
                 name,
                 at,
                 splice: text,
             },
-            Draft::AddDef { line, at } => Edit::AddDef {
+            Draft::AddDef { file, line, at } => Edit::AddDef {
+                file,
                 line,
                 at,
                 splice: text,

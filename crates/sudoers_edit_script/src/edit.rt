@@ -4,20 +4,24 @@ ghost use Rattle.std.specs.Prelude.{◌≡◌, IfOk};
 use std::alloc::{AllocError, Global};
 use sudoers_line::{Items, Kind};
 
-/// An edit of a policy. Lines, and places of members and definitions, count from 0.
+/// An edit of a policy. Files, lines, and places of members and definitions count from 0. `file` is the file whose lines
+/// an edit names.
 #[derive(Debug, Drop)]
 pub enum Edit {
     /// Puts a text of one logical line before the line `at`, or behind the last line.
     Insert {
+        file: u32,
         at: u32,
         text: Text,
     },
     /// Takes the line `at` out.
     Delete {
+        file: u32,
         at: u32,
     },
     /// Takes the line `from` out and puts it where it stands at `to`.
     Move {
+        file: u32,
         from: u32,
         to: u32,
     },
@@ -39,6 +43,7 @@ pub enum Edit {
     /// Puts a definition into a line of definitions, at the place `at`; the splice is put in behind the definition before it, or in
     /// front of the first.
     AddDef {
+        file: u32,
         line: u32,
         at: u32,
         splice: Text,
@@ -46,6 +51,7 @@ pub enum Edit {
     /// Takes the definition at the place `at` out of a line of definitions, with the bytes from the end of the definition before
     /// it; the first with those up to the start of the next.
     DropDef {
+        file: u32,
         line: u32,
         at: u32,
     },
@@ -56,9 +62,13 @@ pub enum Edit {
         fresh: Text,
     },
     /// Puts LF behind the last line, which does not end in it.
-    EndLine,
+    EndLine {
+        file: u32,
+    },
     /// Takes the LF at the end of the last line away.
-    OpenEnd,
+    OpenEnd {
+        file: u32,
+    },
     /// Takes out all definitions of aliases that are unused; a line of which none is left goes whole.
     Prune,
 }
@@ -79,12 +89,17 @@ impl Edit {
         ensures { IfOk result (λ edit. edit ≡ self.now) }
     {
         match self {
-            Edit::Insert { at, text } => Ok(Edit::Insert {
+            Edit::Insert { file, at, text } => Ok(Edit::Insert {
+                file: *file,
                 at: *at,
                 text: Text::from_slice(alloc, text.as_slice())?,
             }),
-            Edit::Delete { at } => Ok(Edit::Delete { at: *at }),
-            Edit::Move { from, to } => Ok(Edit::Move {
+            Edit::Delete { file, at } => Ok(Edit::Delete {
+                file: *file,
+                at: *at,
+            }),
+            Edit::Move { file, from, to } => Ok(Edit::Move {
+                file: *file,
                 from: *from,
                 to: *to,
             }),
@@ -104,12 +119,19 @@ impl Edit {
                 name: Text::from_slice(alloc, name.as_slice())?,
                 at: *at,
             }),
-            Edit::AddDef { line, at, splice } => Ok(Edit::AddDef {
+            Edit::AddDef {
+                file,
+                line,
+                at,
+                splice,
+            } => Ok(Edit::AddDef {
+                file: *file,
                 line: *line,
                 at: *at,
                 splice: Text::from_slice(alloc, splice.as_slice())?,
             }),
-            Edit::DropDef { line, at } => Ok(Edit::DropDef {
+            Edit::DropDef { file, line, at } => Ok(Edit::DropDef {
+                file: *file,
                 line: *line,
                 at: *at,
             }),
@@ -118,8 +140,8 @@ impl Edit {
                 name: Text::from_slice(alloc, name.as_slice())?,
                 fresh: Text::from_slice(alloc, fresh.as_slice())?,
             }),
-            Edit::EndLine => Ok(Edit::EndLine),
-            Edit::OpenEnd => Ok(Edit::OpenEnd),
+            Edit::EndLine { file } => Ok(Edit::EndLine { file: *file }),
+            Edit::OpenEnd { file } => Ok(Edit::OpenEnd { file: *file }),
             Edit::Prune => Ok(Edit::Prune),
         }
     }

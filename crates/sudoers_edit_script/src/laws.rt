@@ -3,7 +3,7 @@
 ghost use Rattle.std.specs.Prelude.{◌≡◌, ◌⊎◌, ◌+◌, ◌≤◌, ◌<◌, ◌++◌, ◌≢◌, ℕ, List, true, length, take, slice_index, Ok, Err};
 ghost use Rattle.std.specs.List.{AllByRecursion};
 ghost use Rattle.sudoers_text.specs.Ended.{ends_in_lf as has_lf};
-ghost use Rattle.sudoers_edit_script.specs.Script.{number, spelling, writing, edit_limit, AreNumbered, AreSpellable, IsFront, IsDeadLine, WantsText, IsFullBefore};
+ghost use Rattle.sudoers_edit_script.specs.Script.{number, spelling, writing, edit_limit, AreNumbered, AreSpellable, IsFront, IsDeadLine, WantsNext, IsFullBefore};
 ghost use Rattle.sudoers_edit_script.specs.ScriptReading.{reading, IsToldAt};
 ghost use Rattle.sudoers_edit_script.specs.declared.edit.Edit.{Edit as AnEdit};
 ghost use Rattle.sudoers_text.specs.Line.{join};
@@ -48,11 +48,11 @@ pub fn spelling_is_whole_lines()
         → AllByRecursion (λ line. slice_index line 0 ≢ 37) (physical_lines (spelling edits)) }
 {}
 
-/// A line that is no command and no text, and a command with a bad number, is the first line with which the lines of
-/// the text are no front of a script.
+/// A line with a bad number is the first line with which the lines of the text are no front of a script. `BadWord` names such a
+/// line too, or a `file` line that wants a command which does not follow.
 pub fn word_fault_is_at_the_first_dead_line()
     ensures word { (text : List ℕ) (line : ℕ) → reading text ≡ Err (ScriptFault.BadWord line)
-        → IsDeadLine line (physical_lines text) }
+        → IsDeadLine line (physical_lines text) ⊎ WantsNext line (physical_lines text) }
     ensures number { (text : List ℕ) (line : ℕ) → reading text ≡ Err (ScriptFault.BadNumber line)
         → IsDeadLine line (physical_lines text) }
 {}
@@ -60,7 +60,7 @@ pub fn word_fault_is_at_the_first_dead_line()
 /// `NoPayload` names a command that needs a text which does not follow.
 pub fn payload_fault_is_at_a_command_without_text()
     ensures { (text : List ℕ) (line : ℕ) → reading text ≡ Err (ScriptFault.NoPayload line)
-        → WantsText line (physical_lines text) }
+        → WantsNext line (physical_lines text) }
 {}
 
 /// A text with the fault `TooMany` has a dead line. The lines before it are a script with as many edits as there may be.

@@ -1,6 +1,7 @@
 //! Scripts: the edits of a sudoers policy, and the text that spells a list of them.
 #![tactic(auto)]
 
+mod command;
 mod draft;
 mod edit;
 pub mod laws;

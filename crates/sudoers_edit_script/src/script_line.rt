@@ -3,10 +3,10 @@ ghost use Rattle.std.specs.Prelude.{◌≡◌, ◌≤◌, ◌∷◌, ◌==◌, �
 ghost use Rattle.std.specs.List.{list_any};
 ghost use Rattle.sudoers_line.specs.Piece.{looked_up};
 ghost use Rattle.sudoers_edit_script.specs.Script.{is_word as has_word};
-ghost use Rattle.sudoers_edit_script.specs.ScriptReading.{alias_and_word, alone, commands, kinds, one_place, place_of_word, said_by, said_by_words, sense, text_in, two_places, words};
+ghost use Rattle.sudoers_edit_script.specs.ScriptReading.{adding, alias_and_word, alone, dropping, file_said, kinds, names_lines as has_line_word, one_place, place_of_word, renaming, said_by, said_by_words, sense, text_in, two_places, without_end as line_body, words};
 ghost use Rattle.sudoers_edit_script.specs.internal.ScriptStanding.{words_behind};
-ghost use Rattle.sudoers_edit_script.specs.declared.script_line.Command.TheVariants as by;
 
+use crate::command::{Command, command_of};
 use crate::draft::Draft;
 use crate::edit::{Edit, Text};
 use memchr::memchr;
@@ -26,6 +26,8 @@ pub enum Said {
     Whole(Edit),
     /// It begins with the word of a command, and is none.
     Flawed(Flaw),
+    /// A `file` line, with the file that it sets, or none if its number is none.
+    File(Option<u32>),
     /// `|`, and a line of a text with its LF.
     More,
     /// `>`, and the rest of a text, without LF.
@@ -43,53 +45,6 @@ pub enum Flaw {
     Word,
     /// It is right but for a number.
     Number,
-}
-
-/// The first word of a command.
-#[derive(Clone, Copy)]
-enum Command {
-    Insert,
-    Delete,
-    Move,
-    AddMember,
-    DropMember,
-    AddDef,
-    DropDef,
-    Rename,
-    EndLine,
-    OpenEnd,
-    Prune,
-}
-
-/// The command that a word begins.
-fn command_of(word: &[u8]) -> Option<Command>
-    ensures { result ≡ looked_up commands word.now }
-{
-    if word == b"insert".as_slice() {
-        Some(Command::Insert)
-    } else if word == b"delete".as_slice() {
-        Some(Command::Delete)
-    } else if word == b"move".as_slice() {
-        Some(Command::Move)
-    } else if word == b"add".as_slice() {
-        Some(Command::AddMember)
-    } else if word == b"drop".as_slice() {
-        Some(Command::DropMember)
-    } else if word == b"adddef".as_slice() {
-        Some(Command::AddDef)
-    } else if word == b"dropdef".as_slice() {
-        Some(Command::DropDef)
-    } else if word == b"rename".as_slice() {
-        Some(Command::Rename)
-    } else if word == b"endline".as_slice() {
-        Some(Command::EndLine)
-    } else if word == b"openend".as_slice() {
-        Some(Command::OpenEnd)
-    } else if word == b"prune".as_slice() {
-        Some(Command::Prune)
-    } else {
-        None
-    }
 }
 
 /// The kind that a word stands for.
@@ -220,7 +175,7 @@ fn alias_behind(rest: &[u8]) -> Result<(Kind, &[u8], &[u8]), Flaw>
 
 /// What `add` says, by the rest of its line.
 fn add_said(alloc: Global, rest: &[u8]) -> Result<Said, AllocError>
-    ensures { IfOk result (λ said. said ≡ said_by by.AddMember (words_behind rest.now)) }
+    ensures { IfOk result (λ said. said ≡ adding (words_behind rest.now)) }
 {
     match alias_behind(rest) {
         Ok((kind, name, word)) => match place_of(word) {
@@ -236,7 +191,7 @@ fn add_said(alloc: Global, rest: &[u8]) -> Result<Said, AllocError>
 
 /// What `drop` says, by the rest of its line.
 fn drop_said(alloc: Global, rest: &[u8]) -> Result<Said, AllocError>
-    ensures { IfOk result (λ said. said ≡ said_by by.DropMember (words_behind rest.now)) }
+    ensures { IfOk result (λ said. said ≡ dropping (words_behind rest.now)) }
 {
     match alias_behind(rest) {
         Ok((kind, name, word)) => match place_of(word) {
@@ -252,7 +207,7 @@ fn drop_said(alloc: Global, rest: &[u8]) -> Result<Said, AllocError>
 
 /// What `rename` says, by the rest of its line.
 fn rename_said(alloc: Global, rest: &[u8]) -> Result<Said, AllocError>
-    ensures { IfOk result (λ said. said ≡ said_by by.Rename (words_behind rest.now)) }
+    ensures { IfOk result (λ said. said ≡ renaming (words_behind rest.now)) }
 {
     match alias_behind(rest) {
         Ok((kind, name, fresh)) => {
@@ -277,55 +232,90 @@ fn alone_said(edit: Edit, rest: &[u8]) -> Said
     Said::Whole(edit)
 }
 
-/// What a command says, by the rest of its line, which ends in LF.
-fn command_said(alloc: Global, command: Command, rest: &[u8]) -> Result<Said, AllocError>
-    ensures { IfOk result (λ said. said ≡ said_by command (words_behind rest.now)) }
+/// Returns what a command says where this file is set, by the rest of its line, which ends in LF.
+fn command_said(alloc: Global, file: u32, command: Command, rest: &[u8]) -> Result<Said, AllocError>
+    ensures { IfOk result (λ said. said ≡ said_by file command (words_behind rest.now)) }
 {
     match command {
         Command::Insert => match place_behind(rest) {
-            Ok(at) => Ok(Said::Begin(Draft::Insert { at })),
+            Ok(at) => Ok(Said::Begin(Draft::Insert { file, at })),
             Err(flaw) => Ok(Said::Flawed(flaw)),
         },
         Command::Delete => match place_behind(rest) {
-            Ok(at) => Ok(Said::Whole(Edit::Delete { at })),
+            Ok(at) => Ok(Said::Whole(Edit::Delete { file, at })),
             Err(flaw) => Ok(Said::Flawed(flaw)),
         },
         Command::Move => match places_behind(rest) {
-            Ok((from, to)) => Ok(Said::Whole(Edit::Move { from, to })),
+            Ok((from, to)) => Ok(Said::Whole(Edit::Move { file, from, to })),
             Err(flaw) => Ok(Said::Flawed(flaw)),
         },
         Command::AddDef => match places_behind(rest) {
-            Ok((line, at)) => Ok(Said::Begin(Draft::AddDef { line, at })),
+            Ok((line, at)) => Ok(Said::Begin(Draft::AddDef { file, line, at })),
             Err(flaw) => Ok(Said::Flawed(flaw)),
         },
         Command::DropDef => match places_behind(rest) {
-            Ok((line, at)) => Ok(Said::Whole(Edit::DropDef { line, at })),
+            Ok((line, at)) => Ok(Said::Whole(Edit::DropDef { file, line, at })),
             Err(flaw) => Ok(Said::Flawed(flaw)),
         },
         Command::AddMember => add_said(alloc, rest),
         Command::DropMember => drop_said(alloc, rest),
         Command::Rename => rename_said(alloc, rest),
-        Command::EndLine => Ok(alone_said(Edit::EndLine, rest)),
-        Command::OpenEnd => Ok(alone_said(Edit::OpenEnd, rest)),
+        Command::EndLine => Ok(alone_said(Edit::EndLine { file }, rest)),
+        Command::OpenEnd => Ok(alone_said(Edit::OpenEnd { file }, rest)),
         Command::Prune => Ok(alone_said(Edit::Prune, rest)),
     }
 }
 
-/// What a line says by its words.
-fn words_said(alloc: Global, text: &[u8], is_ended: bool) -> Result<Said, AllocError>
-    ensures { IfOk result (λ said. said ≡ said_by_words is_ended (words text.now)) }
+/// Returns what a `file` line says, by the rest of it.
+fn file_line_said(rest: &[u8], is_ended: bool) -> Said
+    ensures { result ≡ file_said is_ended (words_behind rest.now) }
+{
+    match next_word(rest) {
+        Some((word, rest)) if is_ended && next_word(rest).is_none() => Said::File(place_of(word)),
+        _ => Said::Other,
+    }
+}
+
+/// Returns what a line says where this file is set, by its words.
+fn words_said(alloc: Global, file: u32, text: &[u8], is_ended: bool) -> Result<Said, AllocError>
+    ensures { IfOk result (λ said. said ≡ said_by_words file is_ended (words text.now)) }
 {
     let (word, rest) = text.split_at(first_word_len(text));
+    if word == b"file".as_slice() {
+        return Ok(file_line_said(rest, is_ended));
+    }
     match command_of(word) {
-        Some(command) if is_ended => command_said(alloc, command, rest),
+        Some(command) if is_ended => command_said(alloc, file, command, rest),
         Some(_) => Ok(Said::Flawed(Flaw::Word)),
         None => Ok(Said::Other),
     }
 }
 
-/// What a line says.
-pub fn sense_of(alloc: Global, line: &[u8]) -> Result<Said, AllocError>
-    ensures { IfOk result (λ said. said ≡ sense line.now) }
+/// Returns the line without the LF at its end.
+fn without_end(line: &[u8]) -> &[u8]
+    ensures { result.now ≡ line_body line.now }
+{
+    if ends_in_lf(line) {
+        &line[..line.len() - 1]
+    } else {
+        line
+    }
+}
+
+/// Returns whether the first word of a line is that of a command whose edits name lines.
+pub fn names_lines(line: &[u8]) -> bool
+    ensures { result ≡ has_line_word line.now }
+{
+    let text = without_end(line);
+    match command_of(&text[..first_word_len(text)]) {
+        Some(command) => command.has_lines(),
+        None => false,
+    }
+}
+
+/// Returns what a line says where this file is set.
+pub fn sense_of(alloc: Global, file: u32, line: &[u8]) -> Result<Said, AllocError>
+    ensures { IfOk result (λ said. said ≡ sense file line.now) }
 {
     let is_ended = ends_in_lf(line);
     match line.first() {
@@ -333,25 +323,27 @@ pub fn sense_of(alloc: Global, line: &[u8]) -> Result<Said, AllocError>
         Some(b'|' | b'>') if !is_ended => Ok(Said::Unended),
         Some(b'|') => Ok(Said::More),
         Some(b'>') => Ok(Said::Last),
-        Some(_) => {
-            let text = if is_ended {
-                &line[..line.len() - 1]
-            } else {
-                line
-            };
-            words_said(alloc, text, is_ended)
-        }
+        Some(_) => words_said(alloc, file, without_end(line), is_ended),
+    }
+}
+
+/// Returns the bytes behind the first one.
+fn behind_first(text: &[u8]) -> &[u8]
+    ensures { result.now ≡ drop 1 text.now }
+{
+    match text.split_first() {
+        Some((_, rest)) => rest,
+        None => &[],
     }
 }
 
 /// The text that a line stands for.
 pub fn text_of<'a>(line: &'a [u8], said: &Said) -> &'a [u8]
-    requires { said.now ≡ sense line.now }
     ensures { result.now ≡ text_in said.now line.now }
 {
     match said {
-        Said::More => &line[1..],
-        Said::Last => &line[1..line.len() - 1],
+        Said::More => behind_first(line),
+        Said::Last => behind_first(without_end(line)),
         _ => &[],
     }
 }

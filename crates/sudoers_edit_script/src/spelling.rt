@@ -1,7 +1,7 @@
 //! The spelling of a list of edits, and the laws between spelling and reading.
-ghost use Rattle.std.specs.Prelude.{◌≡◌, ◌+◌, ◌≤◌, ◌<◌, ◌++◌, ◌∷◌, [], true, length, MatchResult, OnOk, Ok, Err};
+ghost use Rattle.std.specs.Prelude.{◌≡◌, ◌+◌, ◌≤◌, ◌<◌, ◌++◌, ◌∷◌, [], true, length, MatchResult, IfOk, OnOk, Ok, Err};
 ghost use Rattle.sudoers_edit_script.specs.Physical.{physical_lines};
-ghost use Rattle.sudoers_edit_script.specs.Script.{number, kind_word, command_words, spaced, text_lines, payload, payload_line, spell, spelling, is_named as has_names, writing};
+ghost use Rattle.sudoers_edit_script.specs.Script.{number, kind_word, command_words, spaced, text_lines, payload, payload_line, spell, file_in, file_line, set_behind, set_before, is_named as has_names, writing};
 ghost use Rattle.sudoers_edit_script.specs.ScriptReading.{reading, Tells};
 ghost use Rattle.sudoers_edit_script.specs.declared.edit.Edit.TheVariants.{Rename};
 
@@ -131,8 +131,8 @@ fn append_command(alloc: Global, out: &mut Vec<u8>, edit: &Edit) -> Result<(), A
 {
     match edit {
         Edit::Insert { at, .. } => append_placed(alloc, out, b"insert", *at),
-        Edit::Delete { at } => append_placed(alloc, out, b"delete", *at),
-        Edit::Move { from, to } => append_twice_placed(alloc, out, b"move", *from, *to),
+        Edit::Delete { at, .. } => append_placed(alloc, out, b"delete", *at),
+        Edit::Move { from, to, .. } => append_twice_placed(alloc, out, b"move", *from, *to),
         Edit::AddMember { kind, name, at, .. } => {
             append_member(alloc, out, b"add", *kind, name.as_slice(), *at)
         }
@@ -140,12 +140,12 @@ fn append_command(alloc: Global, out: &mut Vec<u8>, edit: &Edit) -> Result<(), A
             append_member(alloc, out, b"drop", *kind, name.as_slice(), *at)
         }
         Edit::AddDef { line, at, .. } => append_twice_placed(alloc, out, b"adddef", *line, *at),
-        Edit::DropDef { line, at } => append_twice_placed(alloc, out, b"dropdef", *line, *at),
+        Edit::DropDef { line, at, .. } => append_twice_placed(alloc, out, b"dropdef", *line, *at),
         Edit::Rename { kind, name, fresh } => {
             append_rename(out, *kind, name.as_slice(), fresh.as_slice())
         }
-        Edit::EndLine => out.extend_from_slice(b"endline"),
-        Edit::OpenEnd => out.extend_from_slice(b"openend"),
+        Edit::EndLine { .. } => out.extend_from_slice(b"endline"),
+        Edit::OpenEnd { .. } => out.extend_from_slice(b"openend"),
         Edit::Prune => out.extend_from_slice(b"prune"),
     }
 }
@@ -169,6 +169,38 @@ fn append_edit(alloc: Global, out: &mut Vec<u8>, edit: &Edit) -> Result<(), Allo
     append_command(alloc, out, edit)?;
     out.extend_from_slice(b"\n")?;
     append_text(out, edit)
+}
+
+/// Returns the file whose lines an edit names, if it names any.
+fn file_of(edit: &Edit) -> Option<u32>
+    ensures { result ≡ file_in edit.now }
+{
+    match edit {
+        Edit::Insert { file, .. }
+        | Edit::Delete { file, .. }
+        | Edit::Move { file, .. }
+        | Edit::AddDef { file, .. }
+        | Edit::DropDef { file, .. }
+        | Edit::EndLine { file }
+        | Edit::OpenEnd { file } => Some(*file),
+        Edit::AddMember { .. } | Edit::DropMember { .. } | Edit::Rename { .. } | Edit::Prune =>
+            None,
+    }
+}
+
+/// Appends the `file` line that an edit needs where the file `last` is set. Returns the file that is set then.
+fn append_file(alloc: Global, out: &mut Vec<u8>, last: u32, edit: &Edit) -> Result<u32, AllocError>
+    ensures out { OnOk result (out.new.items ≡ out.old.items ++ set_before last (file_in edit.now)) }
+    ensures file { IfOk result (λ file. file ≡ set_behind last edit.now) }
+{
+    match file_of(edit) {
+        Some(file) if file != last => {
+            append_placed(alloc, out, b"file", file)?;
+            out.extend_from_slice(b"\n")?;
+            Ok(file)
+        }
+        _ => Ok(last),
+    }
 }
 
 /// Whether the names in an edit have a spelling.
@@ -207,6 +239,7 @@ pub fn write_script(alloc: Global, edits: &[Edit]) -> Result<Vec<u8>, ScriptFaul
     ensures { MatchResult result (λ text. writing edits.now ≡ Ok text.items) (λ fault. Tells fault (writing edits.now)) }
 {
     let mut out = Vec::new(alloc);
+    let mut file = 0;
     for (count, edit) in edits.iter().enumerate() {
         if count >= MAX_EDITS {
             return Err(ScriptFault::TooMany);
@@ -215,6 +248,7 @@ pub fn write_script(alloc: Global, edits: &[Edit]) -> Result<Vec<u8>, ScriptFaul
             let line = line_count(out.as_slice()) + 1;
             return Err(ScriptFault::BadWord { line });
         }
+        file = append_file(alloc, &mut out, file, edit)?;
         append_edit(alloc, &mut out, edit)?;
     }
     Ok(out)

@@ -10,7 +10,7 @@ returns-in_ok-push-in_default c =
     let pushed : c.push-in_default.new.self ≡ c.args.self.now.edits ++ with_text c.args.draft c.args.so_far ∷ [] =
     c.in_ok-push-in_default.ensures.more ∙ ap (λ (edit : Edit). c.args.self.now.edits ++ edit ∷ []) c.with_text-in_default.ensures in
     record {
-      ok = later_ok c.take_command.result c.args.self.now.edits c.push-in_default.new.self c.args.self.now.line c.args.draft c.args.so_far c.args.text.now c.args.said c.take_command.new.self no pushed c.take_command.ensures.ok;
-      err = later_err c.take_command.result c.args.self.now.edits c.push-in_default.new.self c.args.self.now.line c.args.draft c.args.so_far c.args.text.now c.args.said no pushed c.take_command.ensures.err;
+      ok = later_ok c.take_command.result c.args.self.now.edits c.push-in_default.new.self c.args.self.now.file c.args.self.now.line c.args.draft c.args.so_far c.args.text.now c.args.said c.take_command.new.self no pushed c.take_command.ensures.ok;
+      err = later_err c.take_command.result c.args.self.now.edits c.push-in_default.new.self c.args.self.now.file c.args.self.now.line c.args.draft c.args.so_far c.args.text.now c.args.said no pushed c.take_command.ensures.err;
       line = c.take_command.ensures.line;
     }
