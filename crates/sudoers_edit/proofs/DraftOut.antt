@@ -43,7 +43,7 @@ counted n changes policy order = subst (AreInOrder n changes) (sym (count_texts 
 
 pub line_taken : OneLaw → LineLaw → (policy now : List Line) (changes : List LineChange) (at below upto : ℕ) (text : List ℕ)
     → IsDraft policy changes now → IsReady below upto changes (length policy) → at < below → slice_get (texts policy) at ≡ Some text
-    → IsTakenOut policy (removal.Line at) now (Take 0 at ∷ changes) (Insert at text)
+    → IsTakenOut policy (removal.Line at) now (Take 0 at ∷ changes) (Insert 0 at text)
 line_taken one_law line_law policy now changes at below upto text draft ready may here =
     let later : AreInOrder (at + 1) changes (length policy) = order_weaker (at + 1) below changes (length policy) (omega (arith, may)) ready.order in
     let one : OneMore 0 at changes (texts policy) = one_law 0 at changes (texts policy) (counted (at + 1) changes policy later) in
@@ -60,7 +60,7 @@ line_taken one_law line_law policy now changes at below upto text draft ready ma
             whole = draft.whole;
           };
       ready = record { order = (omega arith, later); last = λ n less. inl less };
-      made = subst (λ (t : List ℕ). IsMade (Delete at) (Insert at t ∷ []) (texts now) (texts (remove now at))) same goes.made;
+      made = subst (λ (t : List ℕ). IsMade (Delete 0 at) (Insert 0 at t ∷ []) (texts now) (texts (remove now at))) same goes.made;
     }
 
 -- a line below is there
@@ -189,7 +189,7 @@ found law policy now (Swap file at other ∷ changes) n below upto text draft re
 
 pub def_taken : DefLaw → (policy now : List Line) (changes : List LineChange) (n at : ℕ) (old text splice : List ℕ) → IsDraft policy changes now
     → (f : Found policy now changes n old) → CutDef n at now f.line text splice
-    → IsTakenOut policy (removal.Def n at) now (Swap 0 n text ∷ unless_replaced n changes) (AddDef n at splice)
+    → IsTakenOut policy (removal.Def n at) now (Swap 0 n text ∷ unless_replaced n changes) (AddDef 0 n at splice)
 def_taken law policy now changes n at old text splice draft f cut =
     let goes : DefGoes n at now text splice = law now n at f.line text splice draft.read f.here cut in
     record {
@@ -211,7 +211,7 @@ def_taken law policy now changes n at old text splice draft f cut =
     ]
 
 pub def_refused : (now : List Line) (n at : ℕ) (fault : EditFault) → read_of (join (texts now)) ≡ Ok now → Refuses fault (drop_def n at now)
-    → Refuses fault (step (DropDef n at) (texts now))
+    → Refuses fault (step (DropDef 0 n at) (texts now))
 def_refused now n at fault read refuses = subst (Refuses fault) (ap (drop_def n at) (sym (def_of_policy now read))) refuses
 
 -- a line of which a definition may go is there

@@ -58,7 +58,7 @@ line_goes l policy at read inside =
           record {
             forth = step_delete (texts policy) at size ∙ ap lines_or_refusal (sym gone) ∙ landed l (remove policy at) (whole_of l (remove policy at) left);
             inverse_is = refl;
-            back = ap (λ (z : Lines). run (Insert at (slice_index_or (texts policy) at []) ∷ []) z) gone
+            back = ap (λ (z : Lines). run (Insert 0 at (slice_index_or (texts policy) at []) ∷ []) z) gone
                 ∙ back_delete (texts policy) at (sound_whole l policy (whole_of l policy read)) size;
           };
     }
@@ -129,7 +129,7 @@ def_goes l tells policy n at line text splice read here cut =
               record {
                 forth = cut.replaces.forth ∙ leads;
                 inverse_is = cut.replaces.inverse_is;
-                back = ap (λ (z : Lines). run (AddDef n at splice ∷ []) z) left
+                back = ap (λ (z : Lines). run (AddDef 0 n at splice ∷ []) z) left
                     ∙ cut.replaces.back next (ap (λ (z : Lines). read_of (join z)) (sym left) ∙ again) left;
               };
         }

@@ -30,7 +30,7 @@ some_same a b is = cc
 
 pub drop_refused : Laws → (policy : List Line) (line : Line) (k : Kind) (defs : List Def) (n at : ℕ) (fault : EditFault)
     → read_of (join (texts policy)) ≡ Ok policy → slice_get policy n ≡ Some line → line.node ≡ node.Alias k defs → at < length defs
-    → 2 ≤ length defs → step (DropDef n at) (texts policy) ≡ Err fault → fault ≡ BadSplice
+    → 2 ≤ length defs → step (DropDef 0 n at) (texts policy) ≡ Err fault → fault ≡ BadSplice
 drop_refused l policy line k defs n at fault read here makes inside many is =
     let whole : IsWhole policy = whole_of l policy read in
     let ends : EndsLaw = defs_end (λ text kind ds reads. (l.ascend text kind ds reads).0) in
@@ -38,7 +38,7 @@ drop_refused l policy line k defs n at fault read here makes inside many is =
     let there : slice_get policy n ≡ Some c.one =
     ap (λ ls. slice_get ls n) c.is ∙ ap (slice_get (c.front ++ c.one ∷ c.rest)) (sym c.place) ∙ here_at c.front c.one c.rest in
     let same : line ≡ c.one = some_same line c.one (sym here ∙ there) in
-    let told : step (DropDef n at) (texts policy) ≡ drop_def (length c.front) at (c.front ++ c.one ∷ c.rest) =
+    let told : step (DropDef 0 n at) (texts policy) ≡ drop_def (length c.front) at (c.front ++ c.one ∷ c.rest) =
     ap (drop_def n at) (known l policy whole) ∙ ap (drop_def n at) c.is ∙ ap (λ m. drop_def m at (c.front ++ c.one ∷ c.rest)) (sym c.place) in
     refused_so c.front k (length defs) c.rest (drop_def (length c.front) at (c.front ++ c.one ∷ c.rest)) fault
     (drop_goes l ends c.front c.one c.rest k defs at (subst IsWhole c.is whole) (ap (λ (x : Line). x.node) (sym same) ∙ makes) inside many)

@@ -157,36 +157,36 @@ is_one t alone = rw alone refl
 pub settled : (ls : List (List ℕ)) → IsSound ls → lines_or_refusal ls ≡ Ok ls
 settled ls sound = rw (sound.ended, le-ltb 1048576 (length (join ls)) sound.fits, sound.read) refl
 
-pub step_insert : (ls : List (List ℕ)) (at : ℕ) (t : List ℕ) → at ≤ length ls → is_one_line t ≡ true → step (Insert at t) ls ≡ lines_or_refusal (insert ls at t)
+pub step_insert : (ls : List (List ℕ)) (at : ℕ) (t : List ℕ) → at ≤ length ls → is_one_line t ≡ true → step (Insert 0 at t) ls ≡ lines_or_refusal (insert ls at t)
 step_insert ls at t l one = rw (le-ltb (length ls) at l, one) refl
 
-pub step_delete : (ls : List (List ℕ)) (at : ℕ) → at < length ls → step (Delete at) ls ≡ lines_or_refusal (remove ls at)
+pub step_delete : (ls : List (List ℕ)) (at : ℕ) → at < length ls → step (Delete 0 at) ls ≡ lines_or_refusal (remove ls at)
 step_delete ls at l = rw (lt-ltb at (length ls) l) refl
 
-pub step_move : (ls : List (List ℕ)) (from to : ℕ) → from < length ls → to < length ls → step (Move from to) ls ≡ lines_or_refusal (moved from to ls)
+pub step_move : (ls : List (List ℕ)) (from to : ℕ) → from < length ls → to < length ls → step (Move 0 from to) ls ≡ lines_or_refusal (moved from to ls)
 step_move ls from to l k = rw (lt-ltb from (length ls) l, lt-ltb to (length ls) k) refl
 
 -- one step as a run
 pub run_one : (e : Edit) (ls new : List (List ℕ)) → step e ls ≡ Ok new → run (e ∷ []) ls ≡ Some new
 run_one e ls new h = rw h refl
 
-pub back_insert : (ls : List (List ℕ)) (at : ℕ) (t : List ℕ) → IsSound ls → at ≤ length ls → run (Delete at ∷ []) (insert ls at t) ≡ Some ls
+pub back_insert : (ls : List (List ℕ)) (at : ℕ) (t : List ℕ) → IsSound ls → at ≤ length ls → run (Delete 0 at ∷ []) (insert ls at t) ≡ Some ls
 back_insert ls at t sound l =
-    run_one (Delete at) (insert ls at t) ls
+    run_one (Delete 0 at) (insert ls at t) ls
     (step_delete (insert ls at t) at (omega (arith, length_insert ls at t l)) ∙ ap lines_or_refusal (remove-insert ls at t l) ∙ settled ls sound)
 
-pub back_delete : (ls : List (List ℕ)) (at : ℕ) → IsSound ls → at < length ls → run (Insert at (slice_index_or ls at []) ∷ []) (remove ls at) ≡ Some ls
+pub back_delete : (ls : List (List ℕ)) (at : ℕ) → IsSound ls → at < length ls → run (Insert 0 at (slice_index_or ls at []) ∷ []) (remove ls at) ≡ Some ls
 back_delete ls at sound l =
     let t : List ℕ = slice_index_or ls at [] in
-    run_one (Insert at t) (remove ls at) ls
+    run_one (Insert 0 at t) (remove ls at) ls
     (step_insert (remove ls at) at t (omega (arith, length_remove ls at l)) (is_one t (each_at ls at l sound.each))
     ∙ ap lines_or_refusal (insert-remove ls at [] l) ∙ settled ls sound)
 
-pub back_move : (ls : List (List ℕ)) (from to : ℕ) → IsSound ls → from < length ls → to < length ls → run (Move to from ∷ []) (moved from to ls) ≡ Some ls
+pub back_move : (ls : List (List ℕ)) (from to : ℕ) → IsSound ls → from < length ls → to < length ls → run (Move 0 to from ∷ []) (moved from to ls) ≡ Some ls
 back_move ls from to sound l k =
     let one : suc (length (remove ls from)) ≡ length ls = length_remove ls from l in
     let size : length (moved from to ls) ≡ length ls = length_insert (remove ls from) to (slice_index_or ls from []) (omega (arith, one)) ∙ one in
-    run_one (Move to from) (moved from to ls) ls
+    run_one (Move 0 to from) (moved from to ls) ls
     (step_move (moved from to ls) to from (omega (arith, size)) (omega (arith, size))
     ∙ ap lines_or_refusal (moved_back ls from to l k) ∙ settled ls sound)
 
@@ -202,7 +202,7 @@ last_decides ls (suc n) t x l some is h =
 -- WHERE EDITS LEAD
 
 pub insert_leads : (ls : List (List ℕ)) (at : ℕ) (t : List ℕ) → IsSound ls → at ≤ length ls → is_one_line t ≡ true → IsAlone t
-    → has_unended_inside (insert ls at t) ≡ false → LeadsTo (Insert at t) (Delete at ∷ []) ls (insert ls at t)
+    → has_unended_inside (insert ls at t) ≡ false → LeadsTo (Insert 0 at t) (Delete 0 at ∷ []) ls (insert ls at t)
 insert_leads ls at t sound within one alone ended = record {
   each = λ policy read. each_insert ls at t sound.each alone;
   ended = ended;
@@ -212,7 +212,7 @@ insert_leads ls at t sound within one alone ended = record {
 }
 
 pub delete_leads : (ls : List (List ℕ)) (at : ℕ) → IsSound ls → at < length ls
-    → LeadsTo (Delete at) (Insert at (slice_index_or ls at []) ∷ []) ls (remove ls at)
+    → LeadsTo (Delete 0 at) (Insert 0 at (slice_index_or ls at []) ∷ []) ls (remove ls at)
 delete_leads ls at sound within = record {
   each = λ policy read. each_remove ls at sound.each;
   ended = open_remove ls at sound.ended;
@@ -222,7 +222,7 @@ delete_leads ls at sound within = record {
 }
 
 pub move_leads : (ls : List (List ℕ)) (from to : ℕ) → IsSound ls → from < length ls → to < length ls
-    → has_unended_inside (moved from to ls) ≡ false → LeadsTo (Move from to) (Move to from ∷ []) ls (moved from to ls)
+    → has_unended_inside (moved from to ls) ≡ false → LeadsTo (Move 0 from to) (Move 0 to from ∷ []) ls (moved from to ls)
 move_leads ls from to sound inside within ended = record {
   each = λ policy read. each_insert (remove ls from) to (slice_index_or ls from []) (each_remove ls from sound.each) (each_at ls from inside sound.each);
   ended = ended;

@@ -26,7 +26,9 @@ use Rattle.sudoers_edit.proofs.PruneLemmas.{lines_few}
 use Rattle.sudoers_edit.proofs.PruneNumbers.{numbered_append, removals_numbered}
 use Rattle.sudoers_edit.proofs.RenameSteps.{rename_takes}
 use Rattle.sudoers_edit.proofs.SpliceSteps.{add_def_takes, drop_def_takes, add_member_takes, drop_member_takes}
-use Rattle.sudoers_edit.proofs.StepLemmas.{Laws, Takes, insert_takes, delete_takes, move_takes, end_takes, open_takes}
+use Rattle.sudoers_edit.specs.LineEdits.{ended_or_refusal, with_end, with_last, with_line, with_move, without_lf, without_line}
+use Rattle.sudoers_edit.specs.SpliceEdits.{add_def, drop_def}
+use Rattle.sudoers_edit.proofs.StepLemmas.{Laws, Takes, in_any, only_file, insert_takes, delete_takes, move_takes, end_takes, open_takes}
 
 -- RUNS
 
@@ -96,16 +98,18 @@ prune_takes l policy new read is =
     }
 
 takes : Laws → (edit : Edit) → Takes edit
-takes l (Insert at text) = insert_takes l at text
-takes l (Delete at) = delete_takes l at
-takes l (Move from to) = move_takes l from to
+takes l (Insert file at text) = in_any (λ f. Insert f at text) (λ f ls new. only_file f (with_line at text ls) new) (insert_takes l at text) file
+takes l (Delete file at) = in_any (λ f. Delete f at) (λ f ls new. only_file f (without_line at ls) new) (delete_takes l at) file
+takes l (Move file from to) = in_any (λ f. Move f from to) (λ f ls new. only_file f (with_move from to ls) new) (move_takes l from to) file
 takes l (AddMember kind name at splice) = add_member_takes l kind name at splice
 takes l (DropMember kind name at) = drop_member_takes l kind name at
-takes l (AddDef line at splice) = add_def_takes l line at splice
-takes l (DropDef line at) = drop_def_takes l line at
+takes l (AddDef file line at splice) =
+    in_any (λ f. AddDef f line at splice) (λ f ls new. only_file f (add_def line at splice (policy_of ls)) new) (add_def_takes l line at splice) file
+takes l (DropDef file line at) =
+    in_any (λ f. DropDef f line at) (λ f ls new. only_file f (drop_def line at (policy_of ls)) new) (drop_def_takes l line at) file
 takes l (Rename kind name fresh) = rename_takes l kind name fresh
-takes l EndLine = end_takes l
-takes l OpenEnd = open_takes l
+takes l (EndLine file) = in_any (λ f. EndLine f) (λ f ls new. only_file f (ended_or_refusal (with_last with_end ls)) new) (end_takes l) file
+takes l (OpenEnd file) = in_any (λ f. OpenEnd f) (λ f ls new. only_file f (ended_or_refusal (with_last without_lf ls)) new) (open_takes l) file
 takes l Prune = prune_takes l
 
 all_take : Laws → (edits : List Edit) → AllByRecursion Takes edits
@@ -133,16 +137,16 @@ removals_once (one ∷ more) ls =
     all_append (put_all_back more next) (put_back one ls ∷ []) (removals_once more next) (put_once one ls, tt)
 
 inverse_once : (edit : Edit) (ls : Lines) → AllByRecursion IsOnce (inv edit ls)
-inverse_once (Insert at text) ls = (λ others. refl, tt)
-inverse_once (Delete at) ls = (λ others. refl, tt)
-inverse_once (Move from to) ls = (λ others. refl, tt)
+inverse_once (Insert file at text) ls = (λ others. refl, tt)
+inverse_once (Delete file at) ls = (λ others. refl, tt)
+inverse_once (Move file from to) ls = (λ others. refl, tt)
 inverse_once (AddMember kind name at splice) ls = (λ others. refl, tt)
 inverse_once (DropMember kind name at) ls = (λ others. refl, tt)
-inverse_once (AddDef line at splice) ls = (λ others. refl, tt)
-inverse_once (DropDef line at) ls = (λ others. refl, tt)
+inverse_once (AddDef file line at splice) ls = (λ others. refl, tt)
+inverse_once (DropDef file line at) ls = (λ others. refl, tt)
 inverse_once (Rename kind name fresh) ls = (λ others. refl, tt)
-inverse_once EndLine ls = (λ others. refl, tt)
-inverse_once OpenEnd ls = (λ others. refl, tt)
+inverse_once (EndLine file) ls = (λ others. refl, tt)
+inverse_once (OpenEnd file) ls = (λ others. refl, tt)
 inverse_once Prune ls = removals_once (removals (policy_of ls)) ls
 
 inverses_once : (edits : List Edit) (ls : Lines) → AllByRecursion IsOnce (inv_run edits ls)

@@ -164,34 +164,34 @@ step_too_long change front line new is long =
     ∙ rw (last_long front new true (lt-ltb 65536 (length new) long)) refl
 
 -- without a line there is no end
-pub no_end : (ls : List (List ℕ)) → slice_get ls (length ls - 1) ≡ None → (step EndLine ls ≡ Err EndAsIs) × (step OpenEnd ls ≡ Err EndAsIs)
+pub no_end : (ls : List (List ℕ)) → slice_get ls (length ls - 1) ≡ None → (step (EndLine 0) ls ≡ Err EndAsIs) × (step (OpenEnd 0) ls ≡ Err EndAsIs)
 no_end ls is = rw (no_last ls is) (refl, refl)
 
-pub end_as_is : (ls : List (List ℕ)) (line : List ℕ) → slice_get ls (length ls - 1) ≡ Some line → ends_in_lf line ≡ true → step EndLine ls ≡ Err EndAsIs
+pub end_as_is : (ls : List (List ℕ)) (line : List ℕ) → slice_get ls (length ls - 1) ≡ Some line → ends_in_lf line ≡ true → step (EndLine 0) ls ≡ Err EndAsIs
 end_as_is ls line is h =
     let p = last_parts ls line is in
-    ap (step EndLine) p.1 ∙ step_as_is with_end p.0 line (with_end_has line h)
+    ap (step (EndLine 0)) p.1 ∙ step_as_is with_end p.0 line (with_end_has line h)
 
-pub end_too_long : (ls : List (List ℕ)) (line : List ℕ) → slice_get ls (length ls - 1) ≡ Some line → ends_in_lf line ≡ false → line_limit ≤ length line → step EndLine ls ≡ Err TooLarge
+pub end_too_long : (ls : List (List ℕ)) (line : List ℕ) → slice_get ls (length ls - 1) ≡ Some line → ends_in_lf line ≡ false → line_limit ≤ length line → step (EndLine 0) ls ≡ Err TooLarge
 end_too_long ls line is h long =
     let p = last_parts ls line is in
-    ap (step EndLine) p.1 ∙ step_too_long with_end p.0 line (line ++ 10 ∷ []) (with_end_lacks line h) (omega (arith, long, length-append line (10 ∷ [])))
+    ap (step (EndLine 0)) p.1 ∙ step_too_long with_end p.0 line (line ++ 10 ∷ []) (with_end_lacks line h) (omega (arith, long, length-append line (10 ∷ [])))
 
-pub open_short : (ls : List (List ℕ)) (line : List ℕ) → slice_get ls (length ls - 1) ≡ Some line → length line < 2 → step OpenEnd ls ≡ Err EndAsIs
+pub open_short : (ls : List (List ℕ)) (line : List ℕ) → slice_get ls (length ls - 1) ≡ Some line → length line < 2 → step (OpenEnd 0) ls ≡ Err EndAsIs
 open_short ls line is h =
     let p = last_parts ls line is in
-    ap (step OpenEnd) p.1 ∙ step_as_is without_lf p.0 line (without_lf_short line h)
+    ap (step (OpenEnd 0)) p.1 ∙ step_as_is without_lf p.0 line (without_lf_short line h)
 
-pub open_lacks : (ls : List (List ℕ)) (line : List ℕ) → slice_get ls (length ls - 1) ≡ Some line → ends_in_lf line ≡ false → step OpenEnd ls ≡ Err EndAsIs
+pub open_lacks : (ls : List (List ℕ)) (line : List ℕ) → slice_get ls (length ls - 1) ≡ Some line → ends_in_lf line ≡ false → step (OpenEnd 0) ls ≡ Err EndAsIs
 open_lacks ls line is h =
     let p = last_parts ls line is in
-    ap (step OpenEnd) p.1 ∙ step_as_is without_lf p.0 line (without_lf_lacks line h)
+    ap (step (OpenEnd 0)) p.1 ∙ step_as_is without_lf p.0 line (without_lf_lacks line h)
 
 -- WHERE EDITS OF THE END LEAD
 
 -- these lines, with LF behind the last
 end_leads_parts : StaysCut → (front : List (List ℕ)) (line : List ℕ) → IsSound (front ++ line ∷ []) → ends_in_lf line ≡ false
-    → length line < line_limit → LeadsTo EndLine (OpenEnd ∷ []) (front ++ line ∷ []) (front ++ (line ++ 10 ∷ []) ∷ [])
+    → length line < line_limit → LeadsTo (EndLine 0) (OpenEnd ∷ []) (front ++ line ∷ []) (front ++ (line ++ 10 ∷ []) ∷ [])
 end_leads_parts law front line sound lacks short =
     let new : List (List ℕ) = front ++ (line ++ 10 ∷ []) ∷ [] in
     let alone = law.size line (last_alone front line sound.each) in
@@ -200,14 +200,14 @@ end_leads_parts law front line sound lacks short =
       ended = sym (ended_last front line (line ++ 10 ∷ [])) ∙ sound.ended;
       forth = step_changed with_end front line (line ++ 10 ∷ []) (with_end_lacks line lacks) (omega (arith, short, length-append line (10 ∷ [])));
       inverse_is = refl;
-      back = λ policy read. run_one OpenEnd new (front ++ line ∷ [])
+      back = λ policy read. run_one (OpenEnd 0) new (front ++ line ∷ [])
           (step_changed without_lf front (line ++ 10 ∷ []) line (without_lf_more line (λ e. omega (arith, alone.0, ap length e))) alone.1
           ∙ settled (front ++ line ∷ []) sound);
     }
 
 -- these lines, without the LF of the last
 open_leads_parts : StaysCut → (front : List (List ℕ)) (line : List ℕ) → IsSound (front ++ (line ++ 10 ∷ []) ∷ []) → line ≢ []
-    → LeadsTo OpenEnd (EndLine ∷ []) (front ++ (line ++ 10 ∷ []) ∷ []) (front ++ line ∷ [])
+    → LeadsTo (OpenEnd 0) (EndLine ∷ []) (front ++ (line ++ 10 ∷ []) ∷ []) (front ++ line ∷ [])
 open_leads_parts law front line sound some =
     let old : List (List ℕ) = front ++ (line ++ 10 ∷ []) ∷ [] in
     let alone = law.size (line ++ 10 ∷ []) (last_alone front (line ++ 10 ∷ []) sound.each) in
@@ -216,7 +216,7 @@ open_leads_parts law front line sound some =
       ended = ended_last front line (line ++ 10 ∷ []) ∙ sound.ended;
       forth = step_changed without_lf front (line ++ 10 ∷ []) line (without_lf_more line some) (omega (arith, alone.1, length-append line (10 ∷ [])));
       inverse_is = refl;
-      back = λ policy read. run_one EndLine (front ++ line ∷ []) old
+      back = λ policy read. run_one (EndLine 0) (front ++ line ∷ []) old
           (step_changed with_end front line (line ++ 10 ∷ []) (with_end_lacks line (law.from front line policy sound.each sound.ended some read).1) alone.1
           ∙ settled old sound);
     }
@@ -236,15 +236,15 @@ body_of body =
     ap (λ n. take n (body ++ 10 ∷ [])) (omega (arith, length-append body (10 ∷ []))) ∙ take-append_seam body (10 ∷ [])
 
 pub end_leads : StaysCut → (ls : List (List ℕ)) (line : List ℕ) → IsSound ls → slice_get ls (length ls - 1) ≡ Some line → ends_in_lf line ≡ false
-    → length line < line_limit → LeadsTo EndLine (OpenEnd ∷ []) ls (replaced (length ls - 1) (line ++ 10 ∷ []) ls)
+    → length line < line_limit → LeadsTo (EndLine 0) (OpenEnd ∷ []) ls (replaced (length ls - 1) (line ++ 10 ∷ []) ls)
 end_leads law ls line sound at lacks short =
     let p = last_parts ls line at in
-    subst (λ (z : List (List ℕ)). LeadsTo EndLine (OpenEnd ∷ []) z (replaced (length z - 1) (line ++ 10 ∷ []) z)) (sym p.1)
-    (subst (LeadsTo EndLine (OpenEnd ∷ []) (p.0 ++ line ∷ [])) (sym (last_replaced p.0 line (line ++ 10 ∷ [])))
+    subst (λ (z : List (List ℕ)). LeadsTo (EndLine 0) (OpenEnd ∷ []) z (replaced (length z - 1) (line ++ 10 ∷ []) z)) (sym p.1)
+    (subst (LeadsTo (EndLine 0) (OpenEnd ∷ []) (p.0 ++ line ∷ [])) (sym (last_replaced p.0 line (line ++ 10 ∷ [])))
     (end_leads_parts law p.0 line (subst IsSound p.1 sound) lacks short))
 
 pub open_leads : StaysCut → (ls : List (List ℕ)) (line : List ℕ) → IsSound ls → slice_get ls (length ls - 1) ≡ Some line → ends_in_lf line ≡ true
-    → 2 ≤ length line → LeadsTo OpenEnd (EndLine ∷ []) ls (replaced (length ls - 1) (take (length line - 1) line) ls)
+    → 2 ≤ length line → LeadsTo (OpenEnd 0) (EndLine ∷ []) ls (replaced (length ls - 1) (take (length line - 1) line) ls)
 open_leads law ls line sound at ended long =
     let p = last_parts ls line at in
     let q = lf_parts line long ended in
@@ -253,8 +253,8 @@ open_leads law ls line sound at ended long =
     let new : replaced (length ls - 1) (take (length line - 1) line) ls ≡ p.0 ++ q.0 ∷ [] =
     ap (λ (z : List (List ℕ)). replaced (length z - 1) (take (length line - 1) line) z) whole
     ∙ last_replaced p.0 (q.0 ++ 10 ∷ []) (take (length line - 1) line) ∙ ap (λ (z : List ℕ). p.0 ++ z ∷ []) body in
-    subst (LeadsTo OpenEnd (EndLine ∷ []) ls) (sym new)
-    (subst (λ (z : List (List ℕ)). LeadsTo OpenEnd (EndLine ∷ []) z (p.0 ++ q.0 ∷ [])) (sym whole)
+    subst (LeadsTo (OpenEnd 0) (EndLine ∷ []) ls) (sym new)
+    (subst (λ (z : List (List ℕ)). LeadsTo (OpenEnd 0) (EndLine ∷ []) z (p.0 ++ q.0 ∷ [])) (sym whole)
     (open_leads_parts law p.0 q.0 (subst IsSound whole sound) q.2))
 
 -- THE WHOLE TEXT

@@ -237,17 +237,25 @@ removed_all_plain law (one ∷ more) lines =
 
 -- EDITS
 
+in_file_plain : (file : ℕ) (r : Result Lines EditFault) → IsPlain r → IsPlain (in_file file r)
+in_file_plain file r plain = by (file == 0)
+  where
+    by : (b : Bool) → IsPlain (refuse_if (not b) NoFile r)
+    by true = plain
+    by false = tt
+
 pub step_plain : OutcomeLaw → (edit : Edit) (lines : Lines) → IsPlain (step edit lines)
-step_plain law (Insert at bytes) lines = insert_plain law at bytes lines
-step_plain law (Delete at) lines = delete_plain law at lines
-step_plain law (Move from to) lines = move_plain law from to lines
+step_plain law (Insert file at bytes) lines = in_file_plain file (with_line at bytes lines) (insert_plain law at bytes lines)
+step_plain law (Delete file at) lines = in_file_plain file (without_line at lines) (delete_plain law at lines)
+step_plain law (Move file from to) lines = in_file_plain file (with_move from to lines) (move_plain law from to lines)
 step_plain law (AddMember k name at splice) lines = add_member_plain law k name at splice (policy_of lines)
 step_plain law (DropMember k name at) lines = drop_member_plain law k name at (policy_of lines)
-step_plain law (AddDef line at splice) lines = add_def_plain law line at splice (policy_of lines)
-step_plain law (DropDef line at) lines = drop_def_plain law line at (policy_of lines)
+step_plain law (AddDef file line at splice) lines =
+    in_file_plain file (add_def line at splice (policy_of lines)) (add_def_plain law line at splice (policy_of lines))
+step_plain law (DropDef file line at) lines = in_file_plain file (drop_def line at (policy_of lines)) (drop_def_plain law line at (policy_of lines))
 step_plain law (Rename k name fresh) lines = rename_plain law k name fresh (policy_of lines)
-step_plain law EndLine lines = end_plain law (with_last with_end lines)
-step_plain law OpenEnd lines = end_plain law (with_last without_lf lines)
+step_plain law (EndLine file) lines = in_file_plain file (ended_or_refusal (with_last with_end lines)) (end_plain law (with_last with_end lines))
+step_plain law (OpenEnd file) lines = in_file_plain file (ended_or_refusal (with_last without_lf lines)) (end_plain law (with_last without_lf lines))
 step_plain law Prune lines = removed_all_plain law (removals (policy_of lines)) lines
 
 -- what is told of an edit that is refused

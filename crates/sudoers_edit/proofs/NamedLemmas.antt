@@ -41,16 +41,16 @@ both_words name fresh h =
 
 -- what takes a named edit back is named
 named_back : (edit : Edit) (lines : List (List ℕ)) → is_named edit ≡ true → AreNamed (inv edit lines)
-named_back (Insert at text) lines n = (refl, tt)
-named_back (Delete at) lines n = (refl, tt)
-named_back (Move from to) lines n = (refl, tt)
+named_back (Insert file at text) lines n = (refl, tt)
+named_back (Delete file at) lines n = (refl, tt)
+named_back (Move file from to) lines n = (refl, tt)
 named_back (AddMember kind name at splice) lines n = (n, tt)
 named_back (DropMember kind name at) lines n = (n, tt)
-named_back (AddDef line at splice) lines n = (refl, tt)
-named_back (DropDef line at) lines n = (refl, tt)
+named_back (AddDef file line at splice) lines n = (refl, tt)
+named_back (DropDef file line at) lines n = (refl, tt)
 named_back (Rename kind name fresh) lines n = (both_words name fresh n, tt)
-named_back EndLine lines n = (refl, tt)
-named_back OpenEnd lines n = (refl, tt)
+named_back (EndLine file) lines n = (refl, tt)
+named_back (OpenEnd file) lines n = (refl, tt)
 named_back Prune lines n = named_removals (removals (policy_of lines)) lines
 
 -- THE LAWS

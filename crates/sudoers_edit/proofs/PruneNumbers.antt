@@ -31,14 +31,14 @@ IsNear d = d.place.def < alias_limit
 
 each : (n : ℕ) (ds : List Definition) → n < text_limit → AllByRecursion IsNear ds → AreNumbered (map edit_of (map (λ (d : Definition). removal.Def n d.place.def) ds))
 each n [] few near = tt
-each n (d ∷ ds) few near = let first : d.place.def < alias_limit = near.0 in ((omega (arith, few), omega (arith, first)), each n ds few near.1)
+each n (d ∷ ds) few near = let first : d.place.def < alias_limit = near.0 in ((omega arith, omega (arith, few), omega (arith, first)), each n ds few near.1)
 
 of_line : (n count : ℕ) (unused : List Definition) → n < text_limit → AllByRecursion IsNear unused → AreNumbered (map edit_of (removals_of n count unused))
 of_line n count unused few near = by (length unused == 0) (length unused == count)
   where
     by : (none all : Bool) → AreNumbered (map edit_of (if none then [] else (if all then removal.Line n ∷ [] else map (λ (d : Definition). removal.Def n d.place.def) (reverse unused))))
     by true all = tt
-    by false true = (omega (arith, few), tt)
+    by false true = ((omega arith, omega (arith, few)), tt)
     by false false = each n (reverse unused) few (all_reverse IsNear unused near)
 
 since : (policy : List Line) (n : ℕ) (lines : List Line) → n + length lines ≤ text_limit → AllByRecursion IsNear (definitions_since n lines) → AreNumbered (map edit_of (removals_since policy n lines))

@@ -151,17 +151,17 @@ dropped_def : (n at : ℕ) (policy : List Line) (new : Lines) → drop_def n at 
 unfolding drop_def
 dropped_def n at policy new e = found_defs n policy (λ line defs. place_to_drop at (def_extents defs) (λ from to. cut_out among.Definitions at from to n line policy)) new e
 
-pub add_def_takes : Laws → (n at : ℕ) (s : List ℕ) → Takes (AddDef n at s)
+pub add_def_takes : Laws → (n at : ℕ) (s : List ℕ) → Takes (AddDef 0 n at s)
 add_def_takes l n at s policy new read is =
     let e : add_def n at s policy ≡ Ok new = ap (add_def n at s) (sym (def_of_policy policy read)) ∙ is in
     let know : IsKnown policy = known l policy read in
     let f = added_def n at s policy new e in
     let a = to_add at (def_extents f.defs) (λ from. put_in among.Definitions at from n s f.line policy) new f.told in
     let p = put among.Definitions at a.0 n s f.line policy new (def_begins policy n at a.0 f.line f.defs know f.here f.makes a.1) a.2 in
-    replaced_steps l (AddDef n at s) (DropDef n at ∷ []) policy n (line_with a.0 s f.line.text) new read
+    replaced_steps l (AddDef 0 n at s) (DropDef 0 n at ∷ []) policy n (line_with a.0 s f.line.text) new read
     (def_add_replaces policy n at a.0 s (line_with a.0 s f.line.text) f.line know f.here p.0 (e ∙ sym p.1)) (λ n. (n, tt)) p.1 is
 
-pub drop_def_takes : Laws → (n at : ℕ) → Takes (DropDef n at)
+pub drop_def_takes : Laws → (n at : ℕ) → Takes (DropDef 0 n at)
 drop_def_takes l n at policy new read is =
     let e : drop_def n at policy ≡ Ok new = ap (drop_def n at) (sym (def_of_policy policy read)) ∙ is in
     let know : IsKnown policy = known l policy read in
@@ -170,7 +170,7 @@ drop_def_takes l n at policy new read is =
     let within = def_goes_on policy n at a.from a.to f.line f.defs know f.here f.makes a.begins a.stops in
     let p = cut among.Definitions at a.from a.to n f.line policy new within.0 within.1 a.told in
     let s : List ℕ = slice a.from a.to f.line.text in
-    replaced_steps l (DropDef n at) (AddDef n at s ∷ []) policy n (line_without a.from a.to f.line.text) new read
+    replaced_steps l (DropDef 0 n at) (AddDef 0 n at s ∷ []) policy n (line_without a.from a.to f.line.text) new read
     (def_drop_replaces policy n at a.from a.to s (line_without a.from a.to f.line.text) f.line f.defs know f.here f.makes a.begins a.stops p.0 refl (e ∙ sym p.1)) (λ n. (n, tt)) p.1 is
 
 -- MEMBERS

@@ -1,7 +1,7 @@
 -- What an edit does to the lines of a policy, and what takes it back.
-use Rattle.std.specs.Prelude.{◌≡◌, ◌⊎◌, ℕ, ◌+◌, List, [], ◌∷◌, ◌++◌, slice_index_or, map, reverse, Option, Some, Result, Ok, Err, unwrap_or, option_and_then, IsSomeAnd, IsOkAnd}
+use Rattle.std.specs.Prelude.{◌≡◌, ◌⊎◌, ℕ, ◌+◌, ◌==◌, not, List, [], ◌∷◌, ◌++◌, slice_index_or, map, reverse, Option, Some, Result, Ok, Err, unwrap_or, option_and_then, IsSomeAnd, IsOkAnd}
 use Rattle.std.specs.Result.{result_ok, result_unwrap_or}
-use Rattle.sudoers_edit.specs.Landing.{policy_of}
+use Rattle.sudoers_edit.specs.Landing.{policy_of, refuse_if}
 use Rattle.sudoers_edit.specs.LineEdits.{with_line, without_line, with_move, with_last, with_end, without_lf, ended_or_refusal}
 use Rattle.sudoers_edit.specs.SpliceEdits.{add_member, drop_member, add_def, drop_def, owned_member, owned_def}
 use Rattle.sudoers_edit.specs.Renaming.{rename}
@@ -9,7 +9,7 @@ use Rattle.sudoers_edit.specs.Pruning.{removals, edit_of}
 use Rattle.sudoers_edit_script.specs.declared.edit.Edit.{Edit}
 use Rattle.sudoers_edit_script.specs.declared.edit.Edit.TheVariants.{Insert, Delete, Move, AddMember, DropMember, AddDef, DropDef, Rename, EndLine, OpenEnd, Prune}
 use Rattle.sudoers_edit.specs.declared.fault.EditFault.{EditFault}
-use Rattle.sudoers_edit.specs.declared.fault.EditFault.TheVariants.{NoMemory}
+use Rattle.sudoers_edit.specs.declared.fault.EditFault.TheVariants.{NoFile, NoMemory}
 use Rattle.sudoers_edit.specs.declared.editor.Entry.{Entry}
 use Rattle.sudoers_edit.specs.declared.pruning.Removal.{Removal}
 use Rattle.sudoers_edit.specs.declared.pruning.Removal.TheVariants as removal
@@ -26,8 +26,8 @@ removed (removal.Def line at) lines = drop_def line at (policy_of lines)
 
 -- the edit that puts it in again
 abbrev pub put_back : Removal → Lines → Edit
-put_back (removal.Line at) lines = Insert at (slice_index_or lines at [])
-put_back (removal.Def line at) lines = AddDef line at (owned_def line at (policy_of lines))
+put_back (removal.Line at) lines = Insert 0 at (slice_index_or lines at [])
+put_back (removal.Def line at) lines = AddDef 0 line at (owned_def line at (policy_of lines))
 
 abbrev pub and_then : Result Lines EditFault → (Lines → Result Lines EditFault) → Result Lines EditFault
 and_then (Ok lines) next = next lines
@@ -45,18 +45,22 @@ put_all_back (one ∷ more) lines = put_all_back more (result_unwrap_or (removed
 
 -- EDITS
 
+-- what follows for the only file of a policy, which has the number 0
+abbrev pub in_file : ℕ → Result Lines EditFault → Result Lines EditFault
+in_file file next = refuse_if (not (file == 0)) NoFile next
+
 -- the lines after an edit, or the first cause of its refusal
 abbrev pub step : Edit → Lines → Result Lines EditFault
-step (Insert at text) lines = with_line at text lines
-step (Delete at) lines = without_line at lines
-step (Move from to) lines = with_move from to lines
+step (Insert file at text) lines = in_file file (with_line at text lines)
+step (Delete file at) lines = in_file file (without_line at lines)
+step (Move file from to) lines = in_file file (with_move from to lines)
 step (AddMember kind name at splice) lines = add_member kind name at splice (policy_of lines)
 step (DropMember kind name at) lines = drop_member kind name at (policy_of lines)
-step (AddDef line at splice) lines = add_def line at splice (policy_of lines)
-step (DropDef line at) lines = drop_def line at (policy_of lines)
+step (AddDef file line at splice) lines = in_file file (add_def line at splice (policy_of lines))
+step (DropDef file line at) lines = in_file file (drop_def line at (policy_of lines))
 step (Rename kind name fresh) lines = rename kind name fresh (policy_of lines)
-step EndLine lines = ended_or_refusal (with_last with_end lines)
-step OpenEnd lines = ended_or_refusal (with_last without_lf lines)
+step (EndLine file) lines = in_file file (ended_or_refusal (with_last with_end lines))
+step (OpenEnd file) lines = in_file file (ended_or_refusal (with_last without_lf lines))
 step Prune lines = removed_all (removals (policy_of lines)) lines
 
 -- the lines after an edit, or those before it where it is refused
@@ -65,16 +69,16 @@ after edit lines = result_unwrap_or (step edit lines) lines
 
 -- the edits that take an edit back
 abbrev pub inv : Edit → Lines → List Edit
-inv (Insert at text) lines = Delete at ∷ []
-inv (Delete at) lines = Insert at (slice_index_or lines at []) ∷ []
-inv (Move from to) lines = Move to from ∷ []
+inv (Insert file at text) lines = Delete file at ∷ []
+inv (Delete file at) lines = Insert file at (slice_index_or lines at []) ∷ []
+inv (Move file from to) lines = Move file to from ∷ []
 inv (AddMember kind name at splice) lines = DropMember kind name at ∷ []
 inv (DropMember kind name at) lines = AddMember kind name at (owned_member kind name at (policy_of lines)) ∷ []
-inv (AddDef line at splice) lines = DropDef line at ∷ []
-inv (DropDef line at) lines = AddDef line at (owned_def line at (policy_of lines)) ∷ []
+inv (AddDef file line at splice) lines = DropDef file line at ∷ []
+inv (DropDef file line at) lines = AddDef file line at (owned_def line at (policy_of lines)) ∷ []
 inv (Rename kind name fresh) lines = Rename kind fresh name ∷ []
-inv EndLine lines = OpenEnd ∷ []
-inv OpenEnd lines = EndLine ∷ []
+inv (EndLine file) lines = OpenEnd file ∷ []
+inv (OpenEnd file) lines = EndLine file ∷ []
 inv Prune lines = put_all_back (removals (policy_of lines)) lines
 
 -- the lines after all edits, where none is refused

@@ -10,8 +10,8 @@ use Rattle.sudoers_edit.specs.declared.pruning.Removal.{Removal}
 use Rattle.sudoers_edit.specs.declared.pruning.Removal.TheVariants as removal
 
 abbrev pub edit_of : Removal → Edit
-edit_of (removal.Line at) = Delete at
-edit_of (removal.Def line at) = DropDef line at
+edit_of (removal.Line at) = Delete 0 at
+edit_of (removal.Def line at) = DropDef 0 line at
 
 -- a line with so many definitions, of which these are unused, goes whole if they are all, and else without them, the last first
 abbrev pub removals_of : ℕ → ℕ → List Definition → List Removal

@@ -8,6 +8,9 @@ use thiserror::Error;
 /// Why an edit is refused, the first cause in this order.
 #[derive(Debug, Drop, Error)]
 pub enum EditFault {
+    /// There is no file with this number.
+    #[error("NoFile")]
+    NoFile,
     /// The line is not there.
     #[error("NoLine")]
     NoLine,

@@ -106,7 +106,7 @@ pub fn policy_without_line_is_one()
 pub fn drop_is_refused_for_a_splice_alone()
     ensures { (policy : List LineOf) (line : LineOf) (kind : AKind) (defs : List ADef) (n at : ℕ) (fault : AFault)
         → read_of (join (texts policy)) ≡ Ok policy → slice_get policy n ≡ Some line → line.node ≡ node_of.Alias kind defs
-        → at < length defs → 2 ≤ length defs → step_of (Edit.DropDef n at) (texts policy) ≡ Err fault → fault ≡ EditFault.BadSplice }
+        → at < length defs → 2 ≤ length defs → step_of (Edit.DropDef 0 n at) (texts policy) ≡ Err fault → fault ≡ EditFault.BadSplice }
 {
     cut_is();
     lines_of_join();

@@ -24,7 +24,7 @@ use sudoers_tree::{LineChange, OneFile};
 
 /// Plans a line put in.
 pub fn line_inserted(policy: &OneFile, at: u32, text: &[u8]) -> Result<Plan, EditFault>
-    ensures { Plans (Edit.Insert at text.now) (texts policy.now) result }
+    ensures { Plans (Edit.Insert 0 at text.now) (texts policy.now) result }
 {
     let alloc = policy.allocator();
     let place = at as usize;
@@ -38,14 +38,14 @@ pub fn line_inserted(policy: &OneFile, at: u32, text: &[u8]) -> Result<Plan, Edi
         return Err(EditFault::OpenLine);
     }
     let text = Text::from_slice(alloc, text)?;
-    let inverse = Edits::one(alloc, Edit::Delete { at })?;
+    let inverse = Edits::one(alloc, Edit::Delete { file: 0, at })?;
     is_sound(policy);
     Ok(Plan::put(alloc, place, text, inverse)?)
 }
 
 /// Plans a line taken out.
 pub fn line_deleted(policy: &OneFile, at: u32) -> Result<Plan, EditFault>
-    ensures { Plans (Edit.Delete at) (texts policy.now) result }
+    ensures { Plans (Edit.Delete 0 at) (texts policy.now) result }
 {
     let alloc = policy.allocator();
     let place = at as usize;
@@ -53,14 +53,14 @@ pub fn line_deleted(policy: &OneFile, at: u32) -> Result<Plan, EditFault>
         return Err(EditFault::NoLine);
     };
     let text = Text::from_slice(alloc, line)?;
-    let inverse = Edits::one(alloc, Edit::Insert { at, text })?;
+    let inverse = Edits::one(alloc, Edit::Insert { file: 0, at, text })?;
     is_sound(policy);
     Ok(Plan::take(alloc, place, inverse)?)
 }
 
 /// Plans a line that stands elsewhere.
 pub fn line_moved(policy: &OneFile, from: u32, to: u32) -> Result<Plan, EditFault>
-    ensures { Plans (Edit.Move from to) (texts policy.now) result }
+    ensures { Plans (Edit.Move 0 from to) (texts policy.now) result }
 {
     let alloc = policy.allocator();
     let (place, target) = (from as usize, to as usize);
@@ -75,7 +75,7 @@ pub fn line_moved(policy: &OneFile, from: u32, to: u32) -> Result<Plan, EditFaul
     }
     let text = Text::from_slice(alloc, line)?;
     let changes = move_changes(alloc, from, to, text)?;
-    let back = Edit::Move { from: to, to: from };
+    let back = Edit::Move { file: 0, from: to, to: from };
     let inverse = Edits::one(alloc, back)?;
     is_sound(policy);
     lines_are_whole(policy);
@@ -114,7 +114,7 @@ fn move_changes(
 
 /// Plans LF behind the last line.
 pub fn end_closed(policy: &OneFile) -> Result<Plan, EditFault>
-    ensures { Plans Edit.EndLine (texts policy.now) result }
+    ensures { Plans (Edit.EndLine 0) (texts policy.now) result }
 {
     let alloc = policy.allocator();
     let Some(last) = last_line(policy) else {
@@ -135,13 +135,13 @@ pub fn end_closed(policy: &OneFile) -> Result<Plan, EditFault>
         whole.push(b'\n')?;
         return Err(refusal(alloc, whole.as_slice()));
     }
-    let inverse = Edits::one(alloc, Edit::OpenEnd)?;
+    let inverse = Edits::one(alloc, Edit::OpenEnd { file: 0 })?;
     Ok(Plan::swap(alloc, last_place(policy), Text::from_vec(text), inverse)?)
 }
 
 /// Plans that the last line lacks the LF at its end.
 pub fn end_opened(policy: &OneFile) -> Result<Plan, EditFault>
-    ensures { Plans Edit.OpenEnd (texts policy.now) result }
+    ensures { Plans (Edit.OpenEnd 0) (texts policy.now) result }
 {
     let alloc = policy.allocator();
     let Some(last) = last_line(policy) else {
@@ -158,7 +158,7 @@ pub fn end_opened(policy: &OneFile) -> Result<Plan, EditFault>
         let _ = whole.pop();
         return Err(refusal(alloc, whole.as_slice()));
     }
-    let inverse = Edits::one(alloc, Edit::EndLine)?;
+    let inverse = Edits::one(alloc, Edit::EndLine { file: 0 })?;
     Ok(Plan::swap(alloc, last_place(policy), text, inverse)?)
 }
 

@@ -36,9 +36,9 @@ fn planned(policy: &OneFile, edit: &Edit) -> Result<Plan, EditFault>
     ensures { Plans edit.now (texts policy.now) result }
 {
     match edit {
-        Edit::Insert { at, text } => line_inserted(policy, *at, text.as_slice()),
-        Edit::Delete { at } => line_deleted(policy, *at),
-        Edit::Move { from, to } => line_moved(policy, *from, *to),
+        Edit::Insert { file: 0, at, text } => line_inserted(policy, *at, text.as_slice()),
+        Edit::Delete { file: 0, at } => line_deleted(policy, *at),
+        Edit::Move { file: 0, from, to } => line_moved(policy, *from, *to),
         Edit::AddMember {
             kind,
             name,
@@ -46,8 +46,8 @@ fn planned(policy: &OneFile, edit: &Edit) -> Result<Plan, EditFault>
             splice,
         } => member_added(policy, *kind, name.as_slice(), *at, splice.as_slice()),
         Edit::DropMember { kind, name, at } => member_dropped(policy, *kind, name.as_slice(), *at),
-        Edit::AddDef { line, at, splice } => def_added(policy, *line, *at, splice.as_slice()),
-        Edit::DropDef { line, at } => def_dropped(policy, *line, *at),
+        Edit::AddDef { file: 0, line, at, splice } => def_added(policy, *line, *at, splice.as_slice()),
+        Edit::DropDef { file: 0, line, at } => def_dropped(policy, *line, *at),
         Edit::Rename { kind, name, fresh } => {
             alias_renamed(policy, *kind, name.as_slice(), fresh.as_slice())
         }

@@ -108,7 +108,7 @@ fn line_out(
         file: 0,
         at: at as usize,
     })?;
-    Ok(Edit::Insert { at, text })
+    Ok(Edit::Insert { file: 0, at, text })
 }
 
 /// Takes a definition out of a line.
@@ -132,7 +132,7 @@ fn def_out(
         Err(fault) => return Err(fault),
     };
     replace_line(changes, line as usize, text)?;
-    Ok(Edit::AddDef { line, at, splice })
+    Ok(Edit::AddDef { file: 0, line, at, splice })
 }
 
 /// Returns the line `line` as the changes make it so far.

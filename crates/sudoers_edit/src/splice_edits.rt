@@ -29,7 +29,7 @@ use sudoers_tree::{Def, DefRow, Kind, Line, Node, OneFile, Place, Rows, read_lin
 
 /// Plans a definition put into a line.
 pub fn def_added(policy: &OneFile, line: u32, at: u32, splice: &[u8]) -> Result<Plan, EditFault>
-    ensures { Plans (Edit.AddDef line at splice.now) (texts policy.now) result }
+    ensures { Plans (Edit.AddDef 0 line at splice.now) (texts policy.now) result }
 {
     is_known(policy);
     let alloc = policy.allocator();
@@ -45,13 +45,13 @@ pub fn def_added(policy: &OneFile, line: u32, at: u32, splice: &[u8]) -> Result<
         Ok(text) => text,
         Err(fault) => return Err(fault),
     };
-    let inverse = Edits::one(alloc, Edit::DropDef { line, at })?;
+    let inverse = Edits::one(alloc, Edit::DropDef { file: 0, line, at })?;
     line_replaced(policy, line as usize, text, inverse)
 }
 
 /// Plans a definition taken out of a line.
 pub fn def_dropped(policy: &OneFile, line: u32, at: u32) -> Result<Plan, EditFault>
-    ensures { Plans (Edit.DropDef line at) (texts policy.now) result }
+    ensures { Plans (Edit.DropDef 0 line at) (texts policy.now) result }
 {
     is_known(policy);
     let alloc = policy.allocator();
@@ -76,7 +76,7 @@ pub fn def_dropped(policy: &OneFile, line: u32, at: u32) -> Result<Plan, EditFau
         Err(fault) => return Err(fault),
     };
     let splice = Text::from_slice(alloc, &old.text[from..to])?;
-    let inverse = Edits::one(alloc, Edit::AddDef { line, at, splice })?;
+    let inverse = Edits::one(alloc, Edit::AddDef { file: 0, line, at, splice })?;
     line_replaced(policy, line as usize, text, inverse)
 }
 

@@ -94,7 +94,7 @@ pub record CutDef (n at : ℕ) (policy : List Line) (line : Line) (text splice :
   pub inside : at < length defs
   pub many : 2 ≤ length defs
   pub forth : drop_def n at policy ≡ changed_or_refusal n text (texts policy)
-  pub replaces : Replaces (DropDef n at) (AddDef n at splice ∷ []) (texts policy) n text
+  pub replaces : Replaces (DropDef 0 n at) (AddDef 0 n at splice ∷ []) (texts policy) n text
 
 -- what comes of cutting a definition out: the text and the splice, or the refusal
 abbrev pub CutsDef : ℕ → ℕ → List Line → Line → Result (List ℕ × List ℕ) EditFault → Type 0
@@ -105,7 +105,7 @@ CutsDef n at policy line (Err fault) = Refuses fault (drop_def n at policy)
 pub record LineGoes (at : ℕ) (policy : List Line) : Type 0 where
   pub read : read_of (join (texts (remove policy at))) ≡ Ok (remove policy at)
   pub gone : texts (remove policy at) ≡ remove (texts policy) at
-  pub made : IsMade (Delete at) (Insert at (slice_index_or (texts policy) at []) ∷ []) (texts policy) (texts (remove policy at))
+  pub made : IsMade (Delete 0 at) (Insert 0 at (slice_index_or (texts policy) at []) ∷ []) (texts policy) (texts (remove policy at))
 
 -- The definition at this place of this line goes. What is left is a policy, and one edit puts the definition in again.
 pub record DefGoes (n at : ℕ) (policy : List Line) (text splice : List ℕ) : Type 0 where
@@ -113,7 +113,7 @@ pub record DefGoes (n at : ℕ) (policy : List Line) (text splice : List ℕ) : 
   pub read : read_of (join (texts next)) ≡ Ok next
   pub left : texts next ≡ replaced n text (texts policy)
   pub whole : IsLogicalLine text
-  pub made : IsMade (DropDef n at) (AddDef n at splice ∷ []) (texts policy) (texts next)
+  pub made : IsMade (DropDef 0 n at) (AddDef 0 n at splice ∷ []) (texts policy) (texts next)
 
 -- What one change more, of the line with this number, makes of the lines that changes after it make.
 pub record OneMore (file at : ℕ) (changes : List LineChange) (lines : Lines) : Type 0 where

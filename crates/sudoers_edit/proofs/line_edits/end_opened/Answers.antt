@@ -39,7 +39,7 @@ refusal-requires c =
     c.as_slice-then-not-branch.ensures.value ∙ c.pop.ensures.rest ∙ ap (λ n. take (n - 1) c.in_ok-whole.whole.items) c.in_ok-whole.whole.ok.0
     ∙ ap (λ (t : List ℕ). take (length t - 1) t) c.in_ok-whole.ensures
     ∙ text_opened ls line here (sym c.ends_in_lf.ensures ∙ c.if-not-ends_in_lf.false) c.if-last-lt2.false in
-    unread OpenEnd (EndLine ∷ []) ls (length ls - 1) new c.as_slice-then-not-branch.result.now leads (last_within ls line here) open_ whole
+    unread (OpenEnd 0) (EndLine ∷ []) ls (length ls - 1) new c.as_slice-then-not-branch.result.now leads (last_within ls line here) open_ whole
 
 pub returns-then-not-branch : goal.returns-then-not-branch
 returns-then-not-branch c =
@@ -51,7 +51,7 @@ returns-then-not-branch c =
     c.as_slice-then-not-branch.ensures.value ∙ c.pop.ensures.rest ∙ ap (λ n. take (n - 1) c.in_ok-whole.whole.items) c.in_ok-whole.whole.ok.0
     ∙ ap (λ (t : List ℕ). take (length t - 1) t) c.in_ok-whole.ensures
     ∙ text_opened ls line here (sym c.ends_in_lf.ensures ∙ c.if-not-ends_in_lf.false) c.if-last-lt2.false in
-    unread_refused OpenEnd (EndLine ∷ []) ls (replaced (length ls - 1) (take (length line - 1) line) ls) c.as_slice-then-not-branch.result.now c.refusal.result leads
+    unread_refused (OpenEnd 0) (EndLine ∷ []) ls (replaced (length ls - 1) (take (length line - 1) line) ls) c.as_slice-then-not-branch.result.now c.refusal.result leads
     whole c.refusal.ensures
 
 pub returns : goal.returns
@@ -63,8 +63,8 @@ returns c =
     let leads = open_leads c.stays_cut.ensures ls line c.is_sound.ensures here (sym c.ends_in_lf.ensures ∙ c.if-not-ends_in_lf.false) c.if-last-lt2.false in
     let put : c.in_ok-text.text ≡ new = c.in_ok-text.ensures in
     let one : IsLogicalLine c.in_ok-text.text = subst IsLogicalLine c.as_slice.ensures (c.in_ok-is_one_line.ensures.whole c.if-not-branch.false) in
-    let there : LeadsTo OpenEnd c.in_ok-inverse.inverse ls (replaced (length ls - 1) new ls) =
-    subst (λ i. LeadsTo OpenEnd i ls (replaced (length ls - 1) new ls)) (sym c.in_ok-inverse.ensures) leads in
-    c.in_ok-swap.ensures OpenEnd ls (subst (λ n. n < length ls) (sym c.last_place.ensures) (last_within ls line here)) one
-    (subst (λ n. LeadsTo OpenEnd c.in_ok-inverse.inverse ls (replaced n c.in_ok-text.text ls)) (sym c.last_place.ensures)
-    (subst (λ t. LeadsTo OpenEnd c.in_ok-inverse.inverse ls (replaced (length ls - 1) t ls)) (sym put) there))
+    let there : LeadsTo (OpenEnd 0) c.in_ok-inverse.inverse ls (replaced (length ls - 1) new ls) =
+    subst (λ i. LeadsTo (OpenEnd 0) i ls (replaced (length ls - 1) new ls)) (sym c.in_ok-inverse.ensures) leads in
+    c.in_ok-swap.ensures (OpenEnd 0) ls (subst (λ n. n < length ls) (sym c.last_place.ensures) (last_within ls line here)) one
+    (subst (λ n. LeadsTo (OpenEnd 0) c.in_ok-inverse.inverse ls (replaced n c.in_ok-text.text ls)) (sym c.last_place.ensures)
+    (subst (λ t. LeadsTo (OpenEnd 0) c.in_ok-inverse.inverse ls (replaced (length ls - 1) t ls)) (sym put) there))

@@ -17,7 +17,7 @@ returns c =
     let here : slice_get ls c.args.at ≡ Some line = text_at policy c.args.at ∙ sym c.in-Some.ensures in
     let within : c.args.at < length ls = slice_get_within ls c.args.at line here in
     let copied : slice_index_or ls c.args.at [] ≡ c.in_ok-text.text = at_get ls c.args.at line [] here ∙ sym c.in_ok-text.ensures in
-    let inverse : Insert c.args.at (slice_index_or ls c.args.at []) ∷ [] ≡ c.in_ok-inverse.inverse =
-    ap (λ t. Insert c.args.at t ∷ []) copied ∙ sym c.in_ok-inverse.ensures in
-    c.in_ok-take.ensures (Delete c.args.at) ls within
-    (subst (λ i. LeadsTo (Delete c.args.at) i ls (remove ls c.args.at)) inverse (delete_leads ls c.args.at c.is_sound.ensures within))
+    let inverse : Insert 0 c.args.at (slice_index_or ls c.args.at []) ∷ [] ≡ c.in_ok-inverse.inverse =
+    ap (λ t. Insert 0 c.args.at t ∷ []) copied ∙ sym c.in_ok-inverse.ensures in
+    c.in_ok-take.ensures (Delete 0 c.args.at) ls within
+    (subst (λ i. LeadsTo (Delete 0 c.args.at) i ls (remove ls c.args.at)) inverse (delete_leads ls c.args.at c.is_sound.ensures within))

@@ -22,7 +22,7 @@ returns c =
     let whole : IsLogicalLine t = c.in_ok-is_one_line.ensures.whole c.if-not-branch.false in
     let ended : has_unended_inside (insert ls c.args.at t) ≡ false = sym c.leaves_unended.ensures ∙ c.if-leaves_unended.false in
     let leads = insert_leads ls c.args.at t c.is_sound.ensures within one alone ended in
-    let here : LeadsTo (Insert c.args.at t) (Delete c.args.at ∷ []) ls (insert ls c.args.at copy) =
-    subst (λ z. LeadsTo (Insert c.args.at t) (Delete c.args.at ∷ []) ls (insert ls c.args.at z)) (sym c.in_ok-text.ensures) leads in
-    c.in_ok-put.ensures (Insert c.args.at t) ls within (subst IsLogicalLine (sym c.in_ok-text.ensures) whole)
-    (subst (λ i. LeadsTo (Insert c.args.at t) i ls (insert ls c.args.at copy)) (sym c.in_ok-inverse.ensures) here)
+    let here : LeadsTo (Insert 0 c.args.at t) (Delete 0 c.args.at ∷ []) ls (insert ls c.args.at copy) =
+    subst (λ z. LeadsTo (Insert 0 c.args.at t) (Delete 0 c.args.at ∷ []) ls (insert ls c.args.at z)) (sym c.in_ok-text.ensures) leads in
+    c.in_ok-put.ensures (Insert 0 c.args.at t) ls within (subst IsLogicalLine (sym c.in_ok-text.ensures) whole)
+    (subst (λ i. LeadsTo (Insert 0 c.args.at t) i ls (insert ls c.args.at copy)) (sym c.in_ok-inverse.ensures) here)

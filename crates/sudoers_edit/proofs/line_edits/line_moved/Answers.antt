@@ -24,9 +24,9 @@ returns c =
     let inside : from < length ls = slice_get_within ls from line here in
     let within : to < length ls = omega (arith, c.if-target-len.false, c.len.ensures, count_texts policy) in
     let ended : has_unended_inside (moved from to ls) ≡ false = sym c.move_leaves_unended.ensures ∙ c.if-move_leaves_unended.false in
-    let leads : LeadsTo (Move from to) c.in_ok-inverse.inverse ls (moved from to ls) =
-    subst (λ i. LeadsTo (Move from to) i ls (moved from to ls)) (sym c.in_ok-inverse.ensures) (move_leads ls from to c.is_sound.ensures inside within ended) in
+    let leads : LeadsTo (Move 0 from to) c.in_ok-inverse.inverse ls (moved from to ls) =
+    subst (λ i. LeadsTo (Move 0 from to) i ls (moved from to ls)) (sym c.in_ok-inverse.ensures) (move_leads ls from to c.is_sound.ensures inside within ended) in
     let changes : c.in_ok-changes.changes.items ≡ move_changes from to (slice_index_or ls from []) =
     c.in_ok-changes.ensures ∙ ap (move_changes from to) (c.in_ok-text.ensures ∙ sym (at_get ls from line [] here)) in
-    subst (Leads (Move from to) c.in_ok-inverse.inverse ls) (sym changes)
-    (move_leads_by c.changed_by_first.ensures.none c.changed_by_first.ensures.first (Move from to) c.in_ok-inverse.inverse ls from to c.lines_are_whole.ensures inside within leads)
+    subst (Leads (Move 0 from to) c.in_ok-inverse.inverse ls) (sym changes)
+    (move_leads_by c.changed_by_first.ensures.none c.changed_by_first.ensures.first (Move 0 from to) c.in_ok-inverse.inverse ls from to c.lines_are_whole.ensures inside within leads)

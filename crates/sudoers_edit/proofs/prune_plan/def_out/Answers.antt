@@ -34,4 +34,4 @@ returns c = λ now below upto draft ready may.
     (ap (λ cs. option_or (replaced_by n (reverse cs)) (slice_get (texts c.args.policy.now) n)) (sym c.as_slice.ensures.value) ∙ sym c.in-Some.ensures) in
     let out = def_taken c.drafts_stand.ensures.def policy now changes n c.args.at c.in-Some.old.now c.in-Ok.cut.0 c.in-Ok.cut.1 draft f
     (c.in-Ok.ensures n now f.line (c.drafts_stand.ensures.known now draft.read) f.here f.says) in
-    subst (λ cs. IsTakenOut policy (removal.Def n c.args.at) now cs (AddDef n c.args.at c.in-Ok.cut.1)) (sym c.in_ok-replace_line.ensures) out
+    subst (λ cs. IsTakenOut policy (removal.Def n c.args.at) now cs (AddDef 0 n c.args.at c.in-Ok.cut.1)) (sym c.in_ok-replace_line.ensures) out

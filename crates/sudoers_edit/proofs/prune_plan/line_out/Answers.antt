@@ -17,7 +17,7 @@ use Rattle.sudoers_edit.proofs.prune_plan.line_out.Goals as goal
 pub returns-in_default : goal.returns-in_default
 returns-in_default c = λ now below upto draft ready may.
     line_is_there c.args.policy.now now (reverse c.args.changes.now.items) c.args.at below upto ready may
-    (text_at c.args.policy.now c.args.at ∙ sym c.in_default.ensures) (step (Delete c.args.at) (texts now)) NoLine
+    (text_at c.args.policy.now c.args.at ∙ sym c.in_default.ensures) (step (Delete 0 c.args.at) (texts now)) NoLine
 
 pub returns : goal.returns
 returns c = λ now below upto draft ready may.
@@ -26,8 +26,8 @@ returns c = λ now below upto draft ready may.
     let old : List LineChange = c.args.changes.now.items in
     let line : List ℕ = c.in-Some.line.now in
     let here : slice_get (texts policy) at ≡ Some line = text_at policy at ∙ sym c.in-Some.ensures in
-    let out : IsTakenOut policy (removal.Line at) now (Take 0 at ∷ reverse old) (Insert at line) =
+    let out : IsTakenOut policy (removal.Line at) now (Take 0 at ∷ reverse old) (Insert 0 at line) =
     line_taken c.drafts_stand.ensures.one c.drafts_stand.ensures.line policy now (reverse old) at below upto line draft ready may here in
     let new : reverse c.push.new.self.items ≡ Take 0 at ∷ reverse old = ap reverse c.in_ok-push.ensures.items ∙ reverse-append old (Take 0 at ∷ []) in
-    subst (λ cs. IsTakenOut policy (removal.Line at) now cs (Insert at c.in_ok-text.text)) (sym new)
-    (subst (λ t. IsTakenOut policy (removal.Line at) now (Take 0 at ∷ reverse old) (Insert at t)) (sym c.in_ok-text.ensures) out)
+    subst (λ cs. IsTakenOut policy (removal.Line at) now cs (Insert 0 at c.in_ok-text.text)) (sym new)
+    (subst (λ t. IsTakenOut policy (removal.Line at) now (Take 0 at ∷ reverse old) (Insert 0 at t)) (sym c.in_ok-text.ensures) out)

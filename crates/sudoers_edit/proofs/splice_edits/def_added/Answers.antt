@@ -54,10 +54,10 @@ returns c =
     let s : List ℕ = c.args.splice.now in
     let policy : List Line = c.args.policy.now in
     let line : Line = line_shown c.in-Ok.found.0 in
-    let leads : Replaces (AddDef n at s) (DropDef n at ∷ []) (texts policy) n c.in-Ok-put_in.text.items =
+    let leads : Replaces (AddDef 0 n at s) (DropDef 0 n at ∷ []) (texts policy) n c.in-Ok-put_in.text.items =
     add_replaces policy n at c.in-Ok-place_to_add.from s c.in-Ok-put_in.text.items line c.is_known.ensures c.in-Ok.ensures.found.0 c.in-Ok-put_in.ensures.put
     (add_found n at s policy line (defs_shown c.in-Ok.found.1) c.in-Ok.ensures.outcome
     ∙ (c.in-Ok-place_to_add.ensures (λ from. put_in among.Definitions at from n s line policy)).0
     ∙ c.in-Ok-put_in.ensures.outcome n policy) in
-    c.line_replaced.ensures (AddDef n at s)
-    (subst (λ i. Replaces (AddDef n at s) i (texts policy) n c.in-Ok-put_in.text.items) (sym c.in_ok-inverse.ensures) leads)
+    c.line_replaced.ensures (AddDef 0 n at s)
+    (subst (λ i. Replaces (AddDef 0 n at s) i (texts policy) n c.in-Ok-put_in.text.items) (sym c.in_ok-inverse.ensures) leads)

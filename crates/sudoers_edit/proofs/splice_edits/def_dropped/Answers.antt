@@ -64,9 +64,9 @@ returns c =
     let s : List ℕ = c.in_ok-splice.splice in
     let place = c.in-Ok-place_to_drop.ensures (λ from to. cut_out among.Definitions at from to n line policy) in
     let owned : s ≡ slice from to line.text = c.in_ok-splice.ensures in
-    let leads : Replaces (DropDef n at) (AddDef n at s ∷ []) (texts policy) n c.in-Ok-cut_out.text.items =
+    let leads : Replaces (DropDef 0 n at) (AddDef 0 n at s ∷ []) (texts policy) n c.in-Ok-cut_out.text.items =
     drop_replaces policy n at from to s c.in-Ok-cut_out.text.items line defs c.is_known.ensures c.in-Ok.ensures.found.0 c.in-Ok.ensures.found.1 place.1 place.2
     c.in-Ok-cut_out.ensures.cut owned
     (drop_found n at policy line defs c.in-Ok.ensures.outcome ∙ place.0 ∙ c.in-Ok-cut_out.ensures.outcome n policy) in
-    c.line_replaced.ensures (DropDef n at)
-    (subst (λ i. Replaces (DropDef n at) i (texts policy) n c.in-Ok-cut_out.text.items) (sym c.in_ok-inverse.ensures) leads)
+    c.line_replaced.ensures (DropDef 0 n at)
+    (subst (λ i. Replaces (DropDef 0 n at) i (texts policy) n c.in-Ok-cut_out.text.items) (sym c.in_ok-inverse.ensures) leads)
