@@ -191,7 +191,7 @@ open_lacks ls line is h =
 
 -- these lines, with LF behind the last
 end_leads_parts : StaysCut → (front : List (List ℕ)) (line : List ℕ) → IsSound (front ++ line ∷ []) → ends_in_lf line ≡ false
-    → length line < line_limit → LeadsTo (EndLine 0) (OpenEnd ∷ []) (front ++ line ∷ []) (front ++ (line ++ 10 ∷ []) ∷ [])
+    → length line < line_limit → LeadsTo (EndLine 0) (OpenEnd 0 ∷ []) (front ++ line ∷ []) (front ++ (line ++ 10 ∷ []) ∷ [])
 end_leads_parts law front line sound lacks short =
     let new : List (List ℕ) = front ++ (line ++ 10 ∷ []) ∷ [] in
     let alone = law.size line (last_alone front line sound.each) in
@@ -207,7 +207,7 @@ end_leads_parts law front line sound lacks short =
 
 -- these lines, without the LF of the last
 open_leads_parts : StaysCut → (front : List (List ℕ)) (line : List ℕ) → IsSound (front ++ (line ++ 10 ∷ []) ∷ []) → line ≢ []
-    → LeadsTo (OpenEnd 0) (EndLine ∷ []) (front ++ (line ++ 10 ∷ []) ∷ []) (front ++ line ∷ [])
+    → LeadsTo (OpenEnd 0) (EndLine 0 ∷ []) (front ++ (line ++ 10 ∷ []) ∷ []) (front ++ line ∷ [])
 open_leads_parts law front line sound some =
     let old : List (List ℕ) = front ++ (line ++ 10 ∷ []) ∷ [] in
     let alone = law.size (line ++ 10 ∷ []) (last_alone front (line ++ 10 ∷ []) sound.each) in
@@ -236,15 +236,15 @@ body_of body =
     ap (λ n. take n (body ++ 10 ∷ [])) (omega (arith, length-append body (10 ∷ []))) ∙ take-append_seam body (10 ∷ [])
 
 pub end_leads : StaysCut → (ls : List (List ℕ)) (line : List ℕ) → IsSound ls → slice_get ls (length ls - 1) ≡ Some line → ends_in_lf line ≡ false
-    → length line < line_limit → LeadsTo (EndLine 0) (OpenEnd ∷ []) ls (replaced (length ls - 1) (line ++ 10 ∷ []) ls)
+    → length line < line_limit → LeadsTo (EndLine 0) (OpenEnd 0 ∷ []) ls (replaced (length ls - 1) (line ++ 10 ∷ []) ls)
 end_leads law ls line sound at lacks short =
     let p = last_parts ls line at in
-    subst (λ (z : List (List ℕ)). LeadsTo (EndLine 0) (OpenEnd ∷ []) z (replaced (length z - 1) (line ++ 10 ∷ []) z)) (sym p.1)
-    (subst (LeadsTo (EndLine 0) (OpenEnd ∷ []) (p.0 ++ line ∷ [])) (sym (last_replaced p.0 line (line ++ 10 ∷ [])))
+    subst (λ (z : List (List ℕ)). LeadsTo (EndLine 0) (OpenEnd 0 ∷ []) z (replaced (length z - 1) (line ++ 10 ∷ []) z)) (sym p.1)
+    (subst (LeadsTo (EndLine 0) (OpenEnd 0 ∷ []) (p.0 ++ line ∷ [])) (sym (last_replaced p.0 line (line ++ 10 ∷ [])))
     (end_leads_parts law p.0 line (subst IsSound p.1 sound) lacks short))
 
 pub open_leads : StaysCut → (ls : List (List ℕ)) (line : List ℕ) → IsSound ls → slice_get ls (length ls - 1) ≡ Some line → ends_in_lf line ≡ true
-    → 2 ≤ length line → LeadsTo (OpenEnd 0) (EndLine ∷ []) ls (replaced (length ls - 1) (take (length line - 1) line) ls)
+    → 2 ≤ length line → LeadsTo (OpenEnd 0) (EndLine 0 ∷ []) ls (replaced (length ls - 1) (take (length line - 1) line) ls)
 open_leads law ls line sound at ended long =
     let p = last_parts ls line at in
     let q = lf_parts line long ended in
@@ -253,8 +253,8 @@ open_leads law ls line sound at ended long =
     let new : replaced (length ls - 1) (take (length line - 1) line) ls ≡ p.0 ++ q.0 ∷ [] =
     ap (λ (z : List (List ℕ)). replaced (length z - 1) (take (length line - 1) line) z) whole
     ∙ last_replaced p.0 (q.0 ++ 10 ∷ []) (take (length line - 1) line) ∙ ap (λ (z : List ℕ). p.0 ++ z ∷ []) body in
-    subst (LeadsTo (OpenEnd 0) (EndLine ∷ []) ls) (sym new)
-    (subst (λ (z : List (List ℕ)). LeadsTo (OpenEnd 0) (EndLine ∷ []) z (p.0 ++ q.0 ∷ [])) (sym whole)
+    subst (LeadsTo (OpenEnd 0) (EndLine 0 ∷ []) ls) (sym new)
+    (subst (λ (z : List (List ℕ)). LeadsTo (OpenEnd 0) (EndLine 0 ∷ []) z (p.0 ++ q.0 ∷ [])) (sym whole)
     (open_leads_parts law p.0 q.0 (subst IsSound whole sound) q.2))
 
 -- THE WHOLE TEXT

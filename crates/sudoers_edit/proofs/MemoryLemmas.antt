@@ -23,7 +23,7 @@ use Rattle.sudoers_tree.specs.Single.{said}
 use Rattle.sudoers_edit_script.specs.declared.edit.Edit.{Edit}
 use Rattle.sudoers_edit_script.specs.declared.edit.Edit.TheVariants.{Insert, Delete, Move, AddMember, DropMember, AddDef, DropDef, Rename, EndLine, OpenEnd, Prune}
 use Rattle.sudoers_edit.specs.declared.fault.EditFault.{EditFault}
-use Rattle.sudoers_edit.specs.declared.fault.EditFault.TheVariants.{NoLine, NotOneLine, OpenLine, NoAlias, NoPlace, OnlyOne, BadName, NameTaken, BadSplice, TooLarge}
+use Rattle.sudoers_edit.specs.declared.fault.EditFault.TheVariants.{NoFile, NoLine, NotOneLine, OpenLine, NoAlias, NoPlace, OnlyOne, BadName, NameTaken, BadSplice, TooLarge}
 use Rattle.sudoers_edit.specs.declared.one_more.Among.{Among}
 use Rattle.sudoers_edit.specs.declared.one_more.Among.TheVariants as among
 use Rattle.sudoers_edit.specs.declared.pruning.Removal.{Removal}
@@ -36,7 +36,7 @@ use Rattle.sudoers_edit.specs.SpliceEdits.{place_to_add, place_to_drop, if_splic
 use Rattle.sudoers_edit.specs.Renaming.{renamed, is_taken, rename}
 use Rattle.sudoers_edit.specs.Pruning.{removals}
 use Rattle.sudoers_edit.specs.Memory.{IsOfText, TellsMemoryAlone}
-use Rattle.sudoers_edit.specs.Editing.{Lines, removed, and_then, removed_all, step, Refuses}
+use Rattle.sudoers_edit.specs.Editing.{Lines, in_file, removed, and_then, removed_all, step, Refuses}
 
 -- what the law of reading says
 abbrev pub OutcomeLaw : Type 0

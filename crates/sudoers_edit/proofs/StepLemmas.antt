@@ -181,7 +181,7 @@ end_takes l policy new read is = by (slice_get (texts policy) (length (texts pol
         elim (leb_tells line_limit (length line)) [
           | inl more ↦ clash TooLarge new (step (EndLine 0) (texts policy)) (end_too_long (texts policy) line here h more.1) is
           | inr less ↦
-              leads_steps l (EndLine 0) (OpenEnd ∷ []) (texts policy) new (replaced (length (texts policy) - 1) (line ++ 10 ∷ []) (texts policy))
+              leads_steps l (EndLine 0) (OpenEnd 0 ∷ []) (texts policy) new (replaced (length (texts policy) - 1) (line ++ 10 ∷ []) (texts policy))
               (end_leads l.stays (texts policy) line sound here h less.1) (λ n. (n, tt)) is
         ]
 
@@ -201,7 +201,7 @@ open_takes l policy new read is = by (slice_get (texts policy) (length (texts po
 
     long : (line : List ℕ) → slice_get (texts policy) (length (texts policy) - 1) ≡ Some line → 2 ≤ length line → (b : Bool) → ends_in_lf line ≡ b → Steps (OpenEnd 0) (texts policy) new
     long line here size true h =
-        leads_steps l (OpenEnd 0) (EndLine ∷ []) (texts policy) new (replaced (length (texts policy) - 1) (take (length line - 1) line) (texts policy))
+        leads_steps l (OpenEnd 0) (EndLine 0 ∷ []) (texts policy) new (replaced (length (texts policy) - 1) (take (length line - 1) line) (texts policy))
         (open_leads l.stays (texts policy) line sound here h size) (λ n. (n, tt)) is
     long line here size false h = clash EndAsIs new (step (OpenEnd 0) (texts policy)) (open_lacks (texts policy) line here h) is
 

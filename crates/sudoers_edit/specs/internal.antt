@@ -7,3 +7,4 @@ pub mod ReadFaults
 pub mod Swaps
 pub mod Undone
 pub mod Drafts
+pub mod Elsewhere

@@ -1,6 +1,7 @@
 //! Edits made in place.
 ghost use Rattle.std.specs.Prelude.{◌≡◌, OnErr};
 ghost use Rattle.sudoers_tree.specs.Policy.{texts};
+ghost use Rattle.sudoers_edit.specs.internal.Elsewhere.{is_elsewhere};
 ghost use Rattle.sudoers_edit.specs.internal.Leading.{Plans};
 ghost use Rattle.sudoers_edit.specs.internal.Undone.{MakesWithBack};
 
@@ -35,10 +36,13 @@ pub fn make(policy: &mut OneFile, edit: &Edit) -> Result<Back, EditFault>
 fn planned(policy: &OneFile, edit: &Edit) -> Result<Plan, EditFault>
     ensures { Plans edit.now (texts policy.now) result }
 {
+    if names_another_file(edit) {
+        return Err(EditFault::NoFile);
+    }
     match edit {
-        Edit::Insert { file: 0, at, text } => line_inserted(policy, *at, text.as_slice()),
-        Edit::Delete { file: 0, at } => line_deleted(policy, *at),
-        Edit::Move { file: 0, from, to } => line_moved(policy, *from, *to),
+        Edit::Insert { at, text, .. } => line_inserted(policy, *at, text.as_slice()),
+        Edit::Delete { at, .. } => line_deleted(policy, *at),
+        Edit::Move { from, to, .. } => line_moved(policy, *from, *to),
         Edit::AddMember {
             kind,
             name,
@@ -46,13 +50,34 @@ fn planned(policy: &OneFile, edit: &Edit) -> Result<Plan, EditFault>
             splice,
         } => member_added(policy, *kind, name.as_slice(), *at, splice.as_slice()),
         Edit::DropMember { kind, name, at } => member_dropped(policy, *kind, name.as_slice(), *at),
-        Edit::AddDef { file: 0, line, at, splice } => def_added(policy, *line, *at, splice.as_slice()),
-        Edit::DropDef { file: 0, line, at } => def_dropped(policy, *line, *at),
+        Edit::AddDef {
+            line, at, splice, ..
+        } => def_added(policy, *line, *at, splice.as_slice()),
+        Edit::DropDef { line, at, .. } => def_dropped(policy, *line, *at),
         Edit::Rename { kind, name, fresh } => {
             alias_renamed(policy, *kind, name.as_slice(), fresh.as_slice())
         }
-        Edit::EndLine => end_closed(policy),
-        Edit::OpenEnd => end_opened(policy),
+        Edit::EndLine { .. } => end_closed(policy),
+        Edit::OpenEnd { .. } => end_opened(policy),
         Edit::Prune => pruned(policy),
+    }
+}
+
+/// Returns whether an edit names lines of another file than the only one, which has the number 0.
+fn names_another_file(edit: &Edit) -> bool
+    ensures { result ≡ is_elsewhere edit.now }
+{
+    match edit {
+        Edit::Insert { file, .. }
+        | Edit::Delete { file, .. }
+        | Edit::Move { file, .. }
+        | Edit::AddDef { file, .. }
+        | Edit::DropDef { file, .. }
+        | Edit::EndLine { file }
+        | Edit::OpenEnd { file } => *file != 0,
+        Edit::AddMember { .. }
+        | Edit::DropMember { .. }
+        | Edit::Rename { .. }
+        | Edit::Prune => false,
     }
 }

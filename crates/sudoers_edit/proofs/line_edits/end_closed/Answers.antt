@@ -43,7 +43,7 @@ refusal-requires c =
     let open_ : is_one_line (line ++ 10 ∷ []) ≡ false = ap is_one_line (sym new) ∙ sym c.in_ok-is_one_line.ensures.is ∙ c.if-not-branch.true in
     let whole : c.as_slice-then-not-branch.result.now ≡ join ls ++ 10 ∷ [] =
     c.as_slice-then-not-branch.ensures.value ∙ c.in_ok-push-2.ensures.items ∙ ap (λ (t : List ℕ). t ++ 10 ∷ []) c.in_ok-whole.ensures in
-    unread (EndLine 0) (OpenEnd ∷ []) ls (length ls - 1) (line ++ 10 ∷ []) c.as_slice-then-not-branch.result.now leads (last_within ls line here) open_ (whole ∙ text_ended ls line here)
+    unread (EndLine 0) (OpenEnd 0 ∷ []) ls (length ls - 1) (line ++ 10 ∷ []) c.as_slice-then-not-branch.result.now leads (last_within ls line here) open_ (whole ∙ text_ended ls line here)
 
 pub returns-then-not-branch : goal.returns-then-not-branch
 returns-then-not-branch c =
@@ -53,7 +53,7 @@ returns-then-not-branch c =
     let leads = end_leads c.stays_cut.ensures ls line c.is_sound.ensures here (sym c.ends_in_lf.ensures ∙ c.if-ends_in_lf.false) c.if-last-ge-LINE_LIMIT.false in
     let whole : c.as_slice-then-not-branch.result.now ≡ join ls ++ 10 ∷ [] =
     c.as_slice-then-not-branch.ensures.value ∙ c.in_ok-push-2.ensures.items ∙ ap (λ (t : List ℕ). t ++ 10 ∷ []) c.in_ok-whole.ensures in
-    unread_refused (EndLine 0) (OpenEnd ∷ []) ls (replaced (length ls - 1) (line ++ 10 ∷ []) ls) c.as_slice-then-not-branch.result.now c.refusal.result leads
+    unread_refused (EndLine 0) (OpenEnd 0 ∷ []) ls (replaced (length ls - 1) (line ++ 10 ∷ []) ls) c.as_slice-then-not-branch.result.now c.refusal.result leads
     (whole ∙ text_ended ls line here) c.refusal.ensures
 
 pub returns : goal.returns

@@ -39,7 +39,7 @@ refusal-requires c =
     c.as_slice-then-not-branch.ensures.value ∙ c.pop.ensures.rest ∙ ap (λ n. take (n - 1) c.in_ok-whole.whole.items) c.in_ok-whole.whole.ok.0
     ∙ ap (λ (t : List ℕ). take (length t - 1) t) c.in_ok-whole.ensures
     ∙ text_opened ls line here (sym c.ends_in_lf.ensures ∙ c.if-not-ends_in_lf.false) c.if-last-lt2.false in
-    unread (OpenEnd 0) (EndLine ∷ []) ls (length ls - 1) new c.as_slice-then-not-branch.result.now leads (last_within ls line here) open_ whole
+    unread (OpenEnd 0) (EndLine 0 ∷ []) ls (length ls - 1) new c.as_slice-then-not-branch.result.now leads (last_within ls line here) open_ whole
 
 pub returns-then-not-branch : goal.returns-then-not-branch
 returns-then-not-branch c =
@@ -51,7 +51,7 @@ returns-then-not-branch c =
     c.as_slice-then-not-branch.ensures.value ∙ c.pop.ensures.rest ∙ ap (λ n. take (n - 1) c.in_ok-whole.whole.items) c.in_ok-whole.whole.ok.0
     ∙ ap (λ (t : List ℕ). take (length t - 1) t) c.in_ok-whole.ensures
     ∙ text_opened ls line here (sym c.ends_in_lf.ensures ∙ c.if-not-ends_in_lf.false) c.if-last-lt2.false in
-    unread_refused (OpenEnd 0) (EndLine ∷ []) ls (replaced (length ls - 1) (take (length line - 1) line) ls) c.as_slice-then-not-branch.result.now c.refusal.result leads
+    unread_refused (OpenEnd 0) (EndLine 0 ∷ []) ls (replaced (length ls - 1) (take (length line - 1) line) ls) c.as_slice-then-not-branch.result.now c.refusal.result leads
     whole c.refusal.ensures
 
 pub returns : goal.returns
