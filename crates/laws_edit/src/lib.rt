@@ -1,7 +1,6 @@
-//! What the policy of an editor answers, whatever edits it took, and why a prune and a rename are refused.
+//! What the policy of an editor answers, whatever edits it took.
 #![tactic(auto)]
 
 mod answers;
-pub mod laws;
 
 pub use answers::answer_of;

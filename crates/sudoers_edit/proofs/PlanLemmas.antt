@@ -111,7 +111,7 @@ stays_is [] at t within is = absurd (omega (arith, within))
 stays_is (l ∷ ls) zero t within is = ap (λ (z : List ℕ). z ∷ ls) is
 stays_is (l ∷ ls) (suc at) t within is = ap (λ (z : Lines). l ∷ z) (stays_is ls at t (omega (arith, within)) is)
 
-whole_at : (ls : Lines) (at : ℕ) → AllByRecursion IsLogicalLine ls → at < length ls → IsLogicalLine (slice_index_or ls at [])
+pub whole_at : (ls : Lines) (at : ℕ) → AllByRecursion IsLogicalLine ls → at < length ls → IsLogicalLine (slice_index_or ls at [])
 whole_at [] at all within = absurd (omega (arith, within))
 whole_at (l ∷ ls) zero all within = all.0
 whole_at (l ∷ ls) (suc at) all within = whole_at ls at all.1 (omega (arith, within))

@@ -26,6 +26,7 @@ use Rattle.sudoers_edit.specs.internal.Leading.{LeadsTo, IsKnown}
 use Rattle.sudoers_edit.proofs.EditLemmas.{ReadsLaw, insert_leads, delete_leads, move_leads}
 use Rattle.sudoers_edit.proofs.LastLemmas.{no_end, end_as_is, end_too_long, open_short, open_lacks, end_leads, open_leads}
 use Rattle.sudoers_edit.proofs.PolicyLemmas.{StandAloneLaw, CutLaw, sound_of, alone_of, read_so}
+use Rattle.sudoers_edit.proofs.RenamedPolicy.{RenameLaws}
 use Rattle.sudoers_edit.proofs.ReplaceLemmas.{AloneLaw}
 use Rattle.sudoers_edit.proofs.ReplacedLemmas.{SaidLaw}
 use Rattle.sudoers_edit.proofs.WithinLemmas.{AscendLaw, known_ascend}
@@ -41,6 +42,7 @@ pub record Laws : Type 0 where
   pub size : (line : List ℕ) → IsAlone line → (0 < length line) × (length line ≤ line_limit)
   pub stays : StaysCut
   pub policy : (policy : List Line) → read_of (join (texts policy)) ≡ Ok policy → IsPolicy policy
+  pub renames : RenameLaws
 
 pub known : Laws → (policy : List Line) → read_of (join (texts policy)) ≡ Ok policy → IsKnown policy
 known l policy read = record {

@@ -4,7 +4,8 @@ use Rattle.std.proofs.lemmas.Bool.{lt-ltb, le-ltb, and_parts}
 use Rattle.std.specs.List.{list_all, list_any, AllByRecursion}
 use Rattle.std.specs.Prelude.{option_to_list}
 use Rattle.sudoers_text.specs.Cut.{StandAlone}
-use Rattle.sudoers_text.specs.Ended.{ends_in_lf, has_unended_inside}
+use Rattle.sudoers_text.specs.Ended.{has_unended_inside}
+use Rattle.sudoers_text.specs.Renamed.{IsDefinableName}
 use Rattle.sudoers_text.specs.Fault.{line_limit}
 use Rattle.sudoers_text.specs.Whole.{is_logical_line, IsLogicalLine}
 use Rattle.sudoers_line.specs.declared.node.Kind.{Kind}
@@ -13,15 +14,19 @@ use Rattle.sudoers_tree.specs.Policy.{texts}
 use Rattle.sudoers_tree.specs.Changed.{changed, changed_from, place_of, next_place, text_brought, AreInOrder, brought}
 use Rattle.sudoers_tree.specs.declared.line_change.LineChange.{LineChange}
 use Rattle.sudoers_tree.specs.declared.line_change.LineChange.TheVariants.{Put, Swap, Take}
-use Rattle.sudoers_edit.specs.declared.fault.EditFault.TheVariants.{TooLarge, OpenLine}
-use Rattle.sudoers_edit.specs.Landing.{is_too_long, lines_or_refusal}
+use Rattle.sudoers_edit_script.specs.declared.edit.Edit.TheVariants.{Rename}
+use Rattle.sudoers_edit.specs.Landing.{is_too_long}
 use Rattle.sudoers_edit.specs.Editing.{Lines}
 use Rattle.sudoers_edit.specs.OneLine.{IsAlone, IsSound}
-use Rattle.sudoers_edit.specs.Renaming.{put_at, starts_in, renamed, no_way_back}
-use Rattle.sudoers_edit.specs.internal.Leading.{Fits}
-use Rattle.sudoers_edit.specs.internal.Swaps.{swap_at, swaps_from, is_open, if_short}
+use Rattle.sudoers_edit.specs.Renaming.{put_at, starts_in, renamed}
+use Rattle.sudoers_edit.specs.Renamed.{alias_of, renamed_lines}
+use Rattle.sudoers_edit.specs.internal.Leading.{Leads, LeadsTo}
+use Rattle.sudoers_edit.specs.internal.Swaps.{swap_at, swaps_from}
 use Rattle.sudoers_edit.proofs.PlanLemmas.{NoneLaw, FirstLaw}
 use Rattle.sudoers_edit.proofs.PolicyLemmas.{count_texts}
+use Rattle.sudoers_edit.proofs.RenamedPolicy.{RenameLaws, name_definable}
+use Rattle.sudoers_edit.proofs.RenamedTexts.{renamed_texts}
+use Rattle.sudoers_edit.proofs.RenameOutcome.{Fresh, logical_renamed, rename_leads}
 
 -- WHAT THEY BRING
 
@@ -57,39 +62,6 @@ all_whole law [] all = tt
 all_whole law (line ∷ lines) all =
     let parts = and_parts (is_logical_line line) (list_all is_logical_line lines) all in
     (law line parts.0, all_whole law lines parts.1)
-
-or_left : (a b : Bool) → (a || b) ≡ false → a ≡ false
-or_left true b h = absurd (cc)
-or_left false b h = refl
-
-or_right : (a b : Bool) → (a || b) ≡ false → b ≡ false
-or_right true b h = absurd (cc)
-or_right false b h = h
-
--- a new line lacks LF before another just where a change brings such a line
-pub open_brought : (last n : ℕ) (k : Kind) (name fresh : List ℕ) (policy : List Line) → last ≡ n + length policy - 1 → has_unended_inside (texts policy) ≡ false
-    → list_any (is_open last) (swaps_from n k name fresh policy) ≡ has_unended_inside (renamed k name fresh policy)
-open_brought last n k name fresh [] count ended = refl
-open_brought last n k name fresh (line ∷ []) count ended = by (starts_in k name line.node)
-  where
-    by : (starts : List ℕ) → list_any (is_open last) (swap_at n (length name) fresh starts line.text ++ []) ≡ false
-    by [] = refl
-    by (start ∷ starts) = rw (le-ltb n last (omega (arith, count))) refl
-open_brought last n k name fresh (line ∷ next ∷ policy) count ended =
-    by (open_brought last (n + 1) k name fresh (next ∷ policy) (omega (arith, count)) (or_right (not (ends_in_lf line.text)) (has_unended_inside (texts (next ∷ policy))) ended))
-    (starts_in k name line.node)
-  where
-    behind : Bool
-    behind = has_unended_inside (renamed k name fresh (next ∷ policy))
-
-    by : list_any (is_open last) (swaps_from (n + 1) k name fresh (next ∷ policy)) ≡ behind
-        → (starts : List ℕ) → list_any (is_open last) (swap_at n (length name) fresh starts line.text ++ swaps_from (n + 1) k name fresh (next ∷ policy))
-        ≡ (not (ends_in_lf (put_at 0 (length name) fresh starts line.text)) || behind)
-    by rest [] = rest ∙ ap (λ b. b || behind) (sym (or_left (not (ends_in_lf line.text)) (has_unended_inside (texts (next ∷ policy))) ended))
-    by rest (start ∷ starts) =
-        let text : List ℕ = put_at 0 (length name) fresh (start ∷ starts) line.text in
-        ap (λ b. (b && not (ends_in_lf text)) || list_any (is_open last) (swaps_from (n + 1) k name fresh (next ∷ policy))) (lt-ltb n last (omega (arith, count)))
-        ∙ ap (λ b. not (ends_in_lf text) || b) rest
 
 -- WHAT THEY MAKE
 
@@ -151,20 +123,7 @@ swaps_make none first n k name fresh (line ∷ policy) = by (swaps_make none fir
         ∙ ap (λ i. text ∷ changed_from (n + 1) changes (drop i (texts (line ∷ policy)))) b
         ∙ ap (λ (z : Lines). text ∷ z) rest
 
--- WHAT IS TOLD
-
-pub too_long : (lines : Lines) → list_any is_too_long lines ≡ true → if_short lines ≡ Err TooLarge
-too_long lines long = rw long refl
-
-pub not_whole : (lines : Lines) → list_any is_too_long lines ≡ false → list_all is_logical_line lines ≡ false → if_short lines ≡ Err no_way_back
-not_whole lines short broken = rw (short, broken) refl
-
-pub stays_open : (lines : Lines) → list_any is_too_long lines ≡ false → list_all is_logical_line lines ≡ true → has_unended_inside lines ≡ true
-    → if_short lines ≡ Err OpenLine
-stays_open lines short whole unended = rw (short, whole, unended) refl
-
-pub by_lines : (lines : Lines) → list_any is_too_long lines ≡ false → list_all is_logical_line lines ≡ true → if_short lines ≡ lines_or_refusal lines
-by_lines lines short whole = rw (short, whole) refl
+-- ALL OF THEM
 
 -- The changes are those of the lines in which the name stands, and the lines before are those of a policy.
 pub record AreSwaps (changes : List LineChange) (k : Kind) (name fresh : List ℕ) (policy : List Line) : Type 0 where
@@ -182,21 +141,29 @@ pub whole_same : ((line : List ℕ) → IsAlone line → is_logical_line line �
 whole_same whole changes k name fresh policy s =
     ap (λ cs. list_all is_logical_line (brought cs)) s.are ∙ all_brought is_logical_line whole 0 k name fresh policy s.sound.each
 
-pub open_same : (last : ℕ) (changes : List LineChange) (k : Kind) (name fresh : List ℕ) (policy : List Line) → last ≡ length policy - 1
-    → AreSwaps changes k name fresh policy → list_any (is_open last) changes ≡ has_unended_inside (renamed k name fresh policy)
-open_same last changes k name fresh policy count s =
-    ap (list_any (is_open last)) s.are ∙ open_brought last 0 k name fresh policy (omega (arith, count)) s.sound.ended
-
 pub made_same : NoneLaw → FirstLaw → (changes : List LineChange) (k : Kind) (name fresh : List ℕ) (policy : List Line) → AreSwaps changes k name fresh policy
     → changed changes (texts policy) ≡ renamed k name fresh policy
 made_same none first changes k name fresh policy s = ap (λ cs. changed cs (texts policy)) s.are ∙ swaps_make none first 0 k name fresh policy
 
--- they can be made
-pub swaps_fit : NoneLaw → FirstLaw → ((line : List ℕ) → is_logical_line line ≡ true → IsLogicalLine line)
-    → (changes : List LineChange) (k : Kind) (name fresh : List ℕ) (policy : List Line) → AreSwaps changes k name fresh policy
-    → list_all is_logical_line (brought changes) ≡ true → has_unended_inside (renamed k name fresh policy) ≡ false → Fits changes (texts policy)
-swaps_fit none first law changes k name fresh policy s whole ended = record {
-  order = subst (λ cs. AreInOrder 0 cs (length (texts policy))) (sym s.are) (order_from 0 0 (length (texts policy)) k name fresh policy (omega arith) (omega (arith, count_texts policy)));
-  whole = all_whole law (brought changes) whole;
-  ended = ap has_unended_inside (made_same none first changes k name fresh policy s) ∙ ended;
-}
+-- they can be made, and lead to the lines with the new name
+pub swaps_lead : RenameLaws → NoneLaw → FirstLaw → (changes : List LineChange) (k : Kind) (name fresh : List ℕ) (policy : List Line) → AreSwaps changes k name fresh policy
+    → Fresh k name fresh policy → list_any is_too_long (renamed k name fresh policy) ≡ false
+    → Leads (Rename k name fresh) (Rename k fresh name ∷ []) (texts policy) changes
+swaps_lead l none first changes k name fresh policy s f short =
+    let old : IsDefinableName name = name_definable k name policy f.whole f.some in
+    let new : Lines = texts (renamed_lines k name fresh policy) in
+    let are : renamed k name fresh policy ≡ new = renamed_texts l.ascend k name fresh policy f.whole.walk.says in
+    let made : changed changes (texts policy) ≡ new = made_same none first changes k name fresh policy s ∙ are in
+    let leads : LeadsTo (Rename k name fresh) (Rename k fresh name ∷ []) (texts policy) new =
+    rename_leads l k name fresh policy f (ap (list_any is_too_long) (sym are) ∙ short) in
+    let whole : list_all is_logical_line (renamed k name fresh policy) ≡ true =
+    ap (list_all is_logical_line) are ∙ logical_renamed l (alias_of k name) fresh old f.new policy f.whole.each f.whole.walk.says in
+    record {
+      fits =
+          record {
+            order = subst (λ cs. AreInOrder 0 cs (length (texts policy))) (sym s.are) (order_from 0 0 (length (texts policy)) k name fresh policy (omega arith) (omega (arith, count_texts policy)));
+            whole = all_whole l.tells (brought changes) (whole_same l.logical changes k name fresh policy s ∙ whole);
+            ended = ap has_unended_inside made ∙ leads.ended;
+          };
+      to = subst (LeadsTo (Rename k name fresh) (Rename k fresh name ∷ []) (texts policy)) (sym made) leads;
+    }

@@ -31,7 +31,7 @@ pub said_logical : (text : List ℕ) (n : Node) → said text ≡ Some n → is_
 unfolding said
 said_logical text n h = logical (is_logical_line text) (result_ok (outcome_of text)) n h
 
-said_at : (lines : List Line) (n : ℕ) (line : Line) → AllSaid lines → slice_get lines n ≡ Some line → said line.text ≡ Some line.node
+pub said_at : (lines : List Line) (n : ℕ) (line : Line) → AllSaid lines → slice_get lines n ≡ Some line → said line.text ≡ Some line.node
 said_at [] n line all here = absurd (cc)
 said_at (l ∷ lines) zero line all here = let e : l ≡ line = cc in subst (λ (x : Line). said x.text ≡ Some x.node) e all.0
 said_at (l ∷ lines) (suc n) line all here = said_at lines n line all.1 here

@@ -5,6 +5,7 @@ pub mod Landing
 pub mod LineEdits
 pub mod SpliceEdits
 pub mod Renaming
+pub mod Renamed
 pub mod Pruning
 pub mod Memory
 pub mod Editing

@@ -1,25 +1,20 @@
 -- An alias given another name, where it is defined and where it is mentioned.
-use Rattle.std.specs.Prelude.{ℕ, ◌+◌, ◌-◌, Bool, false, not, ◌&&◌, ◌||◌, nat_lt, if◌then◌else◌, List, [], ◌∷◌, ◌++◌, length, take, drop, map, Result, Ok, Err}
-use Rattle.std.specs.List.{flat_map, list_all, list_any}
+use Rattle.std.specs.Prelude.{ℕ, ◌+◌, ◌-◌, Bool, not, ◌&&◌, ◌||◌, nat_lt, if◌then◌else◌, List, [], ◌∷◌, ◌++◌, length, take, drop, map, Result}
+use Rattle.std.specs.List.{flat_map, list_any}
 use Rattle.std.specs.Str.{bytes_eq}
-use Rattle.sudoers_text.specs.Whole.{is_logical_line}
 use Rattle.sudoers_text.specs.Word.{is_name, is_reserved}
-use Rattle.sudoers_line.specs.declared.fault.Why.TheVariants.{UnexpectedToken}
 use Rattle.sudoers_line.specs.Node.{Def, Member, Node}
 use Rattle.sudoers_line.specs.declared.node.Kind.{Kind}
 use Rattle.sudoers_line.specs.Node as node
 use Rattle.sudoers_line.specs.Listed.{AliasMember}
-use Rattle.sudoers_tree.specs.declared.fault.ReadFault.TheVariants.{Syntax}
 use Rattle.sudoers_tree.specs.Line.{Line}
 use Rattle.sudoers_tree.specs.declared.place.Span.{Span}
 use Rattle.sudoers_tree.specs.Definition.{is_kind, place_of}
 use Rattle.sudoers_tree.specs.Fault.{is_some}
 use Rattle.sudoers_tree.specs.Mention.{members_in, mentions, span_of}
-use Rattle.sudoers_tree.specs.Policy.{texts}
-use Rattle.sudoers_edit.specs.Alike.{are_alike}
-use Rattle.sudoers_edit.specs.Landing.{refuse_if, is_too_long, lines_or_refusal, policy_of}
+use Rattle.sudoers_edit.specs.Landing.{refuse_if, is_too_long, lines_or_refusal}
 use Rattle.sudoers_edit.specs.declared.fault.EditFault.{EditFault}
-use Rattle.sudoers_edit.specs.declared.fault.EditFault.TheVariants.{NoAlias, BadName, NameTaken, TooLarge, NotPolicy}
+use Rattle.sudoers_edit.specs.declared.fault.EditFault.TheVariants.{NoAlias, BadName, NameTaken, TooLarge}
 
 -- WHERE THE NAME STANDS
 
@@ -62,34 +57,14 @@ renamed_line k name fresh line = put_at 0 (length name) fresh (starts_in k name 
 abbrev pub renamed : Kind → List ℕ → List ℕ → List Line → List (List ℕ)
 renamed k name fresh policy = map (renamed_line k name fresh) policy
 
--- the error of a rename that a rename back would not undo
-abbrev pub no_way_back : EditFault
-no_way_back = NotPolicy (Syntax 1 1 UnexpectedToken)
-
--- the renamed lines, if each is one logical line and together they are a policy
-abbrev pub if_lines : List (List ℕ) → Result (List (List ℕ)) EditFault
-if_lines lines = if list_all is_logical_line lines then lines_or_refusal lines else Err no_way_back
-
 abbrev pub is_taken : Kind → List ℕ → List Line → Bool
 is_taken k fresh policy = is_some (place_of k fresh policy) || nat_lt 0 (length (mentions k fresh policy))
 
 -- the lines with another name for an alias, if they can be a policy's
-unfoldable pub rename_once : Kind → List ℕ → List ℕ → List Line → Result (List (List ℕ)) EditFault
-rename_once k name fresh policy =
+unfoldable pub rename : Kind → List ℕ → List ℕ → List Line → Result (List (List ℕ)) EditFault
+rename k name fresh policy =
     refuse_if (not (is_some (place_of k name policy))) NoAlias (
     refuse_if (not (is_name fresh) || is_reserved fresh) BadName (
     refuse_if (is_taken k fresh policy) NameTaken (
     refuse_if (list_any is_too_long (renamed k name fresh policy)) TooLarge (
-    if_lines (renamed k name fresh policy)))))
-
-abbrev pub is_lines : List (List ℕ) → Result (List (List ℕ)) EditFault → Bool
-is_lines lines (Ok others) = are_alike bytes_eq others lines
-is_lines lines (Err fault) = false
-
--- the renamed lines, if the old name given back leads to the lines before
-abbrev pub if_restored : Kind → List ℕ → List ℕ → List (List ℕ) → Result (List (List ℕ)) EditFault → Result (List (List ℕ)) EditFault
-if_restored k name fresh lines (Ok new) = if is_lines lines (rename_once k fresh name (policy_of new)) then Ok new else Err no_way_back
-if_restored k name fresh lines (Err fault) = Err fault
-
-unfoldable pub rename : Kind → List ℕ → List ℕ → List Line → Result (List (List ℕ)) EditFault
-rename k name fresh policy = if_restored k name fresh (texts policy) (rename_once k name fresh policy)
+    lines_or_refusal (renamed k name fresh policy)))))

@@ -5,3 +5,5 @@ pub mod Moving
 pub mod PruneOrder
 pub mod ReadFaults
 pub mod Swaps
+pub mod Undone
+pub mod Drafts

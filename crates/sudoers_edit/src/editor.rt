@@ -4,12 +4,13 @@ ghost use Rattle.std.specs.List.{flat_map};
 ghost use Rattle.sudoers_tree.specs.Policy.{texts};
 
 use crate::fault::EditFault;
-use crate::making::{make, make_all};
+use crate::making::make;
+use crate::way_back::{Back, take_back};
 use std::alloc::{AllocError, Global};
 use std::marker::Model;
 use sudoers_edit_script::{Edit, Edits};
-use sudoers_tree::OneFile;
 use sudoers_tree::laws::read_is;
+use sudoers_tree::{Items, LineChange, OneFile};
 
 /// An accepted edit, with the edits that take it back.
 #[derive(Debug, Drop)]
@@ -18,25 +19,50 @@ pub struct Entry {
     pub inverse: Edits,
 }
 
+/// An edit of the journal, with the changes that take it back at once, if it is more than one edit that takes it back.
+#[derive(Drop)]
+struct Step {
+    entry: Entry,
+    changes: Option<Items<LineChange>>,
+}
+
 /// A policy, the accepted edits that stand, the oldest first, and those that were undone, the last undone at the end. The
 /// policy that it began with is kept nowhere: the journal leads back to it.
 #[derive(Drop)]
 pub struct Editor {
     policy: OneFile,
-    journal: Vec<Entry>,
+    journal: Vec<Step>,
     undone: Vec<Edit>,
+}
+
+impl Step {
+    /// Returns the step of an edit, with what takes it back.
+    fn of(edit: Edit, back: Back) -> Step
+        ensures entry { result.entry ≡ record { edit = edit; inverse = back.inverse } }
+        ensures changes { result.changes ≡ back.changes }
+    {
+        Step {
+            entry: Entry {
+                edit,
+                inverse: back.inverse,
+            },
+            changes: back.changes,
+        }
+    }
 }
 
 impl Model for Editor {
     ghost use Rattle.std.specs.Prelude.{reverse};
     ghost use Rattle.sudoers_tree.specs.Policy.{texts};
     ghost use Rattle.sudoers_edit.specs.Editing.{Desk, IsUndoable, IsRedoable};
+    ghost use Rattle.sudoers_edit.specs.internal.Undone.{AreBacks, entries_of};
 
     ghost Value = { Desk };
 
-    ghost view = { λ editor. record { lines = texts editor.policy; journal = editor.journal.items; undone = reverse editor.undone.items } };
+    ghost view = { λ editor. record { lines = texts editor.policy; journal = entries_of editor.journal.items; undone = reverse editor.undone.items } };
 
-    ghost invariant = { λ editor. IsUndoable (reverse editor.journal.items) (texts editor.policy)
+    ghost invariant = { λ editor. IsUndoable (reverse (entries_of editor.journal.items)) (texts editor.policy)
+        × AreBacks (reverse editor.journal.items) (texts editor.policy)
         × IsRedoable (reverse editor.undone.items) (texts editor.policy) };
 }
 
@@ -110,13 +136,8 @@ impl Editor {
         read_is();
         let copy = edit.copied(self.policy.allocator())?;
         self.journal.reserve(1)?;
-        let inverse = make(&mut self.policy, edit)?;
-        self.journal
-            .push(Entry {
-                edit: copy,
-                inverse,
-            })
-            .unwrap();
+        let back = make(&mut self.policy, edit)?;
+        self.journal.push(Step::of(copy, back)).unwrap();
         self.undone.clear();
         Ok(())
     }
@@ -141,9 +162,9 @@ impl Editor {
             return Ok(false);
         };
         self.undone.reserve(1)?;
-        make_all(&mut self.policy, last.inverse.as_slice())?;
-        let entry = self.journal.pop().unwrap();
-        self.undone.push(entry.edit).unwrap();
+        take_back(&mut self.policy, &last.entry.inverse, &last.changes)?;
+        let step = self.journal.pop().unwrap();
+        self.undone.push(step.entry.edit).unwrap();
         Ok(true)
     }
 
@@ -169,9 +190,9 @@ impl Editor {
             return Ok(false);
         };
         self.journal.reserve(1)?;
-        let inverse = make(&mut self.policy, undone)?;
+        let back = make(&mut self.policy, undone)?;
         let edit = self.undone.pop().unwrap();
-        self.journal.push(Entry { edit, inverse }).unwrap();
+        self.journal.push(Step::of(edit, back)).unwrap();
         Ok(true)
     }
 
@@ -223,13 +244,13 @@ impl Editor {
 }
 
 /// The inverses of the entries, the last entry's first.
-fn inverses_of(alloc: Global, journal: &[Entry]) -> Result<Edits, AllocError>
-    ensures { IfOk result (λ edits. edits ≡ flat_map (λ entry. entry.inverse) (reverse journal.now)) }
+fn inverses_of(alloc: Global, journal: &[Step]) -> Result<Edits, AllocError>
+    ensures { IfOk result (λ edits. edits ≡ flat_map (λ step. step.entry.inverse) (reverse journal.now)) }
 {
     let mut edits = Edits::new(alloc);
     let mut left = journal;
-    while let Some((entry, before)) = left.split_last() {
-        append_copies(alloc, &mut edits, entry.inverse.as_slice())?;
+    while let Some((step, before)) = left.split_last() {
+        append_copies(alloc, &mut edits, step.entry.inverse.as_slice())?;
         left = before;
     }
     Ok(edits)

@@ -10,10 +10,12 @@ mod making;
 mod name_places;
 mod one_more;
 mod plan;
+mod prune_plan;
 mod pruning;
 mod renaming;
 mod splice;
 mod splice_edits;
+mod way_back;
 
 pub use editor::{Editor, Entry};
 pub use fault::EditFault;

@@ -66,16 +66,13 @@ impl Plan {
     }
 }
 
-/// Makes the changes of a plan, if there is one, and returns the edits that take them back.
-pub fn carry_out(plan: Result<Plan, EditFault>, policy: &mut OneFile) -> Result<Edits, EditFault>
-    requires { IfOk plan (λ plan. Fits plan.changes.items (texts policy.old)) }
-    ensures made { (edit : AnEdit) → Plans edit (texts policy.old) plan → Makes edit (texts policy.old) (texts policy.new) result }
+/// Makes the changes of a plan, and returns the edits that take them back.
+pub fn carry_out(plan: Plan, policy: &mut OneFile) -> Result<Edits, EditFault>
+    requires { Fits plan.changes.items (texts policy.old) }
+    ensures made { (edit : AnEdit) → Leads edit plan.inverse (texts policy.old) plan.changes.items
+        → (Makes edit (texts policy.old) (texts policy.new) result) × (OnOk result (texts policy.new ≡ changed plan.changes.items (texts policy.old))) }
     ensures unchanged { OnErr result (policy.new ≡ policy.old) }
 {
-    let plan = match plan {
-        Ok(plan) => plan,
-        Err(fault) => return Err(fault),
-    };
     match policy.changed(plan.changes.as_slice()) {
         Ok(()) => Ok(plan.inverse),
         Err(fault) => Err(EditFault::from(fault)),

@@ -1,23 +1,18 @@
-//! Prune.
-ghost use Rattle.std.specs.Prelude.{◌≡◌, ◌≤◌, ◌<◌, ◌^◌, ◌++◌, length, ℕ, IfOk, OnOk, OnErr};
+//! What a prune takes out.
+ghost use Rattle.std.specs.Prelude.{◌≡◌, ◌≤◌, ◌<◌, ◌^◌, ◌++◌, length, ℕ, IfOk, OnOk};
 ghost use Rattle.std.specs.List.{All};
 ghost use Rattle.sudoers_line.specs.declared.node.Kind.{Kind as AKind};
 ghost use Rattle.sudoers_text.specs.Fault.{text_limit};
 ghost use Rattle.sudoers_line_rows.specs.View.{node_shown};
 ghost use Rattle.sudoers_tree.specs.declared.place.Place.{Place as APlace};
 ghost use Rattle.sudoers_tree.specs.Definition.{Definition, definitions, definitions_in};
-ghost use Rattle.sudoers_tree.specs.Policy.{texts, alias_limit};
-ghost use Rattle.sudoers_edit.specs.internal.Leading.{Makes};
-ghost use Rattle.sudoers_edit.specs.Pruning.{edit_of, removals as the_removals};
+ghost use Rattle.sudoers_tree.specs.Policy.{alias_limit};
+ghost use Rattle.sudoers_edit.specs.Pruning.{removals as the_removals};
 ghost use Rattle.sudoers_edit.specs.internal.PruneOrder.{front_count, removals_at};
 
-use crate::fault::EditFault;
-use crate::line_edits::line_deleted;
-use crate::plan::{carry_out, is_sound};
-use crate::splice_edits::def_dropped;
+use crate::plan::is_sound;
 use std::alloc::{AllocError, Global};
 use sudoers_check::find_unused;
-use sudoers_edit_script::{Edit, Edits};
 use sudoers_text::laws::line_alone_size;
 use sudoers_tree::{Kind, Node, OneFile, Place};
 
@@ -28,46 +23,6 @@ pub enum Removal {
     Line { at: u32 },
     /// A definition of a line.
     Def { line: u32, at: u32 },
-}
-
-/// Takes out all definitions of aliases that are unused, one after another, each from what the one before left. Returns the edits
-/// that put them in again.
-pub fn pruned(policy: &mut OneFile) -> Result<Edits, EditFault>
-    ensures made { Makes Edit.Prune (texts policy.old) (texts policy.new) result }
-    ensures unchanged { OnErr result (policy.new ≡ policy.old) }
-{
-    policy.is_policy();
-    let alloc = policy.allocator();
-    let removals = removals(alloc, policy)?;
-    if removals.is_empty() {
-        return Ok(Edits::new(alloc));
-    }
-    let mut back = Vec::new(alloc);
-    let mut after = policy.copied()?;
-    for removal in removals.as_slice() {
-        let inverse = removed(&mut after, *removal)?;
-        append_edits(&mut back, inverse)?;
-    }
-    back.reverse();
-    *policy = after;
-    Ok(Edits::from_vec(back))
-}
-
-/// Takes one of them out.
-fn removed(policy: &mut OneFile, removal: Removal) -> Result<Edits, EditFault>
-    ensures { Makes (edit_of removal) (texts policy.old) (texts policy.new) result }
-{
-    match removal {
-        Removal::Line { at } => carry_out(line_deleted(policy, at), policy),
-        Removal::Def { line, at } => carry_out(def_dropped(policy, line, at), policy),
-    }
-}
-
-fn append_edits(to: &mut Vec<Edit>, edits: Edits) -> Result<(), AllocError>
-    ensures { OnOk result (to.new.items ≡ to.old.items ++ edits) }
-{
-    let mut items = edits.into_vec();
-    to.append(&mut items)
 }
 
 /// Returns what Prune takes out of a policy, in its order.
@@ -146,7 +101,7 @@ fn append_removals(
 }
 
 /// A law: how many lines a policy has, and which definition of its line each is, fit the numbers of edits.
-fn places_fit(policy: &OneFile)
+pub fn places_fit(policy: &OneFile)
     ensures lines { length policy.now ≤ text_limit }
     ensures defs { All (λ (d : Definition). d.place.def < alias_limit) (definitions policy.now) }
 {

@@ -1,49 +1,65 @@
 //! An alias given another name, where it is defined and where it is mentioned.
-ghost use Rattle.std.specs.Prelude.{◌≡◌, ◌∷◌, ◌++◌, [], take, drop, Ok, IfOk, OnOk, OnErr, MatchResult};
-ghost use Rattle.std.specs.List.{list_all, list_any};
-ghost use Rattle.std.specs.Str.{bytes_eq};
-ghost use Rattle.sudoers_text.specs.Whole.{is_logical_line as is_whole};
-ghost use Rattle.sudoers_tree.specs.Changed.{changed, brought};
-ghost use Rattle.sudoers_tree.specs.Line.{line_shown, lines_shown};
+ghost use Rattle.std.specs.Prelude.{◌≡◌, ◌∷◌, ◌++◌, [], List, ℕ, take, drop, true, false, Ok, IfOk, OnOk};
+ghost use Rattle.std.specs.List.{list_any};
+ghost use Rattle.sudoers_text.specs.Line.{join};
+ghost use Rattle.sudoers_text.specs.Renamed.{IsDefinableName};
+ghost use Rattle.sudoers_line.specs.declared.node.Kind.{Kind as KindOf};
+ghost use Rattle.sudoers_tree.specs.Changed.{brought};
+ghost use Rattle.sudoers_tree.specs.Definition.{place_of};
+ghost use Rattle.sudoers_tree.specs.Fault.{is_some};
+ghost use Rattle.sudoers_tree.specs.Line.{line_shown};
 ghost use Rattle.sudoers_tree.specs.Policy.{texts};
-ghost use Rattle.sudoers_edit.specs.Alike.{are_alike as alike_lists};
-ghost use Rattle.sudoers_edit.specs.Editing.{Refuses};
-ghost use Rattle.sudoers_edit.specs.Landing.{is_too_long, lines_or_refusal};
-ghost use Rattle.sudoers_edit.specs.internal.Leading.{Fits, Makes};
-ghost use Rattle.sudoers_edit.specs.internal.Swaps.{swap_of, swaps_from, is_open, if_short};
-ghost use Rattle.sudoers_edit.specs.Renaming.{put_at, renamed, no_way_back as the_fault, is_lines, is_taken as taken, rename_once};
+ghost use Rattle.sudoers_tree.specs.Reading.{read_of};
+ghost use Rattle.sudoers_tree.specs.declared.line_change.LineChange.{LineChange as LineChangeOf};
+ghost use Rattle.sudoers_edit.specs.Landing.{is_too_long};
+ghost use Rattle.sudoers_edit.specs.OneLine.{IsSound};
+ghost use Rattle.sudoers_edit.specs.internal.Leading.{Leads, Plans};
+ghost use Rattle.sudoers_edit.specs.internal.Swaps.{swap_of, swaps_from};
+ghost use Rattle.sudoers_edit.specs.Renaming.{put_at, renamed, is_taken as taken};
 
 use crate::fault::EditFault;
 use crate::name_places::name_starts;
-use crate::plan::is_sound;
+use crate::plan::{Plan, is_sound};
 use std::alloc::{AllocError, Global};
 use sudoers_edit_script::{Edit, Edits, Text};
-use sudoers_text::laws::{line_alone_is_whole, line_alone_size, whole_line_is};
-use sudoers_text::{LINE_LIMIT, ends_in_lf, is_logical_line, is_name, is_reserved};
-use sudoers_tree::laws::changed_by_first;
-use sudoers_tree::{Kind, Line, LineChange, LineRow, OneFile, ReadFault, Rows, Why};
+use sudoers_line::laws::{definitions_ascend, names_stand, renamed_line};
+use sudoers_line_reader::laws::outcome_is;
+use sudoers_text::laws::{
+    cut_is, line_alone_is_whole, line_alone_size, lines_of_join, lines_stand_alone, whole_line_is,
+};
+use sudoers_text::{LINE_LIMIT, is_name, is_reserved};
+use sudoers_tree::laws::{changed_by_first, one_outcome, policy_is_cut, read_is};
+use sudoers_tree::{Kind, Line, LineChange, OneFile};
 
-/// Gives an alias another name. Returns the edit that gives the old name back.
+/// Plans another name for an alias.
 pub fn alias_renamed(
-    policy: &mut OneFile,
+    policy: &OneFile,
     kind: Kind,
     name: &[u8],
     fresh: &[u8],
-) -> Result<Edits, EditFault>
-    ensures made { Makes (Edit.Rename kind name.now fresh.now) (texts policy.old) (texts policy.new) result }
-    ensures unchanged { OnErr result (policy.new ≡ policy.old) }
+) -> Result<Plan, EditFault>
+    ensures { Plans (Edit.Rename kind name.now fresh.now) (texts policy.now) result }
 {
-    policy.is_policy();
-    let inverse = rename_back(policy.allocator(), kind, name, fresh)?;
-    let new = renamed_once(policy, kind, name, fresh)?;
-    new.is_policy();
-    if !is_restored(policy, &new, kind, name, fresh)? {
-        return Err(no_way_back());
+    renames_lead(policy);
+    line_alone_size();
+    if policy.definition(kind, name).is_none() {
+        return Err(EditFault::NoAlias);
     }
-    *policy = new;
-    Ok(inverse)
+    if !is_name(fresh) || is_reserved(fresh) {
+        return Err(EditFault::BadName);
+    }
+    if is_taken(policy, kind, fresh)? {
+        return Err(EditFault::NameTaken);
+    }
+    let changes = swaps(policy, kind, name, fresh)?;
+    if is_one_too_long(changes.as_slice()) {
+        return Err(EditFault::TooLarge);
+    }
+    let inverse = rename_back(policy.allocator(), kind, name, fresh)?;
+    Ok(Plan { changes, inverse })
 }
 
+/// Returns the edit that gives the old name back.
 fn rename_back(alloc: Global, kind: Kind, name: &[u8], fresh: &[u8]) -> Result<Edits, AllocError>
     ensures { IfOk result (λ edits. edits ≡ Edit.Rename kind fresh.now name.now ∷ []) }
 {
@@ -55,54 +71,32 @@ fn rename_back(alloc: Global, kind: Kind, name: &[u8], fresh: &[u8]) -> Result<E
     Edits::one(alloc, back)
 }
 
-/// Returns the error of a rename that a rename back would not undo.
-fn no_way_back() -> EditFault
-    ensures { result ≡ the_fault }
+/// A law: a rename of a defined alias to a free name, all of whose lines are within the limit, leads to the lines with that name. One
+/// rename leads back.
+fn renames_lead(policy: &OneFile)
+    ensures read { read_of (join (texts policy.now)) ≡ Ok policy.now }
+    ensures sound { IsSound (texts policy.now) }
+    ensures leads { (kind : KindOf) (name fresh : List ℕ) (changes : List LineChangeOf) → is_some (place_of kind name policy.now) ≡ true
+        → IsDefinableName fresh → taken kind fresh policy.now ≡ false → list_any is_too_long (renamed kind name fresh policy.now) ≡ false
+        → changes ≡ swaps_from 0 kind name fresh policy.now
+        → Leads (Edit.Rename kind name fresh) (Edit.Rename kind fresh name ∷ []) (texts policy.now) changes }
 {
-    EditFault::NotPolicy(ReadFault::Syntax {
-        line: 1,
-        col: 1,
-        why: Why::UnexpectedToken,
-    })
-}
-
-/// Returns whether the old name, given back, leads to the lines before.
-fn is_restored(
-    policy: &OneFile,
-    new: &OneFile,
-    kind: Kind,
-    name: &[u8],
-    fresh: &[u8],
-) -> Result<bool, AllocError>
-    ensures { IfOk result (λ is. is ≡ is_lines (texts policy.now) (rename_once kind fresh.now name.now new.now)) }
-{
-    match renamed_once(new, kind, fresh, name) {
-        Ok(old) => Ok(are_same_lines(&old.lines(), &policy.lines())),
-        Err(EditFault::NoMemory) => Err(AllocError),
-        Err(_) => Ok(false),
-    }
-}
-
-/// Returns the policy with another name for an alias, whether or not a way leads back.
-fn renamed_once(
-    policy: &OneFile,
-    kind: Kind,
-    name: &[u8],
-    fresh: &[u8],
-) -> Result<OneFile, EditFault>
-    ensures { MatchResult result (λ new. rename_once kind name.now fresh.now policy.now ≡ Ok (texts new))
-        (λ fault. Refuses fault (rename_once kind name.now fresh.now policy.now)) }
-{
-    if policy.definition(kind, name).is_none() {
-        return Err(EditFault::NoAlias);
-    }
-    if !is_name(fresh) || is_reserved(fresh) {
-        return Err(EditFault::BadName);
-    }
-    if is_taken(policy, kind, fresh)? {
-        return Err(EditFault::NameTaken);
-    }
-    with_other_name(policy, kind, name, fresh)
+    is_sound(policy);
+    policy.is_policy();
+    changed_by_first();
+    cut_is();
+    lines_of_join();
+    lines_stand_alone();
+    line_alone_size();
+    line_alone_is_whole();
+    whole_line_is();
+    outcome_is();
+    definitions_ascend();
+    names_stand();
+    renamed_line();
+    read_is();
+    one_outcome();
+    policy_is_cut();
 }
 
 /// Returns whether the name is defined or mentioned in the kind.
@@ -113,46 +107,6 @@ fn is_taken(policy: &OneFile, kind: Kind, fresh: &[u8]) -> Result<bool, AllocErr
         return Ok(true);
     }
     Ok(!policy.mentions(kind, fresh)?.is_empty())
-}
-
-/// Returns a copy of the policy in which an alias has another name, whether or not that name is free.
-fn with_other_name(
-    policy: &OneFile,
-    kind: Kind,
-    name: &[u8],
-    fresh: &[u8],
-) -> Result<OneFile, EditFault>
-    ensures { MatchResult result (λ new. if_short (renamed kind name.now fresh.now policy.now) ≡ Ok (texts new))
-        (λ fault. Refuses fault (if_short (renamed kind name.now fresh.now policy.now))) }
-{
-    is_sound(policy);
-    line_alone_size();
-    line_alone_is_whole();
-    whole_line_is();
-    changed_by_first();
-    let swaps = swaps(policy, kind, name, fresh)?;
-    let changes = swaps.as_slice();
-    if is_one_too_long(changes) {
-        return Err(EditFault::TooLarge);
-    }
-    if !are_logical_lines(changes) {
-        return Err(no_way_back());
-    }
-    if is_one_open(changes, policy.len().saturating_sub(1)) {
-        return Err(EditFault::OpenLine);
-    }
-    changed_copy(policy, changes)
-}
-
-/// Returns a copy of the policy with changes.
-fn changed_copy(policy: &OneFile, changes: &[LineChange]) -> Result<OneFile, EditFault>
-    requires { Fits changes.now (texts policy.now) }
-    ensures { MatchResult result (λ new. lines_or_refusal (changed changes.now (texts policy.now)) ≡ Ok (texts new))
-        (λ fault. Refuses fault (lines_or_refusal (changed changes.now (texts policy.now)))) }
-{
-    let mut new = policy.copied()?;
-    new.changed(changes)?;
-    Ok(new)
 }
 
 /// Returns the changes of the lines in which the name stands, in their order. Each puts another name in its place.
@@ -247,52 +201,4 @@ fn is_one_too_long(changes: &[LineChange]) -> bool
         }
     }
     false
-}
-
-/// Returns whether each line that the changes bring is one logical line.
-fn are_logical_lines(changes: &[LineChange]) -> bool
-    ensures { result ≡ list_all is_whole (brought changes.now) }
-{
-    for change in changes {
-        if let LineChange::Put { text, .. } | LineChange::Swap { text, .. } = change
-            && !is_logical_line(text.as_slice())
-        {
-            return false;
-        }
-    }
-    true
-}
-
-/// Returns whether a change brings a line without LF before the line `last`.
-fn is_one_open(changes: &[LineChange], last: usize) -> bool
-    ensures { result ≡ list_any (is_open last) changes.now }
-{
-    for change in changes {
-        if let LineChange::Swap { at, text, .. } = change
-            && *at < last
-            && !ends_in_lf(text.as_slice())
-        {
-            return true;
-        }
-    }
-    false
-}
-
-/// Returns whether the lines of one list have the texts of the other's.
-fn are_same_lines(lines: &Rows<'_, LineRow>, others: &Rows<'_, LineRow>) -> bool
-    ensures { result ≡ alike_lists bytes_eq (texts (lines_shown lines.now)) (texts (lines_shown others.now)) }
-{
-    let mut rest = lines.rows;
-    let mut left = others.rows;
-    while let Some((row, behind)) = rest.split_first() {
-        let Some((other, after)) = left.split_first() else {
-            return false;
-        };
-        if lines.tables.text(row.text) != others.tables.text(other.text) {
-            return false;
-        }
-        rest = behind;
-        left = after;
-    }
-    left.is_empty()
 }

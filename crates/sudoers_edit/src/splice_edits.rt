@@ -8,7 +8,7 @@ ghost use Rattle.sudoers_edit.specs.Landing.{changed_or_refusal};
 ghost use Rattle.sudoers_tree.specs.Changed.{replaced};
 ghost use Rattle.sudoers_edit.specs.internal.Leading.{Plans, Replaces, PutIn, CutOut, IsKnown, IsDefAt};
 ghost use Rattle.sudoers_edit.specs.SpliceEdits.{Lines, put_in as with_more, cut_out as with_less, with_defs, with_def, defs_of};
-ghost use Rattle.sudoers_line_rows.specs.View.{def_shown, defs_shown};
+ghost use Rattle.sudoers_line_rows.specs.View.{def_shown, defs_shown, node_shown};
 ghost use Rattle.sudoers_tree.specs.Line.{Line as LineOf, line_shown};
 ghost use Rattle.sudoers_line.specs.Node.{Def as DefOf};
 ghost use Rattle.sudoers_tree.specs.declared.place.Place.{Place as PlaceOf};
@@ -63,7 +63,15 @@ pub fn def_dropped(policy: &OneFile, line: u32, at: u32) -> Result<Plan, EditFau
         Ok(bytes) => bytes,
         Err(fault) => return Err(fault),
     };
-    let text = match cut_out(alloc, Among::Definitions, at as usize, from, to, &old) {
+    let text = match cut_out(
+        alloc,
+        Among::Definitions,
+        at as usize,
+        from,
+        to,
+        old.text,
+        &old.node,
+    ) {
         Ok(text) => text,
         Err(fault) => return Err(fault),
     };
@@ -117,7 +125,7 @@ pub fn member_dropped(policy: &OneFile, kind: Kind, name: &[u8], at: u32) -> Res
         Err(fault) => return Err(fault),
     };
     let among = Among::Members { def: place.def };
-    let text = match cut_out(alloc, among, at as usize, from, to, &old) {
+    let text = match cut_out(alloc, among, at as usize, from, to, old.text, &old.node) {
         Ok(text) => text,
         Err(fault) => return Err(fault),
     };
@@ -229,27 +237,28 @@ fn put_in(
     Ok(text)
 }
 
-/// Returns a line without one that stands at a place and has these bytes.
-fn cut_out(
+/// Returns a line, which says this, without one that stands at a place and has these bytes.
+pub fn cut_out(
     alloc: Global,
     among: Among,
     at: usize,
     from: usize,
     to: usize,
-    old: &Line<'_>,
+    old: &[u8],
+    says: &Node<'_>,
 ) -> Result<Vec<u8>, EditFault>
-    requires { (from ≤ to) × (to ≤ length (line_shown old.now).text) }
-    ensures cut { IfOk result (λ text. CutOut among at from to (line_shown old.now) text.items) }
+    requires { (from ≤ to) × (to ≤ length old.now) }
+    ensures cut { IfOk result (λ text. CutOut among at from to (record { text = old.now; node = node_shown says.now }) text.items) }
     ensures outcome { (n : ℕ) (policy : List LineOf) → MatchResult result
-        (λ text. with_less among at from to n (line_shown old.now) policy ≡ changed_or_refusal n text.items (texts policy))
-        (λ fault. Refuses fault (with_less among at from to n (line_shown old.now) policy)) }
+        (λ text. with_less among at from to n (record { text = old.now; node = node_shown says.now }) policy ≡ changed_or_refusal n text.items (texts policy))
+        (λ fault. Refuses fault (with_less among at from to n (record { text = old.now; node = node_shown says.now }) policy)) }
 {
-    let text = line_without(alloc, old.text, from, to)?;
+    let text = line_without(alloc, old, from, to)?;
     let Some(new) = read_line(alloc, text.as_slice())? else {
         return Err(EditFault::BadSplice);
     };
     let one = OneMore { at, from, to };
-    if !one.is_more(among, &old.node, &new.node()) {
+    if !one.is_more(among, says, &new.node()) {
         return Err(EditFault::BadSplice);
     }
     Ok(text)

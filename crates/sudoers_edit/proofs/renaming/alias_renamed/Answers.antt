@@ -1,23 +1,86 @@
-use Rattle.std.proofs.Common.{◌∙◌, Err, inr, ap, sym, subst}
-use Rattle.std.proofs.lemmas.Result.{err_from_is_err_and}
+use Rattle.std.proofs.Common.{◌≡◌, ◌∙◌, Bool, true, false, not, ◌||◌, Option, Some, None, List, ℕ, [], ◌∷◌, inr, ap, sym, refl, subst}
+use Rattle.std.specs.List.{list_any}
+use Rattle.std.specs.Option.{is_some as is_there}
+use Rattle.sudoers_text.specs.Word.{is_name, is_reserved}
+use Rattle.sudoers_tree.specs.declared.place.Place.{Place}
+use Rattle.sudoers_tree.specs.Definition.{place_of}
+use Rattle.sudoers_tree.specs.Fault.{is_some}
 use Rattle.sudoers_tree.specs.Policy.{texts}
+use Rattle.sudoers_edit_script.specs.declared.edit.Edit.{Edit}
 use Rattle.sudoers_edit_script.specs.declared.edit.Edit.TheVariants.{Rename}
-use Rattle.sudoers_edit.specs.internal.Leading.{IsMade}
-use Rattle.sudoers_edit.proofs.RenameLemmas.{rename_refused, not_restored, rename_made}
+use Rattle.sudoers_edit.specs.Landing.{is_too_long}
+use Rattle.sudoers_edit.specs.Renaming.{renamed}
+use Rattle.sudoers_edit.specs.internal.Leading.{Leads}
+use Rattle.sudoers_edit.proofs.RenameLemmas.{no_alias, bad_name, name_taken, too_long, rename_step}
+use Rattle.sudoers_edit.proofs.RenameSteps.{definable}
+use Rattle.sudoers_edit.proofs.SwapLemmas.{long_same}
 use Rattle.sudoers_edit.proofs.renaming.alias_renamed.Goals as goal
+use Rattle.sudoers_edit.proofs.renaming.alias_renamed.Goals.{then-not-is_name-via-then-not-is_name, then-not-is_name-via-else-not-is_name+then-is_reserved}
 
-pub returns-in_err-new-clause-made : goal.returns-in_err-new-clause-made
-returns-in_err-new-clause-made c =
-    let p = err_from_is_err_and c.from_residual-in_err-new.result c.from_residual-in_err-new.ensures.1 in
-    rw (p.1, p.2) (rename_refused c.args.kind c.args.name.now c.args.fresh.now c.args.policy.now c.in_err-new.field-0.0 c.is_policy.ensures.read c.in_err-new.ensures)
+there : (o : Option Place) → is_some o ≡ is_there o
+there None = refl
+there (Some p) = refl
 
-pub returns-then-not-branch-clause-made : goal.returns-then-not-branch-clause-made
-returns-then-not-branch-clause-made c =
-    inr (not_restored c.args.kind c.args.name.now c.args.fresh.now c.args.policy.now c.in_ok-new.new c.is_policy.ensures.read c.is_policy-2.ensures.read
-    c.in_ok-new.ensures (sym c.in_ok-is_restored.ensures ∙ c.if-not-branch.true) ∙ ap Err (sym c.no_way_back.ensures))
+defined : (o p : Option Place) (b : Bool) → o ≡ p → is_there o ≡ b → is_some p ≡ b
+defined o p b same is = ap is_some (sym same) ∙ there o ∙ is
 
-pub returns-clause-made : goal.returns-clause-made
-returns-clause-made c =
-    let made = rename_made c.args.kind c.args.name.now c.args.fresh.now c.args.policy.now c.in_ok-new.new c.is_policy.ensures.read c.is_policy-2.ensures.read
-    c.in_ok-new.ensures (sym c.in_ok-is_restored.ensures ∙ c.if-not-branch.false) in
-    subst (λ i. IsMade (Rename c.args.kind c.args.name.now c.args.fresh.now) i (texts c.args.policy.now) (texts c.in_ok-new.new)) (sym c.in_ok-inverse.ensures) made
+no_name : (a b : Bool) → a ≡ false → (not a || b) ≡ true
+no_name a b is = rw is refl
+
+reserved : (a b : Bool) → a ≡ true → b ≡ true → (not a || b) ≡ true
+reserved a b is too = rw (is, too) refl
+
+free : (a b : Bool) → a ≡ true → b ≡ false → (not a || b) ≡ false
+free a b is not_so = rw (is, not_so) refl
+
+pub returns-then-is_none : goal.returns-then-is_none
+returns-then-is_none c =
+    inr (rename_step c.args.kind c.args.name.now c.args.fresh.now c.args.policy.now c.renames_lead.ensures.read
+    ∙ no_alias c.args.kind c.args.name.now c.args.fresh.now c.args.policy.now
+    (defined c.definition.result (place_of c.args.kind c.args.name.now c.args.policy.now) false c.definition.ensures c.if-is_none.ensures))
+
+pub returns-then-not-is_name : goal.returns-then-not-is_name
+returns-then-not-is_name c =
+    let some = defined c.definition.result (place_of c.args.kind c.args.name.now c.args.policy.now) true c.definition.ensures c.if-is_none.ensures in
+    let fresh : List ℕ = c.args.fresh.now in
+    inr (rename_step c.args.kind c.args.name.now fresh c.args.policy.now c.renames_lead.ensures.read
+    ∙ bad_name c.args.kind c.args.name.now fresh c.args.policy.now some (elim c.then-not-is_name.branch [
+      | then-not-is_name-via-then-not-is_name w ↦ no_name (is_name fresh) (is_reserved fresh) (sym c.is_name.ensures ∙ w.if-not-is_name.true)
+      | then-not-is_name-via-else-not-is_name+then-is_reserved w ↦
+          reserved (is_name fresh) (is_reserved fresh) (sym c.is_name.ensures ∙ w.if-not-is_name.false) (sym w.is_reserved.ensures ∙ w.if-is_reserved.true)
+    ]))
+
+pub returns-then-branch : goal.returns-then-branch
+returns-then-branch c =
+    let some = defined c.definition.result (place_of c.args.kind c.args.name.now c.args.policy.now) true c.definition.ensures c.if-is_none.ensures in
+    let fresh : List ℕ = c.args.fresh.now in
+    let good = free (is_name fresh) (is_reserved fresh) (sym c.is_name.ensures ∙ c.if-not-is_name.false) (sym c.is_reserved.ensures ∙ c.if-is_reserved.false) in
+    inr (rename_step c.args.kind c.args.name.now fresh c.args.policy.now c.renames_lead.ensures.read
+    ∙ name_taken c.args.kind c.args.name.now fresh c.args.policy.now some good (sym c.in_ok-is_taken.ensures ∙ c.if-branch.true))
+
+pub returns-then-is_one_too_long : goal.returns-then-is_one_too_long
+returns-then-is_one_too_long c =
+    let some = defined c.definition.result (place_of c.args.kind c.args.name.now c.args.policy.now) true c.definition.ensures c.if-is_none.ensures in
+    let name : List ℕ = c.args.name.now in
+    let fresh : List ℕ = c.args.fresh.now in
+    let good = free (is_name fresh) (is_reserved fresh) (sym c.is_name.ensures ∙ c.if-not-is_name.false) (sym c.is_reserved.ensures ∙ c.if-is_reserved.false) in
+    let long : list_any is_too_long (renamed c.args.kind name fresh c.args.policy.now) ≡ true =
+    sym (long_same c.line_alone_size.ensures c.as_slice.result.now c.args.kind name fresh c.args.policy.now
+    (record { are = c.as_slice.ensures.value ∙ c.in_ok-changes.ensures; sound = c.renames_lead.ensures.sound }))
+    ∙ sym c.is_one_too_long.ensures ∙ c.if-is_one_too_long.true in
+    inr (rename_step c.args.kind name fresh c.args.policy.now c.renames_lead.ensures.read
+    ∙ too_long c.args.kind name fresh c.args.policy.now some good (sym c.in_ok-is_taken.ensures ∙ c.if-branch.false) long)
+
+pub returns : goal.returns
+returns c =
+    let some = defined c.definition.result (place_of c.args.kind c.args.name.now c.args.policy.now) true c.definition.ensures c.if-is_none.ensures in
+    let name : List ℕ = c.args.name.now in
+    let fresh : List ℕ = c.args.fresh.now in
+    let good = free (is_name fresh) (is_reserved fresh) (sym c.is_name.ensures ∙ c.if-not-is_name.false) (sym c.is_reserved.ensures ∙ c.if-is_reserved.false) in
+    let short : list_any is_too_long (renamed c.args.kind name fresh c.args.policy.now) ≡ false =
+    sym (long_same c.line_alone_size.ensures c.as_slice.result.now c.args.kind name fresh c.args.policy.now
+    (record { are = c.as_slice.ensures.value ∙ c.in_ok-changes.ensures; sound = c.renames_lead.ensures.sound }))
+    ∙ sym c.is_one_too_long.ensures ∙ c.if-is_one_too_long.false in
+    subst (λ (inverse : List Edit). Leads (Rename c.args.kind name fresh) inverse (texts c.args.policy.now) c.in_ok-changes.changes.items) (sym c.in_ok-inverse.ensures)
+    (c.renames_lead.ensures.leads c.args.kind name fresh c.in_ok-changes.changes.items some (definable (is_name fresh) (is_reserved fresh) good)
+    (sym c.in_ok-is_taken.ensures ∙ c.if-branch.false) short c.in_ok-changes.ensures)
