@@ -67,6 +67,15 @@ within_order n [] count order = order
 within_order n (change ∷ changes) count order =
     omega (arith, order.0, next_place_after change, within_order (next_place change) changes count order.1)
 
+-- The place of each change of some lines is at most the end of the lines.
+pub place_within : (n : ℕ) (changes : List LineChange) (count : ℕ) → AreInOrder n changes count → (k : ℕ) (d : LineChange) → k < length changes
+    → place_of (slice_index_or changes k d) ≤ count
+place_within n [] count order k d inside = absurd (omega (arith, inside))
+place_within n (change ∷ changes) count order zero d inside =
+    omega (arith, next_place_after change, within_order (next_place change) changes count order.1)
+place_within n (change ∷ changes) count order (suc k) d inside =
+    place_within (next_place change) changes count order.1 k d (omega (arith, inside))
+
 -- THE WAY BACK
 
 -- The changes `back`, counted from m on, take back the changes of the lines, which are counted from n on.

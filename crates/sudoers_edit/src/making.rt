@@ -11,7 +11,7 @@ use crate::plan::{Plan, carry_out};
 use crate::prune_plan::pruned;
 use crate::renaming::alias_renamed;
 use crate::splice_edits::{def_added, def_dropped, member_added, member_dropped};
-use crate::way_back::{Back, changes_back};
+use crate::way_back::{Back, changes_back, changes_lead_back};
 use sudoers_edit_script::Edit;
 use sudoers_tree::OneFile;
 
@@ -20,6 +20,7 @@ pub fn make(policy: &mut OneFile, edit: &Edit) -> Result<Back, EditFault>
     ensures made { MakesWithBack edit.now (texts policy.old) (texts policy.new) result }
     ensures unchanged { OnErr result (policy.new ≡ policy.old) }
 {
+    changes_lead_back(policy);
     let plan = match planned(policy, edit) {
         Ok(plan) => plan,
         Err(fault) => return Err(fault),

@@ -1,15 +1,18 @@
 //! What takes an edit back: edits, or the changes that do the same at once.
-ghost use Rattle.std.specs.Prelude.{◌≡◌, ◌<◌, ◌+◌, ◌^◌, [], length, slice_index_or, Some, IfOk, IfErr, OnOk, OnErr};
-ghost use Rattle.sudoers_tree.specs.Changed.{AreInOrder, place_of};
+ghost use Rattle.std.specs.Prelude.{◌≡◌, ◌<◌, ◌+◌, ◌^◌, List, [], length, slice_index_or, Some, IfOk, IfErr, OnOk, OnErr};
+ghost use Rattle.sudoers_tree.specs.Changed.{AreInOrder, changed, place_of};
+ghost use Rattle.sudoers_tree.specs.declared.line_change.LineChange.{LineChange as LineChangeOf};
 ghost use Rattle.sudoers_tree.specs.Policy.{texts};
 ghost use Rattle.sudoers_edit.specs.Editing.{Lines, run};
-ghost use Rattle.sudoers_edit.specs.internal.Undone.{undone, one_undone, LeadsBack};
+ghost use Rattle.sudoers_edit.specs.internal.Undone.{undone, one_undone, ChangesBack, LeadsBack};
 
 use crate::fault::EditFault;
 use crate::making::make;
+use crate::plan::is_sound;
 use crate::pruning::places_fit;
 use std::alloc::AllocError;
 use sudoers_edit_script::{Edits, Text};
+use sudoers_tree::laws::{changed_by_first, lines_are_whole};
 use sudoers_tree::{Items, LineChange, OneFile};
 
 /// What takes an edit back: its inverse edits, and the changes that do the same at once, if they are more than one edit.
@@ -40,6 +43,16 @@ pub fn changes_back(
         }
     }
     Ok(Items::from_vec(back))
+}
+
+/// A law: what takes changes back leads to the lines before them.
+pub fn changes_lead_back(policy: &OneFile)
+    ensures { (changes : List LineChangeOf) (new : Lines) → AreInOrder 0 changes (length policy.now) → new ≡ changed changes (texts policy.now)
+        → ChangesBack (undone (texts policy.now) changes) new (texts policy.now) }
+{
+    is_sound(policy);
+    lines_are_whole(policy);
+    changed_by_first();
 }
 
 /// Returns the change that takes `change` back, where `put` lines were put in and `taken` lines taken out before.

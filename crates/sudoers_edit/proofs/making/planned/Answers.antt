@@ -48,12 +48,12 @@ returns-in-DropDef c =
 
 pub returns-in-EndLine : goal.returns-in-EndLine
 returns-in-EndLine c =
-    same_made EndLine c.args.edit.now (texts c.args.policy.now) c.end_closed.result (c.in-EndLine.is)
+    same_planned EndLine c.args.edit.now (texts c.args.policy.now) c.end_closed.result (c.in-EndLine.is)
     c.end_closed.ensures
 
 pub returns-in-OpenEnd : goal.returns-in-OpenEnd
 returns-in-OpenEnd c =
-    same_made OpenEnd c.args.edit.now (texts c.args.policy.now) c.end_opened.result (c.in-OpenEnd.is)
+    same_planned OpenEnd c.args.edit.now (texts c.args.policy.now) c.end_opened.result (c.in-OpenEnd.is)
     c.end_opened.ensures
 
 pub returns-in-Rename : goal.returns-in-Rename
