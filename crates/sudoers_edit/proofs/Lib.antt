@@ -62,3 +62,4 @@ mod WithoutLine
 mod DropDef
 mod DropLaw
 mod PruneSplice
+mod ElsewhereLemmas
