@@ -2,11 +2,10 @@
 -- such fault.
 use Rattle.std.proofs.Common.{inl, inr, ℕ, ◌+◌, Bool, true, false, not, ◌&&◌, ◌||◌, List, [], ◌∷◌, length, insert, remove, Option, Some, None, Result, Ok, Err, IfErr, sym, subst, ◌==◌, if◌then◌else◌}
 use Rattle.std.specs.Prelude.{slice_get, nat_lt, nat_le}
-use Rattle.std.specs.List.{list_all, list_any}
+use Rattle.std.specs.List.{list_any}
 use Rattle.sudoers_text.specs.Line.{join}
 use Rattle.sudoers_text.specs.Ended.{has_unended_inside}
 use Rattle.sudoers_text.specs.Fault.{text_limit}
-use Rattle.sudoers_text.specs.Whole.{is_logical_line}
 use Rattle.sudoers_text.specs.Word.{is_name, is_reserved}
 use Rattle.sudoers_text.specs.declared.fault.TextFault.TheVariants as text
 use Rattle.sudoers_line.specs.Node.{Def}
@@ -34,7 +33,7 @@ use Rattle.sudoers_edit.specs.Landing.{refuse_if, or_refuse, by_read, policy_or_
 use Rattle.sudoers_edit.specs.LineEdits.{with_line, without_line, moved, with_move, with_last, with_end, without_lf, is_last_too_long, ended_or_refusal}
 use Rattle.sudoers_edit.specs.Splice.{Extent, member_extents, def_extents, seam, owned_stop, line_without, line_with}
 use Rattle.sudoers_edit.specs.SpliceEdits.{place_to_add, place_to_drop, if_spliced, is_one_more, put_in, cut_out, defs_of, with_defs, add_def, drop_def, with_def, add_member, drop_member}
-use Rattle.sudoers_edit.specs.Renaming.{renamed, no_way_back, if_lines, is_taken, rename_once, is_lines, if_restored, rename}
+use Rattle.sudoers_edit.specs.Renaming.{renamed, is_taken, rename}
 use Rattle.sudoers_edit.specs.Pruning.{removals}
 use Rattle.sudoers_edit.specs.Memory.{IsOfText, TellsMemoryAlone}
 use Rattle.sudoers_edit.specs.Editing.{Lines, removed, and_then, removed_all, step, Refuses}
@@ -194,31 +193,17 @@ drop_member_plain law k name at policy =
 
 -- NAMES
 
-renamed_plain : OutcomeLaw → (lines : Lines) → IsPlain (if_lines lines)
-renamed_plain law lines = if_plain (list_all is_logical_line lines) (lines_or_refusal lines) (Err no_way_back) (lines_plain law lines) tt
-
-rename_once_plain : OutcomeLaw → (k : Kind) (name fresh : List ℕ) (policy : List Line) → IsPlain (rename_once k name fresh policy)
-unfolding rename_once
-rename_once_plain law k name fresh policy =
+rename_plain : OutcomeLaw → (k : Kind) (name fresh : List ℕ) (policy : List Line) → IsPlain (rename k name fresh policy)
+unfolding rename
+rename_plain law k name fresh policy =
     let lines : Lines = renamed k name fresh policy in
-    let last : Result Lines EditFault = if_lines lines in
-    let long : Result Lines EditFault = refuse_if (list_any is_too_long lines) TooLarge last in
+    let long : Result Lines EditFault = refuse_if (list_any is_too_long lines) TooLarge (lines_or_refusal lines) in
     let taken : Result Lines EditFault = refuse_if (is_taken k fresh policy) NameTaken long in
     let bad : Result Lines EditFault = refuse_if (not (is_name fresh) || is_reserved fresh) BadName taken in
     if_plain (not (is_some (place_of k name policy))) (Err NoAlias) bad tt
     (if_plain (not (is_name fresh) || is_reserved fresh) (Err BadName) taken tt
     (if_plain (is_taken k fresh policy) (Err NameTaken) long tt
-    (if_plain (list_any is_too_long lines) (Err TooLarge) last tt
-    (renamed_plain law lines))))
-
-restored_plain : (k : Kind) (name fresh : List ℕ) (lines : Lines) (r : Result Lines EditFault) → IsPlain r → IsPlain (if_restored k name fresh lines r)
-restored_plain k name fresh lines (Ok new) p = if_plain (is_lines lines (rename_once k fresh name (policy_of new))) (Ok new) (Err no_way_back) tt tt
-restored_plain k name fresh lines (Err fault) p = p
-
-rename_plain : OutcomeLaw → (k : Kind) (name fresh : List ℕ) (policy : List Line) → IsPlain (rename k name fresh policy)
-unfolding rename
-rename_plain law k name fresh policy =
-    restored_plain k name fresh (texts policy) (rename_once k name fresh policy) (rename_once_plain law k name fresh policy)
+    (if_plain (list_any is_too_long lines) (Err TooLarge) (lines_or_refusal lines) tt (lines_plain law lines))))
 
 -- PRUNE
 
