@@ -4,6 +4,7 @@ mod BackLemmas
 mod DefLemmas
 mod EditLemmas
 mod HistoryLemmas
+mod JournalLemmas
 mod InverseLemmas
 mod LastLemmas
 mod MemberLemmas

@@ -2,20 +2,20 @@ use Rattle.std.proofs.Common.{◌≡◌, ◌∙◌, ◌++◌, ◌∷◌, [], Lis
 use Rattle.std.specs.List.{flat_map}
 use Rattle.std.proofs.lemmas.List.{reverse-append}
 use Rattle.sudoers_edit_script.specs.declared.edit.Edit.{Edit}
-use Rattle.sudoers_edit.specs.declared.editor.Entry.{Entry}
+use Rattle.sudoers_edit.specs.declared.editor.Step.{Step}
 use Rattle.sudoers_edit.proofs.editor.inverses_of.Goals as goal
 
--- the inverse of the last entry, and those of the entries before it
-last_first : (edits more : List Edit) (before left : List Entry) (e : Entry) → left ≡ before ++ e ∷ [] → more ≡ edits ++ e.inverse
-    → more ++ flat_map (λ (x : Entry). x.inverse) (reverse before) ≡ edits ++ flat_map (λ (x : Entry). x.inverse) (reverse left)
-last_first edits more before left e last is =
-    let rest : List Edit = flat_map (λ (x : Entry). x.inverse) (reverse before) in
+-- the inverse of the last step, and those of the steps before it
+last_first : (edits more : List Edit) (before left : List Step) (last : Step) → left ≡ before ++ last ∷ [] → more ≡ edits ++ last.entry.inverse
+    → more ++ flat_map (λ (one : Step). one.entry.inverse) (reverse before) ≡ edits ++ flat_map (λ (one : Step). one.entry.inverse) (reverse left)
+last_first edits more before left last ends is =
+    let rest : List Edit = flat_map (λ (one : Step). one.entry.inverse) (reverse before) in
     ap (λ z. z ++ rest) is
-    ∙ append_assoc edits e.inverse rest
-    ∙ ap (λ es. edits ++ flat_map (λ (x : Entry). x.inverse) es) (sym (ap reverse last ∙ reverse-append before (e ∷ [])))
+    ∙ append_assoc edits last.entry.inverse rest
+    ∙ ap (λ es. edits ++ flat_map (λ (one : Step). one.entry.inverse) es) (sym (ap reverse ends ∙ reverse-append before (last ∷ [])))
 
-pub loop-entry-preserved : goal.loop-entry-preserved
-loop-entry-preserved c =
-    last_first c.loop-entry.edits c.append_copies.new.to c.in-Some.before.now c.loop-entry.left.now c.in-Some.entry.now c.in-Some.ensures.cases.0
-    (c.in_ok-append_copies.ensures ∙ ap (λ z. c.loop-entry.edits ++ z) c.as_slice.ensures)
-    ∙ c.loop-entry.invariant
+pub loop-step-preserved : goal.loop-step-preserved
+loop-step-preserved c =
+    last_first c.loop-step.edits c.append_copies.new.to c.in-Some.before.now c.loop-step.left.now c.in-Some.step.now c.in-Some.ensures.cases.0
+    (c.in_ok-append_copies.ensures ∙ ap (λ z. c.loop-step.edits ++ z) c.as_slice.ensures)
+    ∙ c.loop-step.invariant

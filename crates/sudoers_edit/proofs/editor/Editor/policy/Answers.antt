@@ -1,12 +1,13 @@
 use Rattle.std.proofs.Common.{◌≡◌, ◌∙◌, Some, reverse, ap, sym, subst}
 use Rattle.sudoers_tree.specs.Policy.{texts}
 use Rattle.sudoers_edit.specs.Editing.{Desk, run, first_of, edits_of}
+use Rattle.sudoers_edit.specs.internal.Undone.{entries_of}
 use Rattle.sudoers_edit.proofs.HistoryLemmas.{leads_here, run_accepted}
 use Rattle.sudoers_edit.proofs.editor.Editor.policy.Goals as goal
 
 pub returns-clause-forth : goal.returns-clause-forth
 returns-clause-forth c =
-    let desk : Desk = record { lines = texts c.self.inside.policy; journal = c.self.inside.journal.items; undone = reverse c.self.inside.undone.items } in
+    let desk : Desk = record { lines = texts c.self.inside.policy; journal = entries_of c.self.inside.journal.items; undone = reverse c.self.inside.undone.items } in
     subst (λ (d : Desk). run (edits_of d.journal) (first_of d) ≡ Some d.lines) c.self.view_is (leads_here desk c.self.invariant.0)
     ∙ ap (λ (d : Desk). Some d.lines) (sym c.self.view_is)
 
