@@ -108,6 +108,7 @@ edit_name place name = codes "edit " ++ decimal (place + 1) ++ codes ": " ++ nam
 
 -- Want of memory has one text, wherever it was met.
 abbrev pub text_of_edit : ℕ → EditFault → List ℕ → List ℕ
+text_of_edit place edit.NoFile file = edit_name place (codes "NoFile")
 text_of_edit place edit.NoLine file = edit_name place (codes "NoLine")
 text_of_edit place edit.NotOneLine file = edit_name place (codes "NotOneLine")
 text_of_edit place edit.OpenLine file = edit_name place (codes "OpenLine")

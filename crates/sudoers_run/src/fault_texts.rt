@@ -296,6 +296,7 @@ fn edit_fault_text(
 {
     match fault {
         EditFault::NoMemory => Vec::from_slice(alloc, b"NoMemory"),
+        EditFault::NoFile => at_edit(alloc, place, b"NoFile"),
         EditFault::NoLine => at_edit(alloc, place, b"NoLine"),
         EditFault::NotOneLine => at_edit(alloc, place, b"NotOneLine"),
         EditFault::OpenLine => at_edit(alloc, place, b"OpenLine"),

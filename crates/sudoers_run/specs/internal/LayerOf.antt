@@ -62,6 +62,7 @@ layer_of_script script.TooMany = layer.Script script.TooMany
 layer_of_script script.NoMemory = layer.NoMemory
 
 abbrev pub layer_of_edit : ℕ → EditFault → LayerFault
+layer_of_edit place edit.NoFile = layer.Edit place edit.NoFile
 layer_of_edit place edit.NoLine = layer.Edit place edit.NoLine
 layer_of_edit place edit.NotOneLine = layer.Edit place edit.NotOneLine
 layer_of_edit place edit.OpenLine = layer.Edit place edit.OpenLine
