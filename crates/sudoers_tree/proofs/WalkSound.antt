@@ -36,7 +36,7 @@ ok_is w now is = cc
 -- ---- lines that are read
 
 -- Each line of these files says what is kept of it.
-abbrev AreSaid : List FileReading → Type 0
+abbrev pub AreSaid : List FileReading → Type 0
 AreSaid files = AllByRecursion (λ (file : FileReading). AllByRecursion SaysSo file.lines) files
 
 until_said : LinesAre → (before : List Line) (lines : List (List ℕ)) → AllByRecursion SaysSo (read_until before lines).0
@@ -57,7 +57,7 @@ one_more : {A : Type 0} (P : A → Type 0) (xs : List A) (x : A) → AllByRecurs
 one_more P [] x all is = (is, tt)
 one_more P (y ∷ xs) x all is = (all.0, one_more P xs x all.1 is)
 
-readings_said : LinesAre → (before read : List FileReading) (files : List NamedFile) → AreSaid before → readings before files ≡ Ok read → AreSaid read
+pub readings_said : LinesAre → (before read : List FileReading) (files : List NamedFile) → AreSaid before → readings before files ≡ Ok read → AreSaid read
 readings_said are before read [] said is = subst AreSaid (let same : before ≡ read = cc in same) said
 readings_said are before read (file ∷ files) said is =
     by (cut_of file.bytes) is (λ lines. readings_said are (before ++ reading_of file.name lines ∷ []) read files (one_more (λ (f : FileReading). AllByRecursion SaysSo f.lines) before (reading_of file.name lines) said (reading_said are file.name lines)))

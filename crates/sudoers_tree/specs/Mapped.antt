@@ -1,0 +1,65 @@
+-- Files of which lines are changed, where each line that leads to files still leads to them.
+use Rattle.std.specs.Prelude.{◌≡◌, ◌≤◌, ℕ, ◌+◌, true, false, List, [], ◌∷◌, ◌++◌, map, slice_get, Some, None, Ok}
+use Rattle.std.specs.List.{AllByRecursion}
+use Rattle.sudoers_text.specs.Cut.{cut_of}
+use Rattle.sudoers_text.specs.Line.{join}
+use Rattle.sudoers_line.specs.declared.node.Kind.{Kind}
+use Rattle.sudoers_tree.specs.declared.place.Spot.{Spot}
+use Rattle.sudoers_tree.specs.Line.{Line}
+use Rattle.sudoers_tree.specs.Lead.{lead_of}
+use Rattle.sudoers_tree.specs.Definition.{definitions}
+use Rattle.sudoers_tree.specs.Policy.{AreOnce, IsFree, SaysSo, alias_limit, count_of, texts}
+use Rattle.sudoers_tree.specs.Files.{FileReading, fault_of, lines_of, name_of}
+use Rattle.sudoers_tree.specs.Walk.{Walked, is_on}
+
+-- What comes of each line: of the line with this number of the file with this number, these lines.
+abbrev pub Mapping : Type 0
+Mapping = ℕ → ℕ → Line → List Line
+
+-- what comes of these lines of the file f, the first of which has the number n
+abbrev pub mapped_from : Mapping → ℕ → ℕ → List Line → List Line
+mapped_from g f n [] = []
+mapped_from g f n (line ∷ lines) = g f n line ++ mapped_from g f (n + 1) lines
+
+-- what comes of the lines that stand at these spots
+abbrev pub mapped_at : Mapping → List Spot → List Line → List Line
+mapped_at g [] lines = []
+mapped_at g (at ∷ spots) [] = []
+mapped_at g (at ∷ spots) (line ∷ lines) = g at.file at.line line ++ mapped_at g spots lines
+
+-- These lines stand in the place of a line of the file `name`. One line leads where the line before it led. Any number of lines that lead
+-- nowhere may replace a line that leads nowhere.
+pub data KeepsLead (name : List ℕ) (line : Line) : List Line → Type 0 where
+  one : (new : Line) → lead_of name new.node ≡ lead_of name line.node → KeepsLead name line (new ∷ [])
+  nowhere : (news : List Line) → lead_of name line.node ≡ None → AllByRecursion (λ (new : Line). lead_of name new.node ≡ None) news
+      → KeepsLead name line news
+
+abbrev pub file_names : List FileReading → List (List ℕ)
+file_names files = map (λ (file : FileReading). file.name) files
+
+-- The files `others` have the names of `files`, in their order. Each file on the walk w has the lines that come of its lines, and no other
+-- line. Each of its lines keeps its lead.
+pub record AreMapped (g : Mapping) (files others : List FileReading) (w : Walked) : Type 0 where
+  pub names : file_names files ≡ file_names others
+  pub lines : (f : ℕ) → is_on w f ≡ true → lines_of others f ≡ mapped_from g f 0 (lines_of files f)
+  pub whole : (f : ℕ) → is_on w f ≡ true → fault_of others f ≡ None
+  pub leads : (f n : ℕ) (line : Line) → is_on w f ≡ true → slice_get (lines_of files f) n ≡ Some line
+      → KeepsLead (name_of files f) line (g f n line)
+
+-- The lines define no reserved word, no name twice in a kind, and not too many names of a kind.
+pub record NamesStand (lines : List Line) : Type 0 where
+  pub free : AllByRecursion IsFree (definitions lines)
+  pub once : AreOnce (definitions lines)
+  pub few : (k : Kind) → count_of k (definitions lines) ≤ alias_limit
+
+-- The walk `other` passes the files of the walk w in their order. Its lines are those that come of the lines of w.
+pub record IsMappedWalk (g : Mapping) (w other : Walked) : Type 0 where
+  pub lines : other.lines ≡ mapped_at g w.spots w.lines
+  pub on : other.on ≡ w.on
+
+-- The files `others` can be loaded in the place of `files`. A file that is not on the walk w is as it was. The lines of a file on the walk
+-- are those of their text, and say what is kept of them.
+pub record CanBeLoaded (files others : List FileReading) (w : Walked) : Type 0 where
+  pub stay : (f : ℕ) → is_on w f ≡ false → slice_get others f ≡ slice_get files f
+  pub cut : (f : ℕ) → is_on w f ≡ true → cut_of (join (texts (lines_of others f))) ≡ Ok (texts (lines_of others f))
+  pub says : (f : ℕ) → is_on w f ≡ true → AllByRecursion SaysSo (lines_of others f)
