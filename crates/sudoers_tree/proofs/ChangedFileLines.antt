@@ -80,6 +80,7 @@ lines_after cuts one joins changes news olds can same cut whole f =
     let new : List (List ℕ) = texts (lines_of news f) in
     let after : List (List ℕ) = changed (changes_of f changes) (texts (lines_of olds f)) in
     let is : IsCut (join new) new = subst (IsCutOutcome (join new)) (cut f) (cuts (join new)) in
-    let bytes : join new ≡ join after = bytes_changed 0 f f changes news olds (omega arith) can.by_files same in
+    let count : length olds ≡ 0 + length olds = omega arith in
+    let bytes : join new ≡ join after = bytes_changed 0 f f changes news olds (omega arith) (subst (GoByFiles 0 changes) count can.by_files) same in
     let lines : Whole after = whole_changed 0 (changes_of f changes) (texts (lines_of olds f)) (whole f) (brought_by_file f changes can.lines) in
     one (join new) new after is.cuts (subst (λ text. Cuts text after) (sym bytes) (joins after lines (can.ended f)))
