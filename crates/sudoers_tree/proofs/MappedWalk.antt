@@ -49,21 +49,21 @@ same_first v w (f ∷ inner) same =
     ∙ ap (λ later. if is_on w f then Some f else later) (same_first v w inner same)
 
 -- What a lead opens in a walk over files, it opens in a walk over others of the same names on which the same files are.
-opened_alike : (files others : List FileReading) → file_names files ≡ file_names others → (at site : Site) (v w : Walked) (o : Option Lead)
-    (inner : List ℕ) → v.on ≡ w.on → opened files at w o ≡ Ok inner → opened others site v o ≡ Ok inner
-opened_alike files others names at site v w None inner same is = is
-opened_alike files others names at site v w (Some lead) inner same is = by_targets (targets files lead) refl is
+opened_alike : (files others : List FileReading) → file_names files ≡ file_names others → (at other_at : Site) (v w : Walked) (o : Option Lead)
+    (inner : List ℕ) → v.on ≡ w.on → opened files at w o ≡ Ok inner → opened others other_at v o ≡ Ok inner
+opened_alike files others names at other_at v w None inner same is = is
+opened_alike files others names at other_at v w (Some lead) inner same is = by_targets (targets files lead) refl is
   where
     by_on : (o : Option ℕ) (found : List ℕ) → first_on w found ≡ o → unless_on files at found o ≡ Ok inner
-        → unless_on others site found (first_on v found) ≡ Ok inner
-    by_on None found none e = ap (unless_on others site found) (same_first v w found same ∙ none) ∙ e
+        → unless_on others other_at found (first_on v found) ≡ Ok inner
+    by_on None found none e = ap (unless_on others other_at found) (same_first v w found same ∙ none) ∙ e
     by_on (Some f) found first e = absurd cc
 
     by_targets : (t : Option (List ℕ)) → targets files lead ≡ t → unless_missing files at lead w t ≡ Ok inner
-        → opened others site v (Some lead) ≡ Ok inner
+        → opened others other_at v (Some lead) ≡ Ok inner
     by_targets None e f = absurd cc
     by_targets (Some found) e f =
-        ap (unless_missing others site lead v) (sym (same_targets files others names lead) ∙ e) ∙ by_on (first_on w found) found refl f
+        ap (unless_missing others other_at lead v) (sym (same_targets files others names lead) ∙ e) ∙ by_on (first_on w found) found refl f
 
 -- A line that leads nowhere opens no file.
 nothing_opened : (files : List FileReading) (at : Site) (w : Walked) (o : Option Lead) (inner : List ℕ) → o ≡ None → opened files at w o ≡ Ok inner
@@ -115,35 +115,35 @@ pass_over visit files f n (line ∷ lines) v all none =
 
 module _ (g : Mapping) (files others : List FileReading) (total : Walked) (are : AreMapped g files others total) (stand : AllStand g total) where
   -- a visit over the others goes along with one over the files
-  VisitsAlong : Visit → Visit → Type 0
-  VisitsAlong visit beside = (at site : Site) (f : ℕ) (w now : Walked) → visit at f w ≡ Ok now → GoesAlong g total w now (beside site f)
+  abbrev VisitsAlong : Visit → Visit → Type 0
+  VisitsAlong visit beside = (at other_at : Site) (f : ℕ) (w now : Walked) → visit at f w ≡ Ok now → GoesAlong g total w now (beside other_at f)
 
-  each_along : (visit beside : Visit) → VisitsAlong visit beside → (at site : Site) (inner : List ℕ) (w now : Walked)
-      → visit_each visit files at inner w ≡ Ok now → GoesAlong g total w now (visit_each beside others site inner)
-  each_along visit beside along at site [] w now is =
-      subst (λ now. GoesAlong g total w now (visit_each beside others site [])) (ok_is w now is) (record {
+  each_along : (visit beside : Visit) → VisitsAlong visit beside → (at other_at : Site) (inner : List ℕ) (w now : Walked)
+      → visit_each visit files at inner w ≡ Ok now → GoesAlong g total w now (visit_each beside others other_at inner)
+  each_along visit beside along at other_at [] w now is =
+      subst (λ now. GoesAlong g total w now (visit_each beside others other_at [])) (ok_is w now is) (record {
         more = extends_self w;
         arrives = λ v follows more. record { last = v; is = refl; follows = follows };
       })
-  each_along visit beside along at site (f ∷ inner) w now is =
-      by_test (is_on w f) refl is (λ within. each_along visit beside along at site inner within now)
+  each_along visit beside along at other_at (f ∷ inner) w now is =
+      by_test (is_on w f) refl is (λ within. each_along visit beside along at other_at inner within now)
     where
       Later : Type 0
-      Later = (within : Walked) → visit_each visit files at inner within ≡ Ok now → GoesAlong g total within now (visit_each beside others site inner)
+      Later = (within : Walked) → visit_each visit files at inner within ≡ Ok now → GoesAlong g total within now (visit_each beside others other_at inner)
 
       by_visit : (r : Outcome) → is_on w f ≡ false → visit at f w ≡ r → and_then r (visit_each visit files at inner) ≡ Ok now → Later
-          → GoesAlong g total w now (visit_each beside others site (f ∷ inner))
+          → GoesAlong g total w now (visit_each beside others other_at (f ∷ inner))
       by_visit (Ok within) off v e later =
-          let both : GoesAlong g total w now (λ u. and_then (beside site f u) (visit_each beside others site inner)) =
-          along_both g total w within now (beside site f) (visit_each beside others site inner) (along at site f w within v) (later within e) in
+          let both : GoesAlong g total w now (λ u. and_then (beside other_at f u) (visit_each beside others other_at inner)) =
+          along_both g total w within now (beside other_at f) (visit_each beside others other_at inner) (along at other_at f w within v) (later within e) in
           record {
             more = both.more;
             arrives = λ u follows more.
-                let there : Arrives g now (and_then (beside site f u) (visit_each beside others site inner)) = both.arrives u follows more in
+                let there : Arrives g now (and_then (beside other_at f u) (visit_each beside others other_at inner)) = both.arrives u follows more in
                 record {
                   last = there.last;
                   is =
-                      ap (λ t. if t then Err (twice others site f) else and_then (beside site f u) (visit_each beside others site inner))
+                      ap (λ t. if t then Err (twice others other_at f) else and_then (beside other_at f u) (visit_each beside others other_at inner))
                       (ap (list_any (nat_eq f)) follows.on ∙ off)
                       ∙ there.is;
                   follows = there.follows;
@@ -152,7 +152,7 @@ module _ (g : Mapping) (files others : List FileReading) (total : Walked) (are :
       by_visit (Err fault) off v e later = absurd cc
 
       by_test : (b : Bool) → is_on w f ≡ b → (if b then Err (twice files at f) else and_then (visit at f w) (visit_each visit files at inner)) ≡ Ok now
-          → Later → GoesAlong g total w now (visit_each beside others site (f ∷ inner))
+          → Later → GoesAlong g total w now (visit_each beside others other_at (f ∷ inner))
       by_test true on e later = absurd cc
       by_test false off e later = by_visit (visit at f w) off refl e later
 
@@ -196,7 +196,7 @@ module _ (g : Mapping) (files others : List FileReading) (total : Walked) (are :
       name = same_name files others are.names f
 
       by : (news : List Line) → g f n line ≡ news → KeepsLead (name_of files f) line news → PassesLine beside f m news v within
-      by news is (nowhere news alone all) =
+      by news is (nowhere lines alone all) =
           let sound : first_name_fault [] (definitions (v.lines ++ news)) ≡ None = subst (λ ls. first_name_fault [] (definitions (v.lines ++ ls)) ≡ None) is none in
           let over : PassesOver beside others f m news v =
           pass_over beside others f m news v (subst (λ called. AllByRecursion (λ (new : Line). lead_of called new.node ≡ None) news) name all) sound in
@@ -206,7 +206,7 @@ module _ (g : Mapping) (files others : List FileReading) (total : Walked) (are :
           let same : passed ≡ within =
           ok_is passed within (ap (λ fs. visit_each visit files (site files f n) fs passed) none_inside ∙ e) in
           record { number = over.number; last = over.last; follows = subst (Follows g over.last) same there; goes = over.goes }
-      by (new ∷ []) is (one new same) =
+      by news is (one new same) =
           let sound : first_name_fault [] (definitions (v.lines ++ new ∷ [])) ≡ None = subst (λ ls. first_name_fault [] (definitions (v.lines ++ ls)) ≡ None) is none in
           let next : Walked = with_line (spot_of others f m) new v in
           let here : taken (name_of others f) (spot_of others f m) new v ≡ Ok next = line_taken (name_of others f) (spot_of others f m) new v sound in
@@ -311,8 +311,8 @@ module _ (g : Mapping) (files others : List FileReading) (total : Walked) (are :
       }
 
   visits_along : (left : ℕ) → VisitsAlong (visit left files) (visit left others)
-  visits_along zero at site f w now is = absurd cc
-  visits_along (suc left) at site f w now is = file_along (visit left files) (visit left others) (visits_along left) f w now is
+  visits_along zero at other_at f w now is = absurd cc
+  visits_along (suc left) at other_at f w now is = file_along (visit left files) (visit left others) (visits_along left) f w now is
 
 -- A walk over files passes the same files in the files of which lines were changed, and its lines are those that come of its lines.
 pub walk_is_mapped : (g : Mapping) (files others : List FileReading) (w : Walked) → walk_of files ≡ Ok w → AreMapped g files others w
