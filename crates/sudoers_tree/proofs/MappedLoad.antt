@@ -61,7 +61,7 @@ one_of P (y ∷ xs) all zero x at = subst P (let same : y ≡ x = cc in same) al
 one_of P (y ∷ xs) all (suc n) x at = one_of P xs all.1 n x at
 
 -- A file of a policy is read again as it is.
-pub loaded_again : CutsAre → ReadsAre → JoinsCut → LinesAre → (files : List NamedFile) (p : Loaded) → load_of files ≡ Ok p → (f : ℕ)
+loaded_again : CutsAre → ReadsAre → JoinsCut → LinesAre → (files : List NamedFile) (p : Loaded) → load_of files ≡ Ok p → (f : ℕ)
     (file : FileReading) → slice_get p.files f ≡ Some file → IsReadAgain file
 loaded_again cuts reads joins lines files p is f file at =
     let said : AreSaid p.files = readings_said lines [] p.files files tt (loaded_as files p is).reads in
