@@ -225,11 +225,13 @@ pub fn walk_is()
     ensures one { (files : List FileReading) (outcome : Result Walked LoadFaultOf) → IsWalkOf files outcome → walk_of files ≡ outcome }
 {}
 
-/// Lines of files change, and each keeps its lead. The walk over the changed files passes the same files in the same order. Its lines are
-/// those that come of the lines of the walk before. No name that they define may have a fault.
+/// Lines of files change, and each keeps its lead. The walk over the changed files passes the same files in the same order, and its lines are
+/// those that come of the lines of the walk before. It is that walk if no name that they define has a fault; and if there is a walk at all.
 pub fn walk_is_mapped()
-    ensures { (g : Mapping) (files others : List FileReading) (w : Walked) → walk_of files ≡ Ok w → AreMapped g files others w
+    ensures stands { (g : Mapping) (files others : List FileReading) (w : Walked) → walk_of files ≡ Ok w → AreMapped g files others w
         → NamesStand (mapped_at g w.spots w.lines) → (other : Walked) × (walk_of others ≡ Ok other) × IsMappedWalk g w other }
+    ensures agrees { (g : Mapping) (files others : List FileReading) (w other : Walked) → walk_of files ≡ Ok w → AreMapped g files others w
+        → walk_of others ≡ Ok other → IsMappedWalk g w other }
 {}
 
 /// Lines of the files of a policy change, and each keeps its lead. The changed files load, as the policy of that walk over them.
