@@ -20,7 +20,7 @@ use Rattle.sudoers_tree.proofs.Sound.{first_append}
 abbrev pub Outcome : Type 0
 Outcome = Result Walked LoadFault
 
--- the lines that come of lines, and of more lines
+-- The lines that come of lines and of more lines are those that come of each.
 mapped_append : (g : Mapping) (spots more : List Spot) (lines others : List Line) → length spots ≡ length lines
     → mapped_at g (spots ++ more) (lines ++ others) ≡ mapped_at g spots lines ++ mapped_at g more others
 mapped_append g [] more [] others paired = refl

@@ -22,7 +22,7 @@ use Rattle.sudoers_tree.proofs.Numbered.{behind_first, first_at}
 use Rattle.sudoers_tree.proofs.Outcomes.{CutsAre, LinesAre}
 use Rattle.sudoers_tree.proofs.ParsedFiles.{Parses, loaded_parse}
 use Rattle.sudoers_tree.proofs.SameNames.{first_and_rest, same_count, same_repeated}
-use Rattle.sudoers_tree.proofs.WalkSound.{AreSaid, loaded_as, readings_said}
+use Rattle.sudoers_tree.proofs.WalkSound.{lines_said, loaded_as, loaded_said}
 
 -- ---- the files as they are read again
 
@@ -64,10 +64,9 @@ one_of P (y ∷ xs) all (suc n) x at = one_of P xs all.1 n x at
 loaded_again : CutsAre → ReadsAre → JoinsCut → LinesAre → (files : List NamedFile) (p : Loaded) → load_of files ≡ Ok p → (f : ℕ)
     (file : FileReading) → slice_get p.files f ≡ Some file → IsReadAgain file
 loaded_again cuts reads joins lines files p is f file at =
-    let said : AreSaid p.files = readings_said lines [] p.files files tt (loaded_as files p is).reads in
     record {
       cut = subst (λ ls. AreCut (texts ls)) (ap lines_in at) (loaded_cut cuts reads joins files p is f);
-      says = one_of (λ (read : FileReading). AllByRecursion SaysSo read.lines) p.files said f file at;
+      says = subst (AllByRecursion SaysSo) (ap lines_in at) (lines_said p.files f (loaded_said lines files p is));
       parses = one_of Parses p.files (loaded_parse files p is) f file at;
     }
 
@@ -80,13 +79,13 @@ others_again g files others w are can again = all_from IsReadAgain others (λ f 
     by f file at true on = record {
       cut = subst (λ ls. AreCut (texts ls)) (ap lines_in at) (can.cut f on);
       says = subst (AllByRecursion SaysSo) (ap lines_in at) (can.says f on);
-      parses = ap fault_in (sym at) ∙ are.whole f on;
+      parses = ap fault_in (sym at) ∙ are.parse f on;
     }
     by f file at false off = again f file (sym (can.stay f off) ∙ at)
 
 -- ---- the files that are not on the walk
 
--- The same files are on both walks, and the others are the same: none has a fault.
+-- The same files are on both walks. A file that is not on them is the same, and has no fault.
 off_alike : (w other : Walked) (all behind : List FileReading) → other.on ≡ w.on
     → ((f : ℕ) → is_on w f ≡ false → slice_get behind f ≡ slice_get all f) → (n : ℕ) (files others : List FileReading)
     → files ≡ drop n all → others ≡ drop n behind → file_names files ≡ file_names others → unless_off w n files ≡ Ok w
@@ -140,9 +139,9 @@ mapped_files_load cuts reads one joins lines g policy others is are can names =
     let again : AllByRecursion IsReadAgain others =
     others_again g policy.files others policy.walk are can (loaded_again cuts reads joins lines (files_of policy) policy is) in
     let off : unless_off other 0 others ≡ Ok other =
-    off_alike policy.walk other policy.files others mapped.on can.stay 0 policy.files others refl refl are.names load.off in
+    off_alike policy.walk other policy.files others mapped.on can.stay 0 policy.files others refl refl (sym are.names) load.off in
     let loads : load_of (map file_of others) ≡ loaded_over others =
-    loads_over (map file_of others) others (ap (nat_lt file_limit) (same_count policy.files others are.names) ∙ few.few)
-    (same_repeated [] policy.files others are.names ∙ few.once) (readings_again one [] others again) in
+    loads_over (map file_of others) others (ap (nat_lt file_limit) (same_count policy.files others (sym are.names)) ∙ few.few)
+    (same_repeated [] policy.files others (sym are.names) ∙ few.once) (readings_again one [] others again) in
     let whole : walked_over others ≡ Ok other = off_comes others others other (Ok other) walk refl off in
     (other, loads ∙ ap (λ r. and_then r (λ w. Ok (record { files = others; walk = w }))) whole, walk, mapped)

@@ -164,7 +164,7 @@ module _ (g : Mapping) (files others : List FileReading) (total : Walked) (are :
       front = extends_both passed within total each.more more
 
       name : name_of files f ≡ name_of others f
-      name = same_name files others are.names f
+      name = same_name files others (sym are.names) f
 
       fails : (news : List Line) → g f n line ≡ news → (fault : ReadFault) → first_name_fault [] (definitions (v.lines ++ news)) ≡ Some fault
           → IsFirstOf g total fault
@@ -195,7 +195,7 @@ module _ (g : Mapping) (files others : List FileReading) (total : Walked) (are :
           let there : Follows g longer passed = follow (new ∷ []) is longer refl refl stand in
           let opens : opened others (site others f m) longer (leads_to others f new) ≡ Ok inner =
           ap (opened others (site others f m) longer) lead
-          ∙ opened_alike files others are.names (site files f n) (site others f m) longer passed (leads_to files f line) inner there.on o in
+          ∙ opened_alike files others (sym are.names) (site files f n) (site others f m) longer passed (leads_to files f line) inner there.on o in
           subst (Arrives g total now)
           (ap (λ r. and_then r (λ fs. and_then (visit_each beside others (site others f m) fs longer) (walk_lines beside others f (m + 1) rest))) (sym opens))
           (arrives_then g total within now (visit_each beside others (site others f m) inner longer) (walk_lines beside others f (m + 1) rest)
@@ -211,7 +211,7 @@ module _ (g : Mapping) (files others : List FileReading) (total : Walked) (are :
       by None e = subst (λ now. GoesAlong g total w now (walk_lines beside others f m [])) (ok_is w now e) (record {
         more = extends_self w;
         arrives = λ v follows more.
-            arrived v (ap (λ o. unless_in (name_of others f) v (option_map syntax_fault o)) (are.whole f (stays_on f w total more on))) follows;
+            arrived v (ap (λ o. unless_in (name_of others f) v (option_map syntax_fault o)) (are.parse f (stays_on f w total more on))) follows;
       })
       by (Some fault) e = absurd cc
   lines_along visit beside along f n m (line ∷ lines) w now on from is =

@@ -24,7 +24,7 @@ same_count [] (other ∷ others) same = absurd cc
 same_count (file ∷ files) [] same = absurd cc
 same_count (file ∷ files) (other ∷ others) same = ap suc (same_count files others (first_and_rest file other files others same).1)
 
--- No name is there twice, or the same one is.
+-- The first name that is there twice is the same, if there is one.
 pub same_repeated : (before : List (List ℕ)) (files others : List FileReading) → file_names files ≡ file_names others
     → first_repeated before (map file_of others) ≡ first_repeated before (map file_of files)
 same_repeated before [] [] same = refl

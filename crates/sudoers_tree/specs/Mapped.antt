@@ -12,37 +12,38 @@ use Rattle.sudoers_tree.specs.Policy.{AreOnce, IsFree, SaysSo, alias_limit, coun
 use Rattle.sudoers_tree.specs.Files.{FileReading, fault_of, lines_of, name_of}
 use Rattle.sudoers_tree.specs.Walk.{Walked, is_on}
 
--- What comes of each line: of the line with this number of the file with this number, these lines.
+-- the lines that come of a line, by the number of its file, its own number there, and the line
 abbrev pub Mapping : Type 0
 Mapping = ℕ → ℕ → Line → List Line
 
--- what comes of these lines of the file f, the first of which has the number n
+-- the lines that come of these lines of the file f, of which the first has the number n
 abbrev pub mapped_from : Mapping → ℕ → ℕ → List Line → List Line
 mapped_from g f n [] = []
 mapped_from g f n (line ∷ lines) = g f n line ++ mapped_from g f (n + 1) lines
 
--- what comes of the lines that stand at these spots
+-- the lines that come of lines that stand at these spots
 abbrev pub mapped_at : Mapping → List Spot → List Line → List Line
 mapped_at g [] lines = []
 mapped_at g (at ∷ spots) [] = []
 mapped_at g (at ∷ spots) (line ∷ lines) = g at.file at.line line ++ mapped_at g spots lines
 
--- These lines stand in the place of a line of the file `name`. One line leads where the line before it led. Any number of lines that lead
--- nowhere may replace a line that leads nowhere.
+-- A line of the file `name` keeps its lead where these lines stand in its place.
 pub data KeepsLead (name : List ℕ) (line : Line) : List Line → Type 0 where
+  -- one line, which leads where the old one led
   one : (new : Line) → lead_of name new.node ≡ lead_of name line.node → KeepsLead name line (new ∷ [])
+  -- lines that lead nowhere, in the place of one that leads nowhere
   nowhere : (news : List Line) → lead_of name line.node ≡ None → AllByRecursion (λ (new : Line). lead_of name new.node ≡ None) news
       → KeepsLead name line news
 
 abbrev pub file_names : List FileReading → List (List ℕ)
 file_names files = map (λ (file : FileReading). file.name) files
 
--- The files `others` have the names of `files`, in their order. Each file on the walk w has the lines that come of its lines, and no other
--- line. Each of its lines keeps its lead.
+-- The files `others` are `files` with lines changed. They have the same names in the same order. The lines of a file on the walk w are those
+-- that come of its lines, and each parses. Each line of such a file keeps its lead.
 pub record AreMapped (g : Mapping) (files others : List FileReading) (w : Walked) : Type 0 where
-  pub names : file_names files ≡ file_names others
+  pub names : file_names others ≡ file_names files
   pub lines : (f : ℕ) → is_on w f ≡ true → lines_of others f ≡ mapped_from g f 0 (lines_of files f)
-  pub whole : (f : ℕ) → is_on w f ≡ true → fault_of others f ≡ None
+  pub parse : (f : ℕ) → is_on w f ≡ true → fault_of others f ≡ None
   pub leads : (f n : ℕ) (line : Line) → is_on w f ≡ true → slice_get (lines_of files f) n ≡ Some line
       → KeepsLead (name_of files f) line (g f n line)
 
@@ -58,7 +59,7 @@ pub record IsMappedWalk (g : Mapping) (w other : Walked) : Type 0 where
   pub on : other.on ≡ w.on
 
 -- The files `others` can be loaded in the place of `files`. A file that is not on the walk w is as it was. The lines of a file on the walk
--- are those of their text, and say what is kept of them.
+-- are those of its text, and each says what is kept of it.
 pub record CanBeLoaded (files others : List FileReading) (w : Walked) : Type 0 where
   pub stay : (f : ℕ) → is_on w f ≡ false → slice_get others f ≡ slice_get files f
   pub cut : (f : ℕ) → is_on w f ≡ true → cut_of (join (texts (lines_of others f))) ≡ Ok (texts (lines_of others f))

@@ -18,7 +18,7 @@ ghost use Rattle.sudoers_line.specs.declared.node.Kind.{Kind as KindOf};
 ghost use Rattle.sudoers_line.specs.Node.{Node as NodeOf};
 ghost use Rattle.sudoers_line.specs.Listed.{listed};
 ghost use Rattle.sudoers_tree.specs.Mention.{members_in, of_kind};
-ghost use Rattle.sudoers_tree.specs.Policy.{IsWalk, texts};
+ghost use Rattle.sudoers_tree.specs.Policy.{IsWalk, SaysSo, texts};
 ghost use Rattle.sudoers_tree.specs.Load.{Loaded, StandAt, file_limit, file_of, files_of, load_of};
 ghost use Rattle.sudoers_text.specs.Fault.{text_limit};
 ghost use Rattle.sudoers_tree.specs.declared.load.NamedFile.{NamedFile as NamedFileOf};
@@ -190,7 +190,7 @@ pub fn loaded_files_are()
     reads_is();
 }
 
-/// The lines of each loaded file are those of its text.
+/// A law: the lines of each loaded file are those of its text.
 pub fn loaded_files_are_cut()
     ensures { (files : List NamedFileOf) (policy : Loaded) → load_of files ≡ Ok policy → (f : ℕ)
         → cut_of (join (texts (lines_of policy.files f))) ≡ Ok (texts (lines_of policy.files f)) }
@@ -200,7 +200,29 @@ pub fn loaded_files_are_cut()
     lines_of_join();
 }
 
-/// Changed files that are loaded keep their names. The lines of each file are those before, after the changes of them.
+/// A law: each line of loaded files says what is kept of it.
+pub fn loaded_lines_are_said()
+    ensures { (files : List NamedFileOf) (policy : Loaded) → load_of files ≡ Ok policy → (f : ℕ)
+        → AllByRecursion SaysSo (lines_of policy.files f) }
+{
+    outcome_is();
+}
+
+/// A law: the walk of a policy is the walk over its files.
+pub fn loaded_walk_is()
+    ensures { (files : List NamedFileOf) (policy : Loaded) → load_of files ≡ Ok policy → walk_of policy.files ≡ Ok policy.walk }
+{}
+
+/// A law: lines that have the same texts are the same, if each says what is kept of it.
+pub fn texts_tell_lines()
+    ensures { (lines others : List LineOf) → AllByRecursion SaysSo lines → AllByRecursion SaysSo others → texts lines ≡ texts others
+        → lines ≡ others }
+{
+    one_reading();
+}
+
+/// A law: changed files that are loaded have the names that they had. The lines of each file are its lines before, after the changes of
+/// that file.
 pub fn changed_files_have_lines()
     ensures names { (changes : List LineChangeOf) (old new : Loaded) → load_of (files_changed changes old.files) ≡ Ok new
         → file_names new.files ≡ file_names old.files }
@@ -225,8 +247,9 @@ pub fn walk_is()
     ensures one { (files : List FileReading) (outcome : Result Walked LoadFaultOf) → IsWalkOf files outcome → walk_of files ≡ outcome }
 {}
 
-/// Lines of files change, and each keeps its lead. The walk over the changed files passes the same files in the same order, and its lines are
-/// those that come of the lines of the walk before. It is that walk if no name that they define has a fault; and if there is a walk at all.
+/// A law: lines of files change, and each keeps its lead. The walk over the changed files then passes the same files in the same order. Its
+/// lines are those that come of the lines of the walk before. There is that walk if no name that they define has a fault. Any walk over
+/// the changed files is that one.
 pub fn walk_is_mapped()
     ensures stands { (g : Mapping) (files others : List FileReading) (w : Walked) → walk_of files ≡ Ok w → AreMapped g files others w
         → NamesStand (mapped_at g w.spots w.lines) → (other : Walked) × (walk_of others ≡ Ok other) × IsMappedWalk g w other }
@@ -234,7 +257,8 @@ pub fn walk_is_mapped()
         → walk_of others ≡ Ok other → IsMappedWalk g w other }
 {}
 
-/// Lines of the files of a policy change, and each keeps its lead. The changed files load, as the policy of that walk over them.
+/// A law: lines of the files of a policy change, and each keeps its lead. If no name has a fault then, the changed files load. Their policy
+/// has the walk of `walk_is_mapped`.
 pub fn mapped_files_load()
     ensures { (g : Mapping) (policy : Loaded) (others : List FileReading) → load_of (files_of policy) ≡ Ok policy
         → AreMapped g policy.files others policy.walk → CanBeLoaded policy.files others policy.walk
