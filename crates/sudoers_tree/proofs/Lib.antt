@@ -17,6 +17,7 @@ pub mod ChangedFileLines
 pub mod MappedLines
 pub mod MappedWalk
 pub mod MappedLoad
+pub mod ChangedWalk
 pub mod LineRows
 pub mod Placed
 pub mod WholeFiles

@@ -4,7 +4,10 @@ use Rattle.std.specs.List.{AllByRecursion}
 use Rattle.sudoers_text.specs.Cut.{cut_of}
 use Rattle.sudoers_text.specs.Line.{join}
 use Rattle.sudoers_line.specs.declared.node.Kind.{Kind}
+use Rattle.sudoers_tree.specs.declared.line_change.LineChange.{LineChange}
 use Rattle.sudoers_tree.specs.declared.place.Spot.{Spot}
+use Rattle.sudoers_tree.specs.Changed.{changed}
+use Rattle.sudoers_tree.specs.ChangedFiles.{changes_of}
 use Rattle.sudoers_tree.specs.Line.{Line}
 use Rattle.sudoers_tree.specs.Lead.{lead_of}
 use Rattle.sudoers_tree.specs.Definition.{definitions}
@@ -38,14 +41,26 @@ pub data KeepsLead (name : List ℕ) (line : Line) : List Line → Type 0 where
 abbrev pub file_names : List FileReading → List (List ℕ)
 file_names files = map (λ (file : FileReading). file.name) files
 
+-- Each line of the files on the walk w keeps its lead.
+abbrev pub KeepLeads : Mapping → List FileReading → Walked → Type 0
+KeepLeads g files w =
+    (f n : ℕ) (line : Line) → is_on w f ≡ true → slice_get (lines_of files f) n ≡ Some line → KeepsLead (name_of files f) line (g f n line)
+
 -- The files `others` are `files` with lines changed. They have the same names in the same order. The lines of a file on the walk w are those
 -- that come of its lines, and each parses. Each line of such a file keeps its lead.
 pub record AreMapped (g : Mapping) (files others : List FileReading) (w : Walked) : Type 0 where
   pub names : file_names others ≡ file_names files
   pub lines : (f : ℕ) → is_on w f ≡ true → lines_of others f ≡ mapped_from g f 0 (lines_of files f)
   pub parse : (f : ℕ) → is_on w f ≡ true → fault_of others f ≡ None
-  pub leads : (f n : ℕ) (line : Line) → is_on w f ≡ true → slice_get (lines_of files f) n ≡ Some line
-      → KeepsLead (name_of files f) line (g f n line)
+  pub leads : KeepLeads g files w
+
+-- The changes make, of the lines of a file on the walk w, the lines that come of them. Each of these says what is kept of it. Each line
+-- keeps its lead.
+pub record MakeMapped (g : Mapping) (changes : List LineChange) (files : List FileReading) (w : Walked) : Type 0 where
+  pub lines : (f : ℕ) → is_on w f ≡ true
+      → changed (changes_of f changes) (texts (lines_of files f)) ≡ texts (mapped_from g f 0 (lines_of files f))
+  pub says : (f : ℕ) → is_on w f ≡ true → AllByRecursion SaysSo (mapped_from g f 0 (lines_of files f))
+  pub leads : KeepLeads g files w
 
 -- The lines define no reserved word, no name twice in a kind, and not too many names of a kind.
 pub record NamesStand (lines : List Line) : Type 0 where

@@ -6,7 +6,7 @@ ghost use Rattle.sudoers_text.specs.Line.{join};
 ghost use Rattle.sudoers_text.specs.Whole.{IsLogicalLine};
 ghost use Rattle.sudoers_tree.specs.Line.{Line as LineOf};
 ghost use Rattle.sudoers_tree.specs.ChangedFiles.{CanBeMade, changes_of, files_changed};
-ghost use Rattle.sudoers_tree.specs.Mapped.{AreMapped, CanBeLoaded, IsMappedWalk, Mapping, NamesStand, file_names, mapped_at};
+ghost use Rattle.sudoers_tree.specs.Mapped.{AreMapped, CanBeLoaded, IsMappedWalk, MakeMapped, Mapping, NamesStand, file_names, mapped_at};
 ghost use Rattle.sudoers_tree.specs.Changed.{changed, changed_from, replaced, place_of, next_place, text_brought, AreInOrder};
 ghost use Rattle.sudoers_tree.specs.declared.line_change.LineChange.{LineChange as LineChangeOf};
 ghost use Rattle.sudoers_tree.specs.declared.line_change.LineChange.TheVariants.{Put, Swap, Take};
@@ -270,4 +270,18 @@ pub fn mapped_files_load()
     reads_is();
     lines_of_join();
     outcome_is();
+}
+
+/// A law: changes of a policy make the lines that come of its lines, and each line keeps its lead. Where the changed files load, their walk
+/// is that of `walk_is_mapped`.
+pub fn changed_walk_is_mapped()
+    ensures { (g : Mapping) (changes : List LineChangeOf) (old new : Loaded) → load_of (files_of old) ≡ Ok old → CanBeMade changes old.files
+        → load_of (files_changed changes old.files) ≡ Ok new → MakeMapped g changes old.files old.walk → IsMappedWalk g old.walk new.walk }
+{
+    loaded_files_are();
+    loaded_lines_are_said();
+    loaded_walk_is();
+    texts_tell_lines();
+    changed_files_have_lines();
+    walk_is_mapped();
 }
