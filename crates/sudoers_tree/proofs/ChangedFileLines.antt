@@ -1,8 +1,7 @@
 -- The lines of files of which lines were changed.
-use Rattle.std.proofs.Common.{◌≡◌, ◌∙◌, ◌≤◌, ◌<◌, ◌+◌, ◌==◌, ℕ, zero, suc, Bool, true, false, if◌then◌else◌, List, [], ◌∷◌, ◌++◌, length, map, Result, Ok, Err, refl, sym, ap, ap₂, subst, arith}
+use Rattle.std.proofs.Common.{◌≡◌, ◌∙◌, ◌≤◌, ◌+◌, ◌==◌, ℕ, zero, suc, false, if◌then◌else◌, List, [], ◌∷◌, length, map, refl, sym, ap, ap₂, subst, arith}
 use Rattle.std.specs.List.{AllByRecursion}
 use Rattle.std.proofs.lemmas.Bool.Decides.{nat_tests}
-use Rattle.sudoers_text.specs.Cut.{cut_of}
 use Rattle.sudoers_text.specs.Ended.{has_unended_inside}
 use Rattle.sudoers_text.specs.Fault.{IsCut}
 use Rattle.sudoers_text.specs.Fault.{IsOutcome as IsCutOutcome}
@@ -13,7 +12,6 @@ use Rattle.sudoers_tree.specs.declared.load.NamedFile.{NamedFile}
 use Rattle.sudoers_tree.specs.Changed.{changed, file_of}
 use Rattle.sudoers_tree.specs.ChangedFiles.{CanBeMade, GoByFiles, changes_of, files_changed, files_changed_from, lines_changed}
 use Rattle.sudoers_tree.specs.Files.{FileReading, lines_of}
-use Rattle.sudoers_tree.specs.Load.{Loaded}
 use Rattle.sudoers_tree.specs.Load.{file_of as named_of}
 use Rattle.sudoers_tree.specs.Mapped.{file_names}
 use Rattle.sudoers_tree.specs.Policy.{texts}

@@ -1,15 +1,13 @@
 -- Loading files of which lines were changed, where each line keeps its lead.
-use Rattle.std.proofs.Common.{◌≡◌, ◌∙◌, ℕ, zero, suc, ◌+◌, nat_eq, nat_lt, Bool, true, false, if◌then◌else◌, List, [], ◌∷◌, ◌++◌, drop, length, map, slice_get, Option, Some, None, Result, Ok, Err, refl, sym, ap, subst, append_assoc, append-nil}
+use Rattle.std.proofs.Common.{◌≡◌, ◌∙◌, ℕ, zero, suc, ◌+◌, nat_eq, nat_lt, Bool, true, false, if◌then◌else◌, List, [], ◌∷◌, ◌++◌, drop, map, slice_get, Option, Some, None, Result, Ok, refl, sym, ap, subst, append_assoc, append-nil}
 use Rattle.std.specs.List.{AllByRecursion, list_any}
-use Rattle.sudoers_text.specs.Cut.{cut_of}
-use Rattle.sudoers_text.specs.Line.{join}
 use Rattle.sudoers_tree.specs.declared.fault.ReadFault.{ReadFault}
 use Rattle.sudoers_tree.specs.declared.fault.SyntaxFault.{SyntaxFault}
 use Rattle.sudoers_tree.specs.declared.load.NamedFile.{NamedFile}
 use Rattle.sudoers_tree.specs.declared.load_fault.LoadFault.{LoadFault}
 use Rattle.sudoers_tree.specs.Line.{Line}
-use Rattle.sudoers_tree.specs.Files.{FileReading, Reads, fault_in, lines_in, lines_of, read_until, reading_by, reading_of, whole}
-use Rattle.sudoers_tree.specs.Load.{Loaded, cut_file, fault_off, file_limit, file_of, files_of, first_repeated, load_of, loaded_over, readings, unless_off, walked_over}
+use Rattle.sudoers_tree.specs.Files.{FileReading, Reads, fault_in, lines_in, read_until, reading_by, reading_of, whole}
+use Rattle.sudoers_tree.specs.Load.{Loaded, cut_file, fault_off, file_limit, file_of, files_of, load_of, loaded_over, readings, unless_off, walked_over}
 use Rattle.sudoers_tree.specs.Mapped.{AreMapped, CanBeLoaded, IsMappedWalk, Mapping, NamesStand, file_names, mapped_at}
 use Rattle.sudoers_tree.specs.Policy.{SaysSo, texts}
 use Rattle.sudoers_tree.specs.Walk.{Walked, and_then, is_on, unless_in, walk_of}

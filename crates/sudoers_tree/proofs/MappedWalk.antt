@@ -16,7 +16,7 @@ use Rattle.sudoers_tree.specs.Files.{FileReading, fault_of, lines_of, name_of}
 use Rattle.sudoers_tree.specs.Mapped.{AreMapped, IsMappedWalk, KeepsLead, Mapping, NamesStand, file_names, mapped_at, mapped_from, nowhere, one}
 use Rattle.sudoers_tree.specs.Targets.{targets}
 use Rattle.sudoers_tree.specs.Walk.{Site, Visit, Walked, and_then, depth_limit, enter, first_on, is_on, leads_to, nothing, opened, site, spot_of, taken, twice, unless_in, unless_missing, unless_on, visit, visit_each, walk_lines, walk_of}
-use Rattle.sudoers_tree.proofs.MappedLines.{Arrives, Extends, Follows, GoesAlong, IsFirstOf, IsNameFault, Outcome, along_both, arrived, arrives_then, enter_extends, enter_follows, entered_is_on, extends_both, extends_self, fault_before, fault_of_all, faulty, line_extends, line_follows, line_taken, stays_on, with_line}
+use Rattle.sudoers_tree.proofs.MappedLines.{Arrives, Extends, Follows, GoesAlong, IsFirstOf, Outcome, along_both, arrived, arrives_then, enter_extends, enter_follows, entered_is_on, extends_both, extends_self, fault_before, fault_of_all, faulty, line_extends, line_follows, line_taken, stays_on, with_line}
 use Rattle.sudoers_tree.proofs.Numbered.{behind_first, first_at}
 use Rattle.sudoers_tree.proofs.SameNames.{same_name, same_targets}
 use Rattle.sudoers_tree.proofs.Sound.{none_of_sound, sound_of_policy}
