@@ -1,10 +1,9 @@
 -- Loading files of which lines are changed.
-use Rattle.std.proofs.Common.{◌≡◌, ◌∙◌, ℕ, ◌+◌, nat_lt, Bool, true, false, if◌then◌else◌, List, [], ◌∷◌, ◌++◌, length, map, suc, Option, Some, None, Result, Ok, Err, refl, sym, ap}
+use Rattle.std.proofs.Common.{◌≡◌, ◌∙◌, ℕ, ◌+◌, nat_lt, Bool, true, false, if◌then◌else◌, List, [], ◌∷◌, ◌++◌, length, map, suc, Option, Some, None, Ok, Err, refl, ap}
 use Rattle.sudoers_tree.specs.declared.line_change.LineChange.{LineChange}
 use Rattle.sudoers_tree.specs.declared.load.NamedFile.{NamedFile}
-use Rattle.sudoers_tree.specs.declared.load_fault.LoadFault.{LoadFault}
-use Rattle.sudoers_tree.specs.declared.load_fault.LoadFault.TheVariants.{SameName, TooManyFiles}
-use Rattle.sudoers_tree.specs.ChangedFiles.{files_changed, files_changed_from, lines_changed}
+use Rattle.sudoers_tree.specs.declared.load_fault.LoadFault.TheVariants.{TooManyFiles}
+use Rattle.sudoers_tree.specs.ChangedFiles.{files_changed, files_changed_from}
 use Rattle.sudoers_tree.specs.Files.{FileReading}
 use Rattle.sudoers_tree.specs.Load.{Loaded, file_limit, file_of, files_of, first_repeated, is_among, load_of, loaded_over, readings, unless_same}
 use Rattle.sudoers_tree.specs.Walk.{and_then}

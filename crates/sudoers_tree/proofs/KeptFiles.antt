@@ -21,7 +21,7 @@ abbrev pub ReadsAre : Type 0
 ReadsAre = (lines : List (List ℕ)) → Reads lines (read_until [] lines).0 (read_until [] lines).1
 
 -- Lines of which none has a fault are all read.
-all_read : (lines : List (List ℕ)) (read : List Line) (fault : Option SyntaxFault) → Reads lines read fault → fault ≡ None → texts read ≡ lines
+pub all_read : (lines : List (List ℕ)) (read : List Line) (fault : Option SyntaxFault) → Reads lines read fault → fault ≡ None → texts read ≡ lines
 all_read lines read fault (whole ls says) none = refl
 all_read lines read fault (broken ls text more why says wrong) none = absurd cc
 

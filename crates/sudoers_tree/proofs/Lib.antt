@@ -11,6 +11,13 @@ pub mod ReadsLines
 pub mod FileRows
 pub mod FileChanges
 pub mod ChangedLoads
+pub mod SameNames
+pub mod CutFiles
+pub mod ChangedFileLines
+pub mod MappedLines
+pub mod MappedWalk
+pub mod MappedLoad
+pub mod ChangedWalk
 pub mod LineRows
 pub mod Placed
 pub mod WholeFiles

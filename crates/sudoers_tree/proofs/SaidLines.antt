@@ -1,5 +1,5 @@
 -- What each line of a policy says alone.
-use Rattle.std.proofs.Common.{◌≡◌, ℕ, true, List, [], ◌∷◌, Some, None, Result, Ok, Err, if◌then◌else◌, ap, ◌∙◌}
+use Rattle.std.proofs.Common.{◌≡◌, ℕ, true, List, [], ◌∷◌, Some, None, Result, Ok, Err, if◌then◌else◌, refl, ap, ap₂, subst, ◌∙◌}
 use Rattle.std.specs.List.{AllByRecursion}
 use Rattle.std.specs.Result.{result_ok}
 use Rattle.sudoers_text.specs.Cut.{cut_of, StandAlone}
@@ -39,3 +39,18 @@ all_said whole outcomes reading none (line ∷ lines) alone says = (
       (read_outcome reading none line.text line.node (outcome_of line.text) says.0 (outcomes line.text)),
   all_said whole outcomes reading none lines alone.1 says.1,
 )
+
+-- Lines that have the same texts are the same, if each says what is kept of it.
+pub one_of_texts : OneReading → (lines others : List Line) → AllByRecursion SaysSo lines → AllByRecursion SaysSo others
+    → texts lines ≡ texts others → lines ≡ others
+one_of_texts reading [] [] says say same = refl
+one_of_texts reading [] (other ∷ others) says say same = absurd cc
+one_of_texts reading (line ∷ lines) [] says say same = absurd cc
+one_of_texts reading (line ∷ lines) (other ∷ others) says say same =
+    let both : line.text ∷ texts lines ≡ other.text ∷ texts others = same in
+    let first : line.text ≡ other.text = cc in
+    let rest : texts lines ≡ texts others = cc in
+    let node : line.node ≡ other.node =
+    reading other.text line.node other.node (subst (λ text. ReadsLine text line.node) first says.0) say.0 in
+    let whole : line ≡ other = ap₂ (λ text node. let l : Line = record { text = text; node = node } in l) first node in
+    ap₂ (λ (l : Line) ls. l ∷ ls) whole (one_of_texts reading lines others says.1 say.1 rest)

@@ -36,7 +36,7 @@ ok_is w now is = cc
 -- ---- lines that are read
 
 -- Each line of these files says what is kept of it.
-abbrev AreSaid : List FileReading → Type 0
+abbrev pub AreSaid : List FileReading → Type 0
 AreSaid files = AllByRecursion (λ (file : FileReading). AllByRecursion SaysSo file.lines) files
 
 until_said : LinesAre → (before : List Line) (lines : List (List ℕ)) → AllByRecursion SaysSo (read_until before lines).0
@@ -67,7 +67,7 @@ readings_said are before read (file ∷ files) said is =
     by (Ok lines) e later = later lines e
     by (Err fault) e later = absurd cc
 
-lines_said : (files : List FileReading) (f : ℕ) → AreSaid files → AllByRecursion SaysSo (lines_of files f)
+pub lines_said : (files : List FileReading) (f : ℕ) → AreSaid files → AllByRecursion SaysSo (lines_of files f)
 lines_said [] f said = tt
 lines_said (file ∷ files) zero said = said.0
 lines_said (file ∷ files) (suc f) said = lines_said files f said.1
@@ -229,10 +229,14 @@ loaded_as files now is = by_count (nat_lt file_limit (length files)) refl is
     by_count true many e = absurd cc
     by_count false few e = by_name (first_repeated [] files) (ltb-false file_limit (length files) few) e
 
+-- Each line of loaded files says what is kept of it.
+pub loaded_said : LinesAre → (files : List NamedFile) (p : Loaded) → load_of files ≡ Ok p → AreSaid p.files
+loaded_said are files p is = readings_said are [] p.files files tt (loaded_as files p is).reads
+
 pub loaded_sound : LinesAre → (files : List NamedFile) (p : Loaded) → load_of files ≡ Ok p → IsSound p.files p.walk
 loaded_sound are files p is =
     let load = loaded_as files p is in
-    walk_sound p.files (readings_said are [] p.files files tt load.reads) p.walk load.walks
+    walk_sound p.files (loaded_said are files p is) p.walk load.walks
 
 -- The lines of the walk over loaded files are a walk.
 pub loaded_is_walk : LinesAre → (files : List NamedFile) (p : Loaded) → load_of files ≡ Ok p → IsWalk p.walk.lines

@@ -4,15 +4,11 @@ use Rattle.std.specs.List.{AllByRecursion}
 use Rattle.sudoers_text.specs.Cut.{cut_of}
 use Rattle.sudoers_text.specs.Whole.{IsLogicalLine}
 use Rattle.sudoers_text.specs.declared.fault.TextFault.{TextFault}
-use Rattle.sudoers_line.specs.Node.{Node}
-use Rattle.sudoers_line.specs.declared.fault.LineFault.{LineFault}
-use Rattle.sudoers_line.specs.declared.fault.LineFault.TheVariants as line_fault
-use Rattle.sudoers_line_reader.specs.Outcome.{outcome_of}
 use Rattle.sudoers_tree.specs.Line.{Line}
 use Rattle.sudoers_tree.specs.declared.load.NamedFile.{NamedFile}
 use Rattle.sudoers_tree.specs.declared.place.Spot.{Spot}
 use Rattle.sudoers_tree.specs.Policy.{texts}
-use Rattle.sudoers_tree.specs.Files.{FileReading, going_on, lines_of, read_until, reading_of}
+use Rattle.sudoers_tree.specs.Files.{FileReading, lines_of, reading_of}
 use Rattle.sudoers_tree.specs.Walk.{and_then}
 use Rattle.sudoers_tree.specs.Load.{Loaded, StandAt, cut_file, load_of, readings}
 use Rattle.sudoers_tree.proofs.FileRows.{read_all}

@@ -16,5 +16,6 @@ pub mod Single
 pub mod Index
 pub mod Changed
 pub mod ChangedFiles
+pub mod Mapped
 pub mod Line
 pub mod internal

@@ -8,7 +8,6 @@ use Rattle.sudoers_tree.specs.declared.line_change.LineChange.{LineChange}
 use Rattle.sudoers_tree.specs.declared.load_fault.LoadFault.{LoadFault}
 use Rattle.sudoers_tree.specs.declared.load_fault.LoadFault.TheVariants.{NoMemory}
 use Rattle.sudoers_tree.specs.ChangedFiles.{GoByFiles, changes_of, files_changed}
-use Rattle.sudoers_tree.specs.Files.{FileReading}
 use Rattle.sudoers_tree.specs.Load.{readings}
 use Rattle.sudoers_tree.specs.internal.Changing.{front_count}
 use Rattle.sudoers_tree.specs.internal.Files.{IsFile, reading_in}

@@ -1,12 +1,11 @@
-use Rattle.std.proofs.Common.{◌≡◌, ◌+◌, ◌++◌, ◌∷◌, [], ◌∙◌, ℕ, List, Ok, drop, get_or, map, sym, ap, ap₂}
+use Rattle.std.proofs.Common.{◌≡◌, ◌+◌, ◌++◌, ◌∷◌, [], ◌∙◌, ℕ, List, drop, map, sym, ap}
 use Rattle.std.proofs.lemmas.List.{map-append}
 use Rattle.std.proofs.lemmas.List.Elements.{All-push, All-same}
-use Rattle.sudoers_text.specs.Cut.{cut_of}
 use Rattle.sudoers_line_rows.specs.declared.rows.Tables.{Tables}
 use Rattle.sudoers_tree.specs.declared.files.FileRows.{FileRows}
 use Rattle.sudoers_tree.specs.declared.load.NamedFile.{NamedFile}
 use Rattle.sudoers_tree.specs.Files.{FileReading}
-use Rattle.sudoers_tree.specs.Load.{cut_file, readings}
+use Rattle.sudoers_tree.specs.Load.{readings}
 use Rattle.sudoers_tree.specs.Walk.{and_then}
 use Rattle.sudoers_tree.specs.internal.Files.{IsFile, reading_in}
 use Rattle.sudoers_tree.proofs.FileRows.{files_on, same_files}

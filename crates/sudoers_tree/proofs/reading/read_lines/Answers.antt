@@ -1,4 +1,4 @@
-use Rattle.std.proofs.Common.{◌≡◌, ◌+◌, ◌≤◌, ◌∷◌, [], ◌∙◌, ℕ, List, drop, length, map, Some, None, sym, ap, subst, rules, arith, append-nil}
+use Rattle.std.proofs.Common.{◌≡◌, ◌+◌, ◌≤◌, ◌∷◌, [], ℕ, List, drop, length, map, sym, ap, subst, rules, arith, append-nil}
 use Rattle.std.proofs.lemmas.List.{drop_all}
 use Rattle.sudoers_text.specs.Fault.{text_limit}
 use Rattle.sudoers_text.specs.Line.{join}

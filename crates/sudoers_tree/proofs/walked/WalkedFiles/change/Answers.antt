@@ -1,4 +1,4 @@
-use Rattle.std.proofs.Common.{◌≡◌, List, map, sym, ap₂, subst}
+use Rattle.std.proofs.Common.{List, sym, ap₂, subst}
 use Rattle.sudoers_line_rows.specs.declared.rows.Tables.{Tables}
 use Rattle.sudoers_line_rows.specs.Tables.{Grown}
 use Rattle.sudoers_line_rows.proofs.CutBack.{cut_grown}
@@ -6,7 +6,7 @@ use Rattle.sudoers_tree.specs.declared.walked.WalkedFiles.{WalkedFiles}
 use Rattle.sudoers_tree.specs.Definition.{definitions}
 use Rattle.sudoers_tree.specs.Files.{FileReading}
 use Rattle.sudoers_tree.specs.Index.{Indexes}
-use Rattle.sudoers_tree.specs.Line.{Line, line_in}
+use Rattle.sudoers_tree.specs.Line.{Line}
 use Rattle.sudoers_tree.specs.Load.{Loaded}
 use Rattle.sudoers_tree.proofs.FileRows.{files_on, same_files}
 use Rattle.sudoers_tree.proofs.TreeLines.{all_on, same_lines}
