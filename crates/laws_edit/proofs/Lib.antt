@@ -21,3 +21,5 @@ mod NameGone
 mod NameFree
 mod RenameOutcome
 mod RenameRefused
+mod RenamedMembers
+mod RenamedAnswers

@@ -105,7 +105,7 @@ undone_lines l k name fresh (line ∷ lines) says without =
     ap₂ (λ (x : List ℕ) (xs : Lines). x ∷ xs) (l.undone (alias_of k name) fresh line.text line.node says.0 without.0)
     (undone_lines l k name fresh lines says.1 without.1)
 
-not_mentioned : (k : Kind) (fresh : List ℕ) (policy : List Line) → nat_lt 0 (length (mentions k fresh policy)) ≡ false → mentions k fresh policy ≡ []
+pub not_mentioned : (k : Kind) (fresh : List ℕ) (policy : List Line) → nat_lt 0 (length (mentions k fresh policy)) ≡ false → mentions k fresh policy ≡ []
 not_mentioned k fresh policy none = nil_from_length (mentions k fresh policy) (omega (arith, ltb-false 0 (length (mentions k fresh policy)) none))
 
 -- ---- both ways
@@ -140,7 +140,7 @@ back_may l k name fresh policy f =
           ap₂ (λ (a : Bool) (n : ℕ). a || nat_lt 0 n) (lacked k name es (old_gone k name fresh ds es are apart))
           (ap length (mentions_gone k name fresh apart 0 policy));
       are =
-          renamed_texts l.ascend k fresh name now (says_renamed l (alias_of k name) fresh old f.new policy f.whole.walk.says)
+          renamed_texts l.ascend k fresh name now (says_renamed l.same (alias_of k name) fresh old f.new policy f.whole.walk.says)
           ∙ undone_lines l k name fresh policy f.whole.walk.says without;
     }
   where

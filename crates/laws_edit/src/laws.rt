@@ -1,7 +1,7 @@
 //! Laws of edits of policies. Each is the contract of a function that does nothing.
 
 ghost use Rattle.std.specs.List.{AllByRecursion};
-ghost use Rattle.std.specs.Prelude.{◌≡◌, ◌<◌, ◌≤◌, length, remove, slice_get, ℕ, List, Some, Ok, Err, true, false};
+ghost use Rattle.std.specs.Prelude.{◌≡◌, ◌<◌, ◌≤◌, ◌↔◌, length, remove, slice_get, ℕ, List, Option, Some, Ok, Err, true, false};
 ghost use Rattle.sudoers_text.specs.Line.{join};
 ghost use Rattle.sudoers_text.specs.Renamed.{IsDefinableName};
 ghost use Rattle.sudoers_line.specs.declared.node.Kind.{Kind as KindOf};
@@ -10,8 +10,15 @@ ghost use Rattle.sudoers_line.specs.Node as node_of;
 ghost use Rattle.sudoers_tree.specs.Definition.{place_of};
 ghost use Rattle.sudoers_tree.specs.Fault.{is_some};
 ghost use Rattle.sudoers_tree.specs.Line.{Line as LineOf};
-ghost use Rattle.sudoers_tree.specs.Policy.{SaysSo, texts};
+ghost use Rattle.sudoers_tree.specs.Policy.{IsWalk, SaysSo, texts};
 ghost use Rattle.sudoers_tree.specs.Reading.{read_of};
+ghost use Rattle.sudoers_check.specs.Chains.{HasReachableCycle};
+ghost use Rattle.sudoers_match_member.specs.declared.asked.Who.{Who as WhoOf};
+ghost use Rattle.sudoers_match_member.specs.declared.request.Request.{Request as RequestOf};
+ghost use Rattle.sudoers_match.specs.Answer.{Answer as AnswerOf, IsAnswer};
+ghost use Rattle.sudoers_match.specs.Default.{IsRunasDefault};
+ghost use Rattle.sudoers_match.specs.Groups.{AreHostGroups};
+ghost use Rattle.sudoers_match.specs.declared.groups.GroupPlace.{GroupPlace as GroupPlaceOf};
 ghost use Rattle.sudoers_edit_script.specs.declared.edit.Edit.TheVariants.{DropDef, Rename};
 ghost use Rattle.sudoers_edit.specs.Editing.{step as step_of};
 ghost use Rattle.sudoers_edit.specs.Renaming.{is_taken, renamed};
@@ -21,6 +28,7 @@ ghost use Rattle.laws_edit.specs.Renamed.{AreWithin, renamed_lines};
 use sudoers_edit::{Edit, EditFault};
 use sudoers_line::laws::{definitions_ascend, names_stand, renamed_line};
 use sudoers_line_reader::laws::outcome_is;
+use sudoers_match_list::laws::{alike_lists_lead_to_cycle, alike_lists_say_same};
 use sudoers_text::laws::{
     cut_is, line_alone_is_whole, line_alone_size, lines_of_join, lines_stand_alone, whole_line_is,
 };
@@ -159,4 +167,27 @@ pub fn rename_is_taken_back()
     read_is();
     one_outcome();
     policy_is_cut();
+}
+
+/// A rename of a defined alias changes no answer, if the new name is neither defined nor mentioned in the kind. Each user has the same
+/// runas_default, and rules at the same places. A reachable alias is cyclic in both policies, or in neither.
+pub fn rename_changes_no_answer()
+    ensures answer { (kind : KindOf) (name fresh : List ℕ) (lines : List LineOf) → is_some (place_of kind name lines) ≡ true
+        → is_taken kind fresh lines ≡ false
+        → (request : RequestOf) (answer : Option AnswerOf)
+        → IsAnswer lines request answer ↔ IsAnswer (renamed_lines kind name fresh lines) request answer }
+    ensures default { (kind : KindOf) (name fresh : List ℕ) (lines : List LineOf) → is_some (place_of kind name lines) ≡ true
+        → is_taken kind fresh lines ≡ false
+        → (who : WhoOf) (user : List ℕ) → IsRunasDefault lines who user ↔ IsRunasDefault (renamed_lines kind name fresh lines) who user }
+    ensures groups { (kind : KindOf) (name fresh : List ℕ) (lines : List LineOf) → is_some (place_of kind name lines) ≡ true
+        → is_taken kind fresh lines ≡ false
+        → (who : WhoOf) (places : List GroupPlaceOf)
+        → AreHostGroups lines who places ↔ AreHostGroups (renamed_lines kind name fresh lines) who places }
+    ensures cycle { (kind : KindOf) (name fresh : List ℕ) (lines : List LineOf) → is_some (place_of kind name lines) ≡ true
+        → is_taken kind fresh lines ≡ false → IsWalk lines → IsDefinableName fresh
+        → HasReachableCycle lines ↔ HasReachableCycle (renamed_lines kind name fresh lines) }
+{
+    renamed_line();
+    alike_lists_say_same();
+    alike_lists_lead_to_cycle();
 }

@@ -31,7 +31,6 @@ mod Written
 mod Printed
 mod Reached
 mod Cycles
-mod Defined
 mod SecondExpansion
 mod Matching
 mod Left
