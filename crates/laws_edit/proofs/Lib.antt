@@ -3,6 +3,9 @@ mod Whole
 mod WithoutLine
 mod OwnedBytes
 mod DropDef
+mod SameMembers
+mod LeftDefinitions
+mod PruneLeaves
 mod PruneSplice
 mod DropLaw
 mod RunEnds

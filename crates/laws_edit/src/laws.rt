@@ -25,9 +25,11 @@ ghost use Rattle.sudoers_edit.specs.Renaming.{is_taken, renamed};
 ghost use Rattle.sudoers_edit.specs.declared.fault.EditFault.{EditFault as EditFaultOf};
 ghost use Rattle.laws_edit.specs.Renamed.{AreWithin, renamed_lines};
 
+use sudoers_check::laws::chains_are;
 use sudoers_edit::{Edit, EditFault};
 use sudoers_line::laws::{definitions_ascend, names_stand, renamed_line};
 use sudoers_line_reader::laws::outcome_is;
+use sudoers_match::laws::unreachable_definitions_change_no_answer;
 use sudoers_match_list::laws::{alike_lists_lead_to_cycle, alike_lists_say_same};
 use sudoers_text::laws::{
     cut_is, line_alone_is_whole, line_alone_size, lines_of_join, lines_stand_alone, whole_line_is,
@@ -86,6 +88,7 @@ pub fn prune_is_refused_for_a_splice_alone()
     read_is();
     one_outcome();
     policy_is_cut();
+    chains_are();
 }
 
 /// A policy with another name for an alias that it defines is a policy, while lines and text are within the limits. The new name may
@@ -190,4 +193,33 @@ pub fn rename_changes_no_answer()
     renamed_line();
     alike_lists_say_same();
     alike_lists_lead_to_cycle();
+}
+
+/// A prune changes no answer. Each user has the same runas_default, and rules at the same places. A reachable alias is cyclic before and
+/// after it, or in neither policy.
+pub fn prune_changes_no_answer()
+    ensures answer { (policy next : List LineOf) (new : List (List ℕ)) → read_of (join (texts policy)) ≡ Ok policy
+        → step_of Edit.Prune (texts policy) ≡ Ok new → read_of (join new) ≡ Ok next → (request : RequestOf) (answer : Option AnswerOf)
+        → IsAnswer policy request answer ↔ IsAnswer next request answer }
+    ensures default { (policy next : List LineOf) (new : List (List ℕ)) → read_of (join (texts policy)) ≡ Ok policy
+        → step_of Edit.Prune (texts policy) ≡ Ok new → read_of (join new) ≡ Ok next → (who : WhoOf) (user : List ℕ)
+        → IsRunasDefault policy who user ↔ IsRunasDefault next who user }
+    ensures groups { (policy next : List LineOf) (new : List (List ℕ)) → read_of (join (texts policy)) ≡ Ok policy
+        → step_of Edit.Prune (texts policy) ≡ Ok new → read_of (join new) ≡ Ok next → (who : WhoOf) (places : List GroupPlaceOf)
+        → AreHostGroups policy who places ↔ AreHostGroups next who places }
+    ensures cycle { (policy next : List LineOf) (new : List (List ℕ)) → read_of (join (texts policy)) ≡ Ok policy
+        → step_of Edit.Prune (texts policy) ≡ Ok new → read_of (join new) ≡ Ok next → HasReachableCycle policy ↔ HasReachableCycle next }
+{
+    cut_is();
+    lines_of_join();
+    lines_stand_alone();
+    line_alone_size();
+    line_alone_is_whole();
+    outcome_is();
+    definitions_ascend();
+    read_is();
+    one_outcome();
+    policy_is_cut();
+    chains_are();
+    unreachable_definitions_change_no_answer();
 }

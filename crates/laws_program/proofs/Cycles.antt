@@ -9,7 +9,7 @@ use Rattle.sudoers_match_list.proofs.Defined.{all_has}
 use Rattle.laws_program.proofs.Flattened.{definitions_kept, expanded_line}
 use Rattle.laws_program.proofs.Kept.{written_in, kept, kept_definitions, over_lines, all_kept, none_of_defs}
 use Rattle.laws_program.proofs.RootsAlike.{Name}
-use Rattle.sudoers_match.proofs.Met.{left_of, right_of, of_has}
+use Rattle.sudoers_match.proofs.MetMembers.{left_of, right_of, of_has}
 use Rattle.laws_program.proofs.Reached.{node_met}
 
 -- ---- what the kept lines mention

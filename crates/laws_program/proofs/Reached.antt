@@ -7,7 +7,7 @@ use Rattle.laws_program.proofs.Common.{expanded_command, expanded_group, expande
 use Rattle.std.specs.Option.{option_map}
 use Rattle.sudoers_line.specs.Node as node
 use Rattle.laws_program.proofs.RootsAlike.{all_runas}
-use Rattle.sudoers_match.proofs.Met.{left_of, right_of, IsMet, AreMet, names_met, met_names, of_alias}
+use Rattle.sudoers_match.proofs.MetMembers.{left_of, right_of, IsMet, AreMet, names_met, met_names, of_alias}
 
 module _ (lines : List Line) where
   -- ---- lists with their aliases replaced

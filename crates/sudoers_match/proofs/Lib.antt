@@ -15,7 +15,7 @@ pub mod OneAnswer
 pub mod GroupsAlike
 pub mod OneListing
 pub mod OneHead
-pub mod Met
+pub mod MetMembers
 pub mod SpecsEqual
 pub mod Counterparts
 pub mod CounterpartsAnswer

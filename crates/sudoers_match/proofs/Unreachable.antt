@@ -8,16 +8,15 @@ use Rattle.sudoers_line.specs.declared.node.Atom.TheVariants as atom
 use Rattle.sudoers_line.specs.Node.{Member, RunasSpec, CmdSpec, HostGroup, Scope, Node}
 use Rattle.sudoers_line.specs.Node as node
 use Rattle.sudoers_tree.specs.Line.{Line}
-use Rattle.sudoers_tree.specs.Definition.{members_of}
 use Rattle.sudoers_tree.specs.Mention.{of_runas, in_group, in_scope}
 use Rattle.sudoers_check.specs.Chain.{Has, here}
 use Rattle.sudoers_check.specs.Chains.{name_in, names_in, IsReachable}
 use Rattle.sudoers_check.proofs.Named.{kind_itself}
 use Rattle.sudoers_match_list.specs.Flat.{alias_of}
-use Rattle.sudoers_match_list.specs.Alike.{AllAlike, IsCounterpart, AreDefinedAlike, KeepsAliases, as_it_was}
-use Rattle.sudoers_match.specs.Beside.{without_definitions}
+use Rattle.sudoers_match_list.specs.Alike.{AllAlike, IsCounterpart, IsRewritten, AreDefinedAlike, AreDefinedSame, KeepsAliases, as_it_was}
+use Rattle.sudoers_match.specs.Beside.{without_definitions, KeepsReachable}
 use Rattle.sudoers_match.proofs.Counterparts.{Standing, AreCounterparts, AreRunasCounterparts, IsCommandCounterpart, IsGroupCounterpart, AreScopeCounterparts, IsLineCounterpart, rooted_in, root_members, root_names, roots_beside}
-use Rattle.sudoers_match.proofs.Met.{left_of, right_of, of_has, IsMet, AreMet, met_names, of_alias}
+use Rattle.sudoers_match.proofs.MetMembers.{left_of, right_of, of_has, IsMet, AreMet, met_names, of_alias}
 
 -- An atom stands for itself, if chains of mentions lead to the alias that it names.
 abbrev pub StandsForItself : List Line → Standing
@@ -105,29 +104,35 @@ module _ (lines : List Line) where
 
 -- ---- aliases to which chains of mentions lead
 
-module _ (lines others : List Line) (keep : (k : Kind) (name : List ℕ) → IsReachable k lines name → members_of k name others ≡ members_of k name lines) where
-  same_alias : (k : Kind) (a : Atom) → AllByRecursion (IsReachable k lines) (name_in a) → alias_of k others a ≡ alias_of k lines a
-  same_alias k (atom.Alias name) met = keep k name met.0
-  same_alias k a met = refl
+module _ (lines others : List Line) (keep : KeepsReachable lines others) where
+  same_alias : (k : Kind) (a : Atom) → AllByRecursion (IsReachable k lines) (name_in a) → AreDefinedSame (alias_of k lines a) (alias_of k others a)
+  same_alias k (atom.Alias name) met = keep.members k name met.0
+  same_alias k a met = tt
 
-  alias_itself : (k : Kind) (a : Atom) → AllByRecursion (IsReachable k lines) (name_in a)
+  members_stand : (k : Kind) (ms ns : List Member) → AllAlike (IsRewritten as_it_was) ms ns → AreMet lines k ms → AreCounterparts (StandsForItself lines) k ms ns
+  members_stand k [] [] same met = tt
+  members_stand k [] (n ∷ ns) same met = absurd same
+  members_stand k (m ∷ ms) [] same met = absurd same
+  members_stand k (m ∷ ms) (n ∷ ns) same met =
+      (record { negated = same.0.negated; digests = same.0.digests; atom = (same.0.atom, met.0) }, members_stand k ms ns same.1 met.1)
+
+  alias_stands : (k : Kind) (a : Atom) → AllByRecursion (IsReachable k lines) (name_in a)
       → AreDefinedAlike (StandsForItself lines k) (alias_of k lines a) (alias_of k others a)
-  alias_itself k a met =
-      subst (AreDefinedAlike (StandsForItself lines k) (alias_of k lines a)) (sym (same_alias k a met)) (by (alias_of k lines a) refl)
+  alias_stands k a met = by (alias_of k lines a) (alias_of k others a) refl (same_alias k a met)
     where
-      by : (o : Option (List Member)) → alias_of k lines a ≡ o → AreDefinedAlike (StandsForItself lines k) o o
-      by None e = tt
-      by (Some ms) e = themselves lines k ms (of_alias lines k a met ms e)
+      by : (o p : Option (List Member)) → alias_of k lines a ≡ o → AreDefinedSame o p → AreDefinedAlike (StandsForItself lines k) o p
+      by None None e same = tt
+      by None (Some ns) e same = absurd same
+      by (Some ms) None e same = absurd same
+      by (Some ms) (Some ns) e same = members_stand k ms ns same (of_alias lines k a met ms e)
 
-  -- Each alias that is met keeps its members.
+  -- Each alias to which chains of mentions lead keeps its members.
   pub keeps_reachable : (k : Kind) → KeepsAliases (StandsForItself lines k) as_it_was k lines others
   keeps_reachable k = record {
-    defined = λ a b is. subst (λ (c : Atom). AreDefinedAlike (StandsForItself lines k) (alias_of k lines a) (alias_of k others c)) (sym is.0) (alias_itself k a is.1);
+    defined = λ a b is. subst (λ (c : Atom). AreDefinedAlike (StandsForItself lines k) (alias_of k lines a) (alias_of k others c)) (sym is.0) (alias_stands k a is.1);
     written = λ a b is e. is.0;
   }
 
   -- Lines that are the same, definitions aside, stand for each other.
-  pub lines_stand : without_definitions others ≡ without_definitions lines
-      → AllAlike (IsLineCounterpart (StandsForItself lines)) (without_definitions lines) (without_definitions others)
-  lines_stand same =
-      subst (AllAlike (IsLineCounterpart (StandsForItself lines)) (without_definitions lines)) (sym same) (lines_themselves lines)
+  pub lines_stand : AllAlike (IsLineCounterpart (StandsForItself lines)) (without_definitions lines) (without_definitions others)
+  lines_stand = subst (AllAlike (IsLineCounterpart (StandsForItself lines)) (without_definitions lines)) (sym keep.beside) (lines_themselves lines)

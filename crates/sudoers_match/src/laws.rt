@@ -1,10 +1,8 @@
 //! Laws of rows, answers, defaults and listings. Each is the contract of a function that does nothing.
 
 ghost use Rattle.std.specs.Prelude.{◌≡◌, ◌↔◌, ℕ, List, Option};
-ghost use Rattle.sudoers_check.specs.Chains.{HasReachableCycle, IsReachable};
+ghost use Rattle.sudoers_check.specs.Chains.{HasReachableCycle};
 ghost use Rattle.sudoers_line.specs.declared.node.Atom.{Atom as AtomOf};
-ghost use Rattle.sudoers_line.specs.declared.node.Kind.{Kind as KindOf};
-ghost use Rattle.sudoers_tree.specs.Definition.{members_of};
 ghost use Rattle.sudoers_tree.specs.Line.{Line as LineOf};
 ghost use Rattle.sudoers_tree.specs.Policy.{IsWalk};
 ghost use Rattle.sudoers_match_member.specs.declared.asked.Who.{Who as WhoOf};
@@ -12,7 +10,7 @@ ghost use Rattle.sudoers_match_list.specs.Alike.{AllAlike};
 ghost use Rattle.sudoers_match_member.specs.declared.request.Request.{Request as RequestOf};
 ghost use Rattle.sudoers_match.specs.Alike.{AreDefaultsAlike, AreRowsAlike, AreRowsEqual, AreSpecsAlike, MatchesSame, SaysSame};
 ghost use Rattle.sudoers_match.specs.Answer.{Answer as AnswerOf, Answers, Fits, IsAnswer};
-ghost use Rattle.sudoers_match.specs.Beside.{without_definitions};
+ghost use Rattle.sudoers_match.specs.Beside.{KeepsReachable};
 ghost use Rattle.sudoers_match.specs.Default.{IsRunasDefault};
 ghost use Rattle.sudoers_match.specs.Groups.{AreHostGroups};
 ghost use Rattle.sudoers_match.specs.Heads.{Head as HeadOf};
@@ -88,21 +86,16 @@ pub fn alike_rows_answer()
     alike_lists_say_same();
 }
 
-/// A definition to which no chain of mentions leads changes no answer, since two such policies answer the same. Their lines are the same
-/// but for definitions. Each alias has the same members in both, if a chain of mentions leads to it in the first. So each user has the
-/// same runas_default, and rules at the same places. A reachable alias is cyclic in both, or in neither.
+/// Definitions to which no chain of mentions leads change no answer, so a policy answers the same without them. A user has the same
+/// runas_default, and rules at the same places. A reachable alias is cyclic in both policies, or in neither.
 pub fn unreachable_definitions_change_no_answer()
-    ensures answer { (lines others : List LineOf) → without_definitions others ≡ without_definitions lines
-        → ((kind : KindOf) (name : List ℕ) → IsReachable kind lines name → members_of kind name others ≡ members_of kind name lines)
-        → (request : RequestOf) (answer : Option AnswerOf) → IsAnswer lines request answer ↔ IsAnswer others request answer }
-    ensures default { (lines others : List LineOf) → without_definitions others ≡ without_definitions lines
-        → ((kind : KindOf) (name : List ℕ) → IsReachable kind lines name → members_of kind name others ≡ members_of kind name lines)
-        → (who : WhoOf) (name : List ℕ) → IsRunasDefault lines who name ↔ IsRunasDefault others who name }
-    ensures groups { (lines others : List LineOf) → without_definitions others ≡ without_definitions lines
-        → ((kind : KindOf) (name : List ℕ) → IsReachable kind lines name → members_of kind name others ≡ members_of kind name lines)
-        → (who : WhoOf) (places : List GroupPlaceOf) → AreHostGroups lines who places ↔ AreHostGroups others who places }
-    ensures cycle { (lines others : List LineOf) → IsWalk lines → IsWalk others → without_definitions others ≡ without_definitions lines
-        → ((kind : KindOf) (name : List ℕ) → IsReachable kind lines name → members_of kind name others ≡ members_of kind name lines)
+    ensures answer { (lines others : List LineOf) → KeepsReachable lines others → (request : RequestOf) (answer : Option AnswerOf)
+        → IsAnswer lines request answer ↔ IsAnswer others request answer }
+    ensures default { (lines others : List LineOf) → KeepsReachable lines others → (who : WhoOf) (name : List ℕ)
+        → IsRunasDefault lines who name ↔ IsRunasDefault others who name }
+    ensures groups { (lines others : List LineOf) → KeepsReachable lines others → (who : WhoOf) (places : List GroupPlaceOf)
+        → AreHostGroups lines who places ↔ AreHostGroups others who places }
+    ensures cycle { (lines others : List LineOf) → KeepsReachable lines others → IsWalk lines → IsWalk others
         → HasReachableCycle lines ↔ HasReachableCycle others }
 {
     alike_lists_say_same();

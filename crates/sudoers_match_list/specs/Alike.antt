@@ -48,6 +48,10 @@ IsWritten write a b = b ≡ write a
 abbrev pub IsRewritten : (Atom → Atom) → Member → Member → Type 0
 IsRewritten write m n = IsCounterpart (IsWritten write) m n
 
+-- Both are defined and have the same members, which may stand elsewhere; or neither is defined.
+abbrev pub AreDefinedSame : Option (List Member) → Option (List Member) → Type 0
+AreDefinedSame o p = AreDefinedAlike (IsWritten as_it_was) o p
+
 -- Each atom names in the one policy what it names in the other.
 abbrev pub AreAliasesAlike : (Atom → Atom) → Kind → List Line → List Line → Type 0
 AreAliasesAlike write k lines others = (a : Atom) → AreDefinedAlike (IsWritten write) (alias_of k lines a) (alias_of k others (write a))

@@ -6,16 +6,16 @@ use Rattle.sudoers_match.proofs.laws.unreachable_definitions_change_no_answer.Go
 
 pub returns : goal.returns
 returns c = record {
-  answer = λ lines others same keep.
-      same_answer (StandsForItself lines) as_it_was lines others (keeps_reachable lines others keep) (lines_stand lines others keep same)
+  answer = λ lines others keep.
+      same_answer (StandsForItself lines) as_it_was lines others (keeps_reachable lines others keep) (lines_stand lines others keep)
       c.alike_lists_say_same.ensures same_as_it_was;
-  default = λ lines others same keep.
-      same_runas_default (StandsForItself lines) as_it_was lines others (keeps_reachable lines others keep) (lines_stand lines others keep same)
+  default = λ lines others keep.
+      same_runas_default (StandsForItself lines) as_it_was lines others (keeps_reachable lines others keep) (lines_stand lines others keep)
       c.alike_lists_say_same.ensures same_as_it_was;
-  groups = λ lines others same keep.
-      same_host_groups (StandsForItself lines) as_it_was lines others (keeps_reachable lines others keep) (lines_stand lines others keep same)
+  groups = λ lines others keep.
+      same_host_groups (StandsForItself lines) as_it_was lines others (keeps_reachable lines others keep) (lines_stand lines others keep)
       c.alike_lists_say_same.ensures same_as_it_was;
-  cycle = λ lines others here there same keep.
-      same_cycle (StandsForItself lines) as_it_was lines others (keeps_reachable lines others keep) (lines_stand lines others keep same)
-      c.alike_lists_lead_to_cycle.ensures here there;
+  cycle = λ lines others keep.
+      same_cycle (StandsForItself lines) as_it_was lines others (keeps_reachable lines others keep) (lines_stand lines others keep)
+      c.alike_lists_lead_to_cycle.ensures;
 }
