@@ -55,7 +55,7 @@ module _ (k : Kind) (name fresh : List ℕ) where
       by : (b : Bool) → defines j word d ≡ b
           → AreDefinedAlike (StandsRenamed k name fresh j) (members_in (defined j word ds)) (members_in (defined j (other_name k name fresh j word) es))
           → AreDefinedAlike (StandsRenamed k name fresh j) (members_in (if b then Some d else defined j word ds))
-              (members_in (if b then Some e else defined j (other_name k name fresh j word) es))
+          (members_in (if b then Some e else defined j (other_name k name fresh j word) es))
       by true is more =
           subst (λ (i : Kind). AllAlike (IsCounterpart (StandsRenamed k name fresh i)) d.def.members e.def.members)
           (sym (kind_like j d.kind (and_parts (is_kind j d.kind) (bytes_eq word d.def.name) is).0)) all.0.members

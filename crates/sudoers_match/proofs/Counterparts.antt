@@ -1,5 +1,5 @@
 -- Policies whose lines are counterparts, the definitions of aliases aside: the members of their lists stand for each other.
-use Rattle.std.proofs.Common.{◌≡◌, ◌↔◌, ℕ, Bool, true, false, List, [], ◌∷◌, ◌++◌, Option, Some, None, map, refl, sym, ap, ap₂, subst, ◌∙◌, if◌then◌else◌}
+use Rattle.std.proofs.Common.{◌≡◌, ℕ, Bool, true, false, List, [], ◌∷◌, ◌++◌, Option, Some, None, map, refl, sym, ap, ap₂, subst, ◌∙◌, if◌then◌else◌}
 use Rattle.std.specs.List.{cons_option, filter_map, flat_map}
 use Rattle.std.specs.Option.{option_or}
 use Rattle.std.proofs.lemmas.List.Concat.{flat_map-append}
@@ -17,11 +17,11 @@ use Rattle.sudoers_check.proofs.Named.{same_kind}
 use Rattle.sudoers_match_list.specs.Alike.{AllAlike, AreAlike, IsCounterpart, KeepsAliases}
 use Rattle.sudoers_match_list.specs.Cycle.{LeadsToCycle}
 use Rattle.sudoers_match_list.proofs.Alike.{counterparts_alike}
-use Rattle.sudoers_match.specs.Alike.{AreCountedAlike, AreScopesAlike, AreSettingsAlike, AreDefaultsAlike, AreRunasListsAlike, AreRunasAlike, AreHeadsAlike, AreCommandsAlike, AreGroupsEqual, AreSpecsEqual}
+use Rattle.sudoers_match.specs.Alike.{AreCountedAlike, AreScopesAlike, AreSettingsAlike, AreDefaultsAlike, AreRunasListsAlike, AreRunasAlike, AreCommandsAlike, AreGroupsEqual, AreSpecsEqual}
 use Rattle.sudoers_match.specs.Beside.{unless_alias, without_definitions}
 use Rattle.sudoers_match.specs.Default.{with_scope, settings_in, defaults_in, defaults_of}
 use Rattle.sudoers_match.specs.Heads.{Head, no_head, inherit, filled, tags_of}
-use Rattle.sudoers_match.specs.Specs.{Spec, spec_of, spec_in, specs_of}
+use Rattle.sudoers_match.specs.Specs.{Spec, spec_in, specs_of}
 use Rattle.sudoers_match.specs.Values.{values_of}
 use Rattle.sudoers_match.proofs.Alike.{all_to, all_alike_append}
 
@@ -147,13 +147,16 @@ roots_beside k lines = made_beside (rooted_in k) (λ j defs. refl) lines
 
 -- A reachable alias is cyclic exactly if these members of some kind lead to a cyclic alias.
 pub cycle_leads : (lines : List Line) → HasReachableCycle lines → (k : Kind) × LeadsToCycle k lines (root_members k lines)
-cycle_leads lines h = (h.alias.kind, record {
-  alias = h.alias;
-  stands = h.stands;
-  of_kind = refl;
-  reached = subst (λ names. Chain (Joins h.alias.kind (definitions lines)) (Has names) h.alias.def.name) (root_names h.alias.kind lines) h.reached;
-  cyclic = h.cyclic;
-})
+cycle_leads lines h = (
+  h.alias.kind,
+  record {
+    alias = h.alias;
+    stands = h.stands;
+    of_kind = refl;
+    reached = subst (λ names. Chain (Joins h.alias.kind (definitions lines)) (Has names) h.alias.def.name) (root_names h.alias.kind lines) h.reached;
+    cyclic = h.cyclic;
+  },
+)
 
 pub leads_cycle : (lines : List Line) (k : Kind) → LeadsToCycle k lines (root_members k lines) → HasReachableCycle lines
 leads_cycle lines k l = record {
@@ -274,10 +277,13 @@ module _ (S : Standing) where
 
     first_specs : (n m : Node) → IsLineCounterpart S n m → (ss ts : List Spec) → AllAlike (AreSpecsEqual write lines others) ss ts
         → AllAlike (AreSpecsEqual write lines others) (cons_option (spec_in n) ss) (cons_option (spec_in m) ts)
-    first_specs (node.Spec users groups) (node.Spec peers places) same ss ts all = (record {
-      users = lists User users peers same.0;
-      groups = all_to (IsGroupCounterpart S) (AreGroupsEqual write lines others) group_alike groups places same.1;
-    }, all)
+    first_specs (node.Spec users groups) (node.Spec peers places) same ss ts all = (
+      record {
+        users = lists User users peers same.0;
+        groups = all_to (IsGroupCounterpart S) (AreGroupsEqual write lines others) group_alike groups places same.1;
+      },
+      all,
+    )
     first_specs (node.Defaults scope params) (node.Defaults other settings) same ss ts all = all
     first_specs (node.Alias k defs) (node.Alias j peers) same ss ts all = all
     first_specs node.Blank node.Blank same ss ts all = all

@@ -1,6 +1,5 @@
 -- Policies whose user specifications say the same, command by command, have equal rows, and so the same answers.
-use Rattle.std.proofs.Common.{◌≡◌, ◌↔◌, ℕ, List, [], ◌∷◌, Option, Some, None, map, refl, sym, ap, subst, ◌∙◌}
-use Rattle.std.specs.Option.{option_map}
+use Rattle.std.proofs.Common.{◌↔◌, ℕ, List, [], ◌∷◌, Option, Some, None, map, refl, sym, ap, subst, ◌∙◌}
 use Rattle.sudoers_line.specs.declared.node.Kind.TheVariants.{User, Host}
 use Rattle.sudoers_line.specs.declared.node.Atom.{Atom}
 use Rattle.sudoers_line.specs.Node.{HostGroup, Member}
@@ -11,7 +10,7 @@ use Rattle.sudoers_match_list.specs.Alike.{AllAlike, AreAlike, rewritten}
 use Rattle.sudoers_match_list.specs.Flat.{Signed}
 use Rattle.sudoers_match.specs.declared.groups.GroupPlace.{GroupPlace}
 use Rattle.sudoers_match.specs.Alike.{MatchesSame, AreDefaultsAlike, AreGroupsAlike, AreSpecsAlike, AreHeadsAlike, AreCommandsAlike, AreGroupsEqual, AreSpecsEqual, AreRowsEqual}
-use Rattle.sudoers_match.specs.Answer.{Answer, Fits, told, IsAnswer}
+use Rattle.sudoers_match.specs.Answer.{Answer, Fits, IsAnswer}
 use Rattle.sudoers_match.specs.Groups.{AreHostGroups}
 use Rattle.sudoers_match.specs.Heads.{Head, no_head, filled}
 use Rattle.sudoers_match.specs.Rows.{Row, row_of, CommandRows, GroupRows, SpecRows, AreRows}
