@@ -262,8 +262,10 @@ lines_go l ends law policy front (line ∷ lines) n count whole among =
         → Goes policy (front ++ line ∷ lines) front (and_then r (removed_all (removals_in policy n line)))
     by r (inl refused) = inl (ap (λ r. and_then r (removed_all (removals_in policy n line))) refused)
     by r (inr leads) =
-        subst (λ r. Goes policy (front ++ line ∷ lines) front (and_then r (removed_all (removals_in policy n line)))) (sym (leads.is ∙ ap (λ ls. Ok (texts ls)) (same leads.behind)))
-        (goes_on policy (front ++ line ∷ lines) (front ++ line ∷ leads.behind) front (removed_all (removals_in policy n line) (texts (front ++ line ∷ leads.behind)))
+        subst (λ r. Goes policy (front ++ line ∷ lines) front (and_then r (removed_all (removals_in policy n line))))
+        (sym (leads.is ∙ ap (λ ls. Ok (texts ls)) (same leads.behind)))
+        (goes_on policy (front ++ line ∷ lines) (front ++ line ∷ leads.behind) front
+        (removed_all (removals_in policy n line) (texts (front ++ line ∷ leads.behind)))
         (subst (AreLeft (IsIdle policy) (front ++ line ∷ lines)) (same leads.behind) leads.left)
         (subst (λ m. Goes policy (front ++ line ∷ leads.behind) front (removed_all (removals_in policy m line) (texts (front ++ line ∷ leads.behind)))) count
         (line_goes l ends law policy front line leads.behind (subst IsWhole (same leads.behind) leads.whole) here)))

@@ -42,13 +42,15 @@ module _ (k : Kind) (name fresh : List ℕ) where
   Stands j a b = StandsRenamed k name fresh j a b
 
   -- a name with its new name has the members that it had
-  defined_stands : (j : Kind) (word : List ℕ) → (is_kind k j && bytes_eq fresh word) ≡ false → (ds es : List Definition) → AllAlike (IsRenamedDef k name fresh) ds es
+  defined_stands : (j : Kind) (word : List ℕ) → (is_kind k j && bytes_eq fresh word) ≡ false → (ds es : List Definition)
+      → AllAlike (IsRenamedDef k name fresh) ds es
       → AreDefinedAlike (Stands j) (members_in (defined j word ds)) (members_in (defined j (other_name k name fresh j word) es))
   defined_stands j word free [] [] all = tt
   defined_stands j word free [] (e ∷ es) all = absurd all
   defined_stands j word free (d ∷ ds) [] all = absurd all
   defined_stands j word free (d ∷ ds) (e ∷ es) all =
-      subst (λ (b : Bool). AreDefinedAlike (Stands j) (members_in (defined j word (d ∷ ds))) (members_in (if b then Some e else defined j (other_name k name fresh j word) es)))
+      subst (λ (b : Bool). AreDefinedAlike (Stands j) (members_in (defined j word (d ∷ ds)))
+      (members_in (if b then Some e else defined j (other_name k name fresh j word) es)))
       (sym (same_defines k name fresh j word d e all.0.kind all.0.called free all.0.lacks))
       (by (defines j word d) refl (defined_stands j word free ds es all.1))
     where

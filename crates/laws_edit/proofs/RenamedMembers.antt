@@ -70,7 +70,8 @@ module _ (k : Kind) (name fresh : List ℕ) where
         let p = no_parts (runas_option_starts (alias_of k fresh) c.runas) (member_starts (alias_of k fresh) Cmnd c.member) h in
         record { runas = runas_stands c.runas p.0; options = refl; tags = refl; member = member_stands Cmnd c.member p.1 }
 
-    commands_stand : (cs : List CmdSpec) → flat_map (command_starts (alias_of k fresh)) cs ≡ [] → AllAlike (IsCommandCounterpart Stands) cs (map (renamed_command r) cs)
+    commands_stand : (cs : List CmdSpec) → flat_map (command_starts (alias_of k fresh)) cs ≡ []
+        → AllAlike (IsCommandCounterpart Stands) cs (map (renamed_command r) cs)
     commands_stand [] h = tt
     commands_stand (c ∷ cs) h =
         let p = no_parts (command_starts (alias_of k fresh) c) (flat_map (command_starts (alias_of k fresh)) cs) h in
@@ -81,7 +82,8 @@ module _ (k : Kind) (name fresh : List ℕ) where
         let p = no_parts (starts_among (alias_of k fresh) Host g.hosts) (flat_map (command_starts (alias_of k fresh)) g.commands) h in
         record { hosts = list_stands Host g.hosts p.0; commands = commands_stand g.commands p.1 }
 
-    groups_stand : (gs : List HostGroup) → flat_map (group_starts (alias_of k fresh)) gs ≡ [] → AllAlike (IsGroupCounterpart Stands) gs (map (renamed_group r) gs)
+    groups_stand : (gs : List HostGroup) → flat_map (group_starts (alias_of k fresh)) gs ≡ []
+        → AllAlike (IsGroupCounterpart Stands) gs (map (renamed_group r) gs)
     groups_stand [] h = tt
     groups_stand (g ∷ gs) h =
         let p = no_parts (group_starts (alias_of k fresh) g) (flat_map (group_starts (alias_of k fresh)) gs) h in

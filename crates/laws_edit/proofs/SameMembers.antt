@@ -40,13 +40,13 @@ digest_same a b h =
     the_digest : DigestKind → List ℕ → Digest
     the_digest kind text = record { kind = kind; text = text }
 
-digests_same : (as bs : List Digest) → are_alike is_same_digest as bs ≡ true → as ≡ bs
+digests_same : (ds es : List Digest) → are_alike is_same_digest ds es ≡ true → ds ≡ es
 digests_same [] [] h = refl
-digests_same [] (b ∷ bs) h = absurd cc
-digests_same (a ∷ as) [] h = absurd cc
-digests_same (a ∷ as) (b ∷ bs) h =
-    let p = and_parts (is_same_digest a b) (are_alike is_same_digest as bs) h in
-    ap₂ (λ (d : Digest) (ds : List Digest). d ∷ ds) (digest_same a b p.0) (digests_same as bs p.1)
+digests_same [] (e ∷ es) h = absurd cc
+digests_same (d ∷ ds) [] h = absurd cc
+digests_same (d ∷ ds) (e ∷ es) h =
+    let p = and_parts (is_same_digest d e) (are_alike is_same_digest ds es) h in
+    ap₂ (λ (x : Digest) (xs : List Digest). x ∷ xs) (digest_same d e p.0) (digests_same ds es p.1)
 
 address_same : (a b : Address) → (a.number == b.number) ≡ true → a ≡ b
 address_same a b h = ap (λ n. the_address n) (eqb-true a.number b.number h)
