@@ -8,7 +8,7 @@ ghost use Rattle.sudoers_tree.specs.Policy.{IsWalk};
 ghost use Rattle.sudoers_match_member.specs.declared.asked.Who.{Who as WhoOf};
 ghost use Rattle.sudoers_match_list.specs.Alike.{AllAlike};
 ghost use Rattle.sudoers_match_member.specs.declared.request.Request.{Request as RequestOf};
-ghost use Rattle.sudoers_match.specs.Alike.{AreDefaultsAlike, AreRowsAlike, AreRowsEqual, AreSpecsAlike, MatchesSame, SaysSame};
+ghost use Rattle.sudoers_match.specs.Alike.{AreDefaultsAlike, AreRowsAlike, AreRowsEqual, AreSpecsAlike, AreSpecsEqual, MatchesSame, SaysSame};
 ghost use Rattle.sudoers_match.specs.Answer.{Answer as AnswerOf, Answers, Fits, IsAnswer};
 ghost use Rattle.sudoers_match.specs.Beside.{KeepsReachable};
 ghost use Rattle.sudoers_match.specs.Default.{IsRunasDefault};
@@ -82,6 +82,15 @@ pub fn alike_rows_answer()
     ensures equal { (write : AtomOf → AtomOf) (lines others : List LineOf) → MatchesSame write → AreDefaultsAlike write lines others
         → (request : RequestOf) (rows others_rows : List Row) (answer : Option AnswerOf) → AllAlike (AreRowsEqual write lines others) rows others_rows
         → Answers lines request rows answer → Answers others request others_rows answer }
+{
+    alike_lists_say_same();
+}
+
+/// Policies whose user specifications say the same, command by command, answer the same, numbers included.
+pub fn equal_specs_answer_same()
+    ensures { (write : AtomOf → AtomOf) (lines others : List LineOf) → MatchesSame write → AreDefaultsAlike write lines others
+        → AllAlike (AreSpecsEqual write lines others) (specs_of lines) (specs_of others) → (request : RequestOf) (answer : Option AnswerOf)
+        → IsAnswer lines request answer ↔ IsAnswer others request answer }
 {
     alike_lists_say_same();
 }
