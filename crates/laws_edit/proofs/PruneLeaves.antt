@@ -1,5 +1,5 @@
 -- What is left of a line of a policy when unused definitions are taken out of it.
-use Rattle.std.proofs.Common.{◌≡◌, ℕ, zero, suc, ◌+◌, ◌≤◌, ◌<◌, Bool, true, false, ◌&&◌, inr, List, [], ◌∷◌, ◌++◌, length, remove, reverse, Some, refl, sym, ap, subst, ◌∙◌, append_assoc, arith, if◌then◌else◌}
+use Rattle.std.proofs.Common.{◌≡◌, ℕ, zero, suc, ◌+◌, ◌≤◌, ◌<◌, Bool, true, false, inr, List, [], ◌∷◌, ◌++◌, length, remove, reverse, Some, refl, sym, ap, subst, ◌∙◌, append_assoc, arith, if◌then◌else◌}
 use Rattle.std.proofs.lemmas.Bool.{and_parts}
 use Rattle.std.proofs.lemmas.List.{length-append, reverse-append}
 use Rattle.std.proofs.lemmas.Slice.Eq.{bytes_eq-Decides}
@@ -14,7 +14,7 @@ use Rattle.sudoers_tree.specs.Definition.{Definition, definitions, definitions_f
 use Rattle.sudoers_check.specs.Chain.{Has}
 use Rattle.sudoers_check.specs.Chains.{IsReachable}
 use Rattle.sudoers_check.specs.Led.{is_unused}
-use Rattle.sudoers_check.proofs.Named.{has_front, filter_has}
+use Rattle.sudoers_check.proofs.Named.{filter_has}
 use Rattle.sudoers_match.specs.Beside.{unless_alias, without_definitions}
 use Rattle.sudoers_match.proofs.Lasts.{all_append}
 use Rattle.sudoers_match.proofs.MetMembers.{of_has}

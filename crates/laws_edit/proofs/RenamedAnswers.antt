@@ -1,5 +1,5 @@
 -- A rename of a defined alias to a free name changes no answer.
-use Rattle.std.proofs.Common.{◌≡◌, ◌↔◌, ℕ, Bool, true, false, ◌&&◌, List, [], ◌∷◌, length, Option, Some, None, refl, sym, ap, ap₂, subst, ◌∙◌, if◌then◌else◌}
+use Rattle.std.proofs.Common.{◌≡◌, ℕ, Bool, true, false, ◌&&◌, List, [], ◌∷◌, length, Option, Some, None, refl, sym, ap, ap₂, subst, ◌∙◌, if◌then◌else◌}
 use Rattle.std.proofs.lemmas.Bool.{and_parts, or_parts as or_false}
 use Rattle.std.proofs.lemmas.Slice.Eq.{bytes_eq-Decides}
 use Rattle.std.specs.List.{AllByRecursion}
@@ -11,7 +11,6 @@ use Rattle.sudoers_line.specs.declared.node.Kind.{Kind}
 use Rattle.sudoers_line.specs.declared.node.Atom.{Atom}
 use Rattle.sudoers_line.specs.declared.node.Atom.TheVariants as atom
 use Rattle.sudoers_line.specs.Node.{Member}
-use Rattle.sudoers_tree.specs.declared.place.Place.{Place}
 use Rattle.sudoers_tree.specs.Line.{Line}
 use Rattle.sudoers_tree.specs.Definition.{Definition, is_kind, defines, defined, definitions, place_of}
 use Rattle.sudoers_tree.specs.Fault.{is_some}
@@ -22,7 +21,7 @@ use Rattle.sudoers_match_list.specs.Alike.{AllAlike, IsCounterpart, AreDefinedAl
 use Rattle.sudoers_match_list.specs.Flat.{alias_of as members_named}
 use Rattle.laws_edit.specs.Renamed.{renamed_lines}
 use Rattle.laws_edit.proofs.NameFree.{IsWithout, lines_free}
-use Rattle.laws_edit.proofs.RenamedNames.{other_name, Lacks, kind_like, same_defines}
+use Rattle.laws_edit.proofs.RenamedNames.{other_name, kind_like, same_defines}
 use Rattle.laws_edit.proofs.RenamedMembers.{StandsRenamed, IsRenamedDef, all_renamed}
 use Rattle.laws_edit.proofs.RenamedOnce.{lacks}
 use Rattle.laws_edit.proofs.RenamedPolicy.{SameLaw, walk_renamed, walk_definable}

@@ -1,5 +1,5 @@
 -- Lines with another name for an alias stand for the lines before: each member of theirs for the one that it was.
-use Rattle.std.proofs.Common.{◌≡◌, ℕ, ◌+◌, Bool, true, false, ◌&&◌, ◌-◌, List, [], ◌∷◌, ◌++◌, length, map, Option, Some, None, refl, flat_map, if◌then◌else◌}
+use Rattle.std.proofs.Common.{◌≡◌, ℕ, ◌+◌, Bool, true, false, ◌&&◌, ◌-◌, List, [], ◌∷◌, length, map, Option, Some, None, refl, flat_map, if◌then◌else◌}
 use Rattle.std.specs.List.{AllByRecursion, cons_option}
 use Rattle.std.specs.Str.{bytes_eq}
 use Rattle.sudoers_line.specs.declared.node.Kind.{Kind}

@@ -6,14 +6,20 @@ use Rattle.laws_program.proofs.Common.{rows_one, expanded}
 use Rattle.std.specs.Option.{option_map}
 use Rattle.sudoers_match_list.specs.Alike.{as_it_was}
 use Rattle.sudoers_match.proofs.Alike.{same_as_it_was}
-use Rattle.laws_program.proofs.AnswersBack.{FitLaw, OneLaw}
 use Rattle.laws_program.proofs.PrintedAnswers.{DefaultLaw, GroupLaw}
 use Rattle.laws_program.proofs.Flattened.{ListLaws, KeepUndefined, expanded_keeps}
 use Rattle.laws_program.proofs.Rows.{IsExpandedRow}
 use Rattle.laws_program.proofs.Settings.{settings_alike}
 use Rattle.laws_program.proofs.Specs.{rows_alike, specs_alike}
 
--- what the law of answers says
+-- what the laws of answers say
+abbrev pub FitLaw : Type 0
+FitLaw = (write : Atom → Atom) (lines others : List Line) → MatchesSame write → AreDefaultsAlike write lines others
+    → (q : Request) (row other : Row) → AreRowsAlike write lines others row other → Fits lines q row ↔ Fits others q other
+
+abbrev pub OneLaw : Type 0
+OneLaw = (lines : List Line) (q : Request) (answer other : Option Answer) → IsAnswer lines q answer → IsAnswer lines q other → answer ≡ other
+
 abbrev pub AnswerLaw : Type 0
 AnswerLaw = (write : Atom → Atom) (lines others : List Line) → MatchesSame write → AreDefaultsAlike write lines others
     → (q : Request) (rows others_rows : List Row) (answer : Option Answer) → AllAlike (AreRowsAlike write lines others) rows others_rows

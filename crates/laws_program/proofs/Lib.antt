@@ -13,11 +13,10 @@ mod Twice
 mod Second
 mod SettingsAlike
 mod HeadsAlike
-mod RowsAlike
+mod PrintedSpecs
 mod RootsAlike
 mod PrintedAnswers
 mod SameCycles
-mod AnswersBack
 mod Flattened
 mod ExpandedHeads
 mod Settings

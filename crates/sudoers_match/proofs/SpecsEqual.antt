@@ -105,6 +105,13 @@ module _ (write : Atom → Atom) (lines others : List Line) where
 
 -- ---- answers
 
+-- They are for the same users and hosts.
+pub specs_users_hosts : (write : Atom → Atom) (lines others : List Line) (s t : Spec) → AreSpecsEqual write lines others s t → AreSpecsAlike write lines others s t
+specs_users_hosts write lines others s t is = record {
+  users = is.users;
+  groups = all_to (AreGroupsEqual write lines others) (AreGroupsAlike write lines others) (λ g h same. same.hosts) s.groups t.groups is.groups;
+}
+
 lasts_turned : {X Y : Type 0} (R : X → Y → Type 0) (a : Option X) (b : Option Y) → LastsAlike (λ y x. R x y) b a → LastsAlike R a b
 lasts_turned R None None alike = tt
 lasts_turned R None (Some y) alike = absurd alike
@@ -117,13 +124,8 @@ module _ (law : VerdictLaw) (write : Atom → Atom) (lines others : List Line) (
   pub equal_specs_groups : (who : Who) (places : List GroupPlace) → AreHostGroups lines who places ↔ AreHostGroups others who places
   equal_specs_groups who places =
       same_groups law write lines others hits
-      (all_to (AreSpecsEqual write lines others) (AreSpecsAlike write lines others) to_alike (specs_of lines) (specs_of others) specs) who places
-    where
-      to_alike : (s t : Spec) → AreSpecsEqual write lines others s t → AreSpecsAlike write lines others s t
-      to_alike s t is = record {
-        users = is.users;
-        groups = all_to (AreGroupsEqual write lines others) (AreGroupsAlike write lines others) (λ g h same. same.hosts) s.groups t.groups is.groups;
-      }
+      (all_to (AreSpecsEqual write lines others) (AreSpecsAlike write lines others) (specs_users_hosts write lines others) (specs_of lines) (specs_of others) specs)
+      who places
 
   -- Both policies give the same answers, if they have the same settings of runas_default.
   pub equal_specs_answer : AreDefaultsAlike write lines others → (q : Request) (answer : Option Answer) → IsAnswer lines q answer ↔ IsAnswer others q answer
