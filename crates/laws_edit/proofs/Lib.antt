@@ -24,5 +24,6 @@ mod NameGone
 mod NameFree
 mod RenameOutcome
 mod RenameRefused
+mod RenameMade
 mod RenamedMembers
 mod RenamedAnswers

@@ -82,7 +82,7 @@ alike_itself : (xs : Lines) → are_alike bytes_eq xs xs ≡ true
 alike_itself [] = refl
 alike_itself (x ∷ xs) = ap₂ (λ (a b : Bool). a && b) ((bytes_eq-Decides x x).1 refl) (alike_itself xs)
 
-step_is : RenameLaws → (k : Kind) (name fresh : List ℕ) (policy : List Line) → IsWhole policy
+pub step_is : RenameLaws → (k : Kind) (name fresh : List ℕ) (policy : List Line) → IsWhole policy
     → step (Rename k name fresh) (texts policy) ≡ if_restored k name fresh (texts policy) (rename_once k name fresh policy)
 unfolding rename
 step_is l k name fresh policy whole = ap (rename k name fresh) (known l.base policy whole)

@@ -195,8 +195,40 @@ pub fn rename_changes_no_answer()
     alike_lists_lead_to_cycle();
 }
 
-/// A prune changes no answer. Each user has the same runas_default, and rules at the same places. A reachable alias is cyclic before and
-/// after it, or in neither policy.
+/// A rename that is not refused changes no answer. Each user has the same runas_default, and rules at the same places. A reachable alias
+/// is cyclic in both policies, or in neither.
+pub fn accepted_rename_changes_no_answer()
+    ensures answer { (kind : KindOf) (name fresh : List ℕ) (policy next : List LineOf) (new : List (List ℕ))
+        → read_of (join (texts policy)) ≡ Ok policy → step_of (Rename kind name fresh) (texts policy) ≡ Ok new → read_of (join new) ≡ Ok next
+        → (request : RequestOf) (answer : Option AnswerOf) → IsAnswer policy request answer ↔ IsAnswer next request answer }
+    ensures default { (kind : KindOf) (name fresh : List ℕ) (policy next : List LineOf) (new : List (List ℕ))
+        → read_of (join (texts policy)) ≡ Ok policy → step_of (Rename kind name fresh) (texts policy) ≡ Ok new → read_of (join new) ≡ Ok next
+        → (who : WhoOf) (user : List ℕ) → IsRunasDefault policy who user ↔ IsRunasDefault next who user }
+    ensures groups { (kind : KindOf) (name fresh : List ℕ) (policy next : List LineOf) (new : List (List ℕ))
+        → read_of (join (texts policy)) ≡ Ok policy → step_of (Rename kind name fresh) (texts policy) ≡ Ok new → read_of (join new) ≡ Ok next
+        → (who : WhoOf) (places : List GroupPlaceOf) → AreHostGroups policy who places ↔ AreHostGroups next who places }
+    ensures cycle { (kind : KindOf) (name fresh : List ℕ) (policy next : List LineOf) (new : List (List ℕ))
+        → read_of (join (texts policy)) ≡ Ok policy → step_of (Rename kind name fresh) (texts policy) ≡ Ok new → read_of (join new) ≡ Ok next
+        → HasReachableCycle policy ↔ HasReachableCycle next }
+{
+    cut_is();
+    lines_of_join();
+    lines_stand_alone();
+    line_alone_size();
+    line_alone_is_whole();
+    whole_line_is();
+    outcome_is();
+    definitions_ascend();
+    names_stand();
+    renamed_line();
+    read_is();
+    one_outcome();
+    policy_is_cut();
+    rename_changes_no_answer();
+}
+
+/// A prune that is not refused changes no answer. Each user has the same runas_default, and rules at the same places. A reachable alias
+/// is cyclic in both policies, or in neither.
 pub fn prune_changes_no_answer()
     ensures answer { (policy next : List LineOf) (new : List (List ℕ)) → read_of (join (texts policy)) ≡ Ok policy
         → step_of Edit.Prune (texts policy) ≡ Ok new → read_of (join new) ≡ Ok next → (request : RequestOf) (answer : Option AnswerOf)
