@@ -19,7 +19,7 @@ pub record IsSameDefinition (d e : Definition) : Type 0 where
   pub called : e.def.name ≡ d.def.name
   pub members : AllAlike (IsRewritten as_it_was) d.def.members e.def.members
 
--- The second are the first in their order, but for some whose names may be gone.
+-- The second are the first in their order, but for some whose aliases may be gone.
 abbrev pub Leaves : (Kind → List ℕ → Type 0) → List Definition → List Definition → Type 0
 Leaves Gone [] [] = Unit {0}
 Leaves Gone [] (e ∷ es) = ⊥
@@ -153,7 +153,7 @@ module _ (Gone : Kind → List ℕ → Type 0) where
       by true more = l.0.members
       by false more = more
 
--- The definition may be gone if no chain of mentions leads to its name.
+-- No chain of mentions leads to the alias of this name and kind from a user specification or a Defaults line.
 abbrev pub IsIdle : List Line → Kind → List ℕ → Type 0
 IsIdle lines k name = IsReachable k lines name → ⊥
 

@@ -28,10 +28,11 @@ use Rattle.laws_edit.proofs.Whole.{here_at}
 abbrev pub UnusedLaw : Type 0
 UnusedLaw = (lines : List Line) (d : Definition) → Has (definitions lines) d → is_unused lines d ≡ true → IsReachable d.kind lines d.def.name → ⊥
 
--- What stands at this place of the definitions may be gone.
+-- No chain of mentions leads to the alias that is defined at this place among these.
 abbrev pub IsGoneAt : List Line → Kind → List Def → ℕ → Type 0
 IsGoneAt policy k defs at = (e : Def) → slice_get defs at ≡ Some e → IsIdle policy k e.name
 
+-- So it is with the alias of each of these definitions of the line.
 abbrev pub AreGone : List Line → Kind → List Def → List Definition → Type 0
 AreGone policy k defs ds = AllByRecursion (λ (d : Definition). IsGoneAt policy k defs d.place.def) ds
 
@@ -131,7 +132,7 @@ module _ (policy : List Line) where
       let was = before_same defs at less parts.1 p (omega (arith, below)) e is in
       record { one = was.one; at = was.at; called = was.called }
 
-  -- What may be gone below the place still may be.
+  -- The definitions before a dropped one stay where they are.
   pub still_gone : (k : Kind) (defs : List Def) (at : ℕ) (less : List Def) → are_alike is_same_def (remove defs at) less ≡ true → (p : ℕ) → p < at
       → IsGoneAt policy k defs p → IsGoneAt policy k less p
   still_gone k defs at less alike p below gone e is =
@@ -160,7 +161,7 @@ module _ (policy : List Line) where
         subst (λ (x : Def). IsIdle policy k x.name) same
         (subst (λ (j : Kind). IsIdle policy j d.def.name) at.kind (law policy d (among d stands) unused))
 
-    -- Those that are unused may be gone, the last first.
+    -- No chain of mentions leads to an unused alias.
     pub unused_gone : AreGone policy k defs (reverse (filter (is_unused policy) (definitions_from k n 0 defs)))
     unused_gone =
         let ds = definitions_from k n 0 defs in
