@@ -1,4 +1,4 @@
-//! What the policy of an editor answers, whatever edits it took, and why a prune and a rename are refused.
+//! What the policy of an editor answers, whatever edits it took. Why a prune and a rename are refused, and what they leave as it was.
 #![tactic(auto)]
 
 mod answers;
