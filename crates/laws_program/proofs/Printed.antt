@@ -1,17 +1,16 @@
 -- What is read of the printed rules of a policy with its aliases replaced answers as the policy.
-use Rattle.laws_program.proofs.Common.{◌≡◌, ◌↔◌, ℕ, true, List, Option, Ok, refl, sym, subst, ◌∙◌, Kind, Member, Line, IsSound, read_of, HasReachableCycle}
-use Rattle.laws_program.proofs.Common.{Who, read_back, IsSameMember, AllSame, IsSame, AllAlike, AreAlike, GroupPlace, Request, MatchesSame, AreDefaultsAlike}
-use Rattle.laws_program.proofs.Common.{AreRowsEqual, SaysSame, Answer, Fits, told, IsAnswer, IsRunasDefault, AreHostGroups, IsLast, Row, AreRows, all_turned}
-use Rattle.laws_program.proofs.Common.{last_alike, turned_both, some_rows, FlatLaw, rows_one, Rules, rules_of, lines_of, printed, fits, said_by, IsReadAs}
+use Rattle.laws_program.proofs.Common.{◌≡◌, ◌↔◌, ℕ, true, List, Option, Ok, sym, subst, ◌∙◌, Kind, Member, Line, IsSound, read_of, HasReachableCycle}
+use Rattle.laws_program.proofs.Common.{Who, read_back, IsSameMember, AllSame, IsSame, AreAlike, GroupPlace, Request, MatchesSame, AreDefaultsAlike}
+use Rattle.laws_program.proofs.Common.{SaysSame, Answer, IsAnswer, IsRunasDefault, AreHostGroups}
+use Rattle.laws_program.proofs.Common.{FlatLaw, Rules, rules_of, lines_of, printed, fits, said_by, IsReadAs}
 use Rattle.laws_program.proofs.Common.{used_rules, expanded}
-use Rattle.std.specs.Option.{option_map}
 use Rattle.laws_program.proofs.PrintedSpecs.{specs_equal, specs_for_same}
 use Rattle.laws_program.proofs.PrintedAnswers.{ListLaw, DefaultLaw, GroupLaw, AnswerLaw as EqualLaw, lists_alike, defaults_there}
 use Rattle.laws_program.proofs.SameCycles.{cycle_both}
 use Rattle.laws_program.proofs.Cycles.{cycle_back}
 use Rattle.laws_program.proofs.Flattened.{ListLaws, expanded_keeps}
 use Rattle.laws_program.proofs.Kept.{kept, kept_rules, kept_specs, kept_settings}
-use Rattle.laws_program.proofs.ExpandedAnswers.{FitLaw, OneLaw, AnswerLaw, IsLikeExpanded, same_default, same_groups, rows_there, there, back}
+use Rattle.laws_program.proofs.ExpandedAnswers.{FitLaw, OneLaw, AnswerLaw, IsLikeExpanded, same_default, same_groups, there, back}
 use Rattle.laws_program.proofs.Used.{kept_keeps}
 
 both_then : {A B C : Type 0} → A ↔ B → B ↔ C → A ↔ C

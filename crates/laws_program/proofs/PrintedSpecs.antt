@@ -1,5 +1,5 @@
 -- What is read of printed rules has user specifications that say the same, command by command.
-use Rattle.laws_program.proofs.Common.{◌≡◌, ℕ, List, [], ◌∷◌, ◌++◌, Option, Some, None, map, refl, sym, ap, subst, ◌∙◌, flat_map, filter_map, cons_option, Kind}
+use Rattle.laws_program.proofs.Common.{◌≡◌, List, [], ◌∷◌, ◌++◌, Option, Some, None, map, refl, sym, ap, subst, ◌∙◌, flat_map, filter_map, cons_option, Kind}
 use Rattle.laws_program.proofs.Common.{User, Runas, Host, Cmnd, HostGroup, Member, RunasSpec, Node, Line, read_back, IsSameMember, AllSame, IsSameRunas}
 use Rattle.laws_program.proofs.Common.{IsSameGroup, IsSame, AllAlike, AreAlike, AreRunasListsAlike, AreRunasAlike, AreCommandsAlike, AreGroupsEqual}
 use Rattle.laws_program.proofs.Common.{AreSpecsAlike, AreSpecsEqual, Head, no_head, Spec, spec_of, spec_in, specs_of, all_to, effective_group, specs_in}

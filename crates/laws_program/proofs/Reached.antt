@@ -1,7 +1,7 @@
 -- What a policy mentions with its aliases replaced, chains of mentions lead to in the policy that was read.
-use Rattle.laws_program.proofs.Common.{◌≡◌, inl, inr, ℕ, zero, suc, Bool, if◌then◌else◌, List, [], ◌∷◌, ◌++◌, length, map, Option, Some, None, refl, subst}
-use Rattle.laws_program.proofs.Common.{AllByRecursion, flat_map, Kind, User, Runas, Host, Cmnd, Atom, Member, RunasSpec, CmdSpec, HostGroup, Scope, Node, Line}
-use Rattle.laws_program.proofs.Common.{definitions, is_kind, of_runas, in_group, in_scope, Has, onward, name_in, names_in, roots_in, IsReachable, alias_of}
+use Rattle.laws_program.proofs.Common.{◌≡◌, ℕ, zero, suc, Bool, if◌then◌else◌, List, [], ◌∷◌, ◌++◌, length, map, Option, Some, None, refl}
+use Rattle.laws_program.proofs.Common.{AllByRecursion, flat_map, Kind, User, Runas, Host, Cmnd, Member, RunasSpec, CmdSpec, HostGroup, Scope, Node, Line}
+use Rattle.laws_program.proofs.Common.{definitions, is_kind, of_runas, in_group, in_scope, roots_in, IsReachable, alias_of}
 use Rattle.laws_program.proofs.Common.{turned_member, replaced_by, replaced_once, replaced_times, flattened, all_append, expanded_runas, with_member}
 use Rattle.laws_program.proofs.Common.{expanded_command, expanded_group, expanded_list, expanded_scope, expanded_node}
 use Rattle.std.specs.Option.{option_map}
