@@ -17,7 +17,8 @@ use Rattle.sudoers_tree.specs.Fault.{is_some}
 use Rattle.sudoers_tree.specs.Mention.{mentions}
 use Rattle.sudoers_tree.specs.Policy.{IsWalk}
 use Rattle.sudoers_edit.specs.Renaming.{is_taken}
-use Rattle.sudoers_match_list.specs.Alike.{AllAlike, IsCounterpart, AreDefinedAlike, KeepsAliases, as_it_was}
+use Rattle.sudoers_match_list.specs.Alike.{AllAlike, IsCounterpart, AreDefinedAlike, as_it_was}
+use Rattle.sudoers_match_list.proofs.Alike.{KeepsAliases}
 use Rattle.sudoers_match_list.specs.Flat.{alias_of as members_named}
 use Rattle.laws_edit.specs.Renamed.{renamed_lines}
 use Rattle.laws_edit.proofs.NameFree.{IsWithout, lines_free}

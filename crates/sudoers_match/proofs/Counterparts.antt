@@ -14,9 +14,9 @@ use Rattle.sudoers_tree.specs.Mention.{of_runas, in_group, in_scope, members_in}
 use Rattle.sudoers_check.specs.Chain.{Has, Chain}
 use Rattle.sudoers_check.specs.Chains.{name_in, names_in, Joins, roots_in, roots, IsReachable, HasReachableCycle}
 use Rattle.sudoers_check.proofs.Named.{same_kind}
-use Rattle.sudoers_match_list.specs.Alike.{AllAlike, AreAlike, IsCounterpart, KeepsAliases}
+use Rattle.sudoers_match_list.specs.Alike.{AllAlike, AreAlike, IsCounterpart}
 use Rattle.sudoers_match_list.specs.Cycle.{LeadsToCycle}
-use Rattle.sudoers_match_list.proofs.Alike.{counterparts_alike}
+use Rattle.sudoers_match_list.proofs.Alike.{KeepsAliases, counterparts_alike}
 use Rattle.sudoers_match.specs.Alike.{AreCountedAlike, AreScopesAlike, AreSettingsAlike, AreDefaultsAlike, AreRunasListsAlike, AreRunasAlike, AreCommandsAlike, AreGroupsEqual, AreSpecsEqual}
 use Rattle.sudoers_match.specs.Beside.{unless_alias, without_definitions}
 use Rattle.sudoers_match.specs.Default.{with_scope, settings_in, defaults_in, defaults_of}

@@ -8,7 +8,8 @@ use Rattle.sudoers_tree.specs.Policy.{IsWalk}
 use Rattle.sudoers_check.specs.Chains.{HasReachableCycle}
 use Rattle.sudoers_match_member.specs.declared.asked.Who.{Who}
 use Rattle.sudoers_match_member.specs.declared.request.Request.{Request}
-use Rattle.sudoers_match_list.specs.Alike.{AllAlike, AreAlike, KeepsAliases}
+use Rattle.sudoers_match_list.specs.Alike.{AllAlike, AreAlike}
+use Rattle.sudoers_match_list.proofs.Alike.{KeepsAliases}
 use Rattle.sudoers_match_list.specs.Cycle.{LeadsToCycle}
 use Rattle.sudoers_match.specs.declared.groups.GroupPlace.{GroupPlace}
 use Rattle.sudoers_match.specs.Alike.{MatchesSame}

@@ -13,7 +13,8 @@ use Rattle.sudoers_check.specs.Chain.{Has, here}
 use Rattle.sudoers_check.specs.Chains.{name_in, names_in, IsReachable}
 use Rattle.sudoers_check.proofs.Named.{kind_itself}
 use Rattle.sudoers_match_list.specs.Flat.{alias_of}
-use Rattle.sudoers_match_list.specs.Alike.{AllAlike, IsRewritten, AreDefinedAlike, AreDefinedSame, KeepsAliases, as_it_was}
+use Rattle.sudoers_match_list.specs.Alike.{AllAlike, IsRewritten, AreDefinedAlike, AreDefinedSame, as_it_was}
+use Rattle.sudoers_match_list.proofs.Alike.{KeepsAliases}
 use Rattle.sudoers_match.specs.Beside.{without_definitions, KeepsReachable}
 use Rattle.sudoers_match.proofs.Counterparts.{Standing, AreCounterparts, AreRunasCounterparts, IsCommandCounterpart, IsGroupCounterpart, AreScopeCounterparts, IsLineCounterpart, rooted_in, root_members, root_names, roots_beside}
 use Rattle.sudoers_match.proofs.MetMembers.{left_of, right_of, of_has, IsMet, AreMet, met_names, of_alias}

@@ -10,7 +10,7 @@ use Rattle.sudoers_tree.specs.Line.{Line}
 use Rattle.sudoers_match_list.specs.declared.verdict.Hit.{Hit}
 use Rattle.sudoers_match_list.specs.declared.verdict.Verdict.{Verdict}
 use Rattle.sudoers_match_list.specs.Flat.{alias_of, Signed, signed, turn, is_all, has_none, IsFlat, none, one, many, hit_of, later, last_hit, IsVerdict}
-use Rattle.sudoers_match_list.specs.Alike.{AllAlike, rewritten, IsCounterpart, AreDefinedAlike, KeepsAliases, IsWritten, IsRewritten, AreAliasesAlike, AreAlike}
+use Rattle.sudoers_match_list.specs.Alike.{AllAlike, rewritten, IsCounterpart, AreDefinedAlike, IsWritten, IsRewritten, AreAliasesAlike, AreAlike}
 use Rattle.sudoers_match_list.specs.Cycle.{LeadsToCycle}
 use Rattle.sudoers_match_list.proofs.Unique.{one_flat}
 
@@ -23,6 +23,12 @@ flat_of_flat k lines (m ∷ ms) all = one m ms (map signed ms) all.0 (flat_of_fl
 
 abbrev the_signed : Bool → List Digest → Atom → Signed
 the_signed allow digests atom = record { allow = allow; digests = digests; atom = atom }
+
+-- Where an atom stands for another, both name defined aliases with counterparts as members. Or neither does, and it is what is written
+-- for the other in the second policy.
+pub record KeepsAliases (Stands : Atom → Atom → Type 0) (write : Atom → Atom) (k : Kind) (lines others : List Line) : Type 0 where
+  pub defined : (a b : Atom) → Stands a b → AreDefinedAlike Stands (alias_of k lines a) (alias_of k others b)
+  pub written : (a b : Atom) → Stands a b → alias_of k lines a ≡ None → b ≡ write a
 
 module _ (Stands : Atom → Atom → Type 0) (write : Atom → Atom) where
   signed_alike : (m n : Member) → n.negated ≡ m.negated → n.digests ≡ m.digests → n.atom ≡ write m.atom → signed n ≡ rewritten write (signed m)

@@ -34,12 +34,6 @@ AreDefinedAlike Stands None (Some ns) = ⊥
 AreDefinedAlike Stands (Some ms) None = ⊥
 AreDefinedAlike Stands (Some ms) (Some ns) = AllAlike (IsCounterpart Stands) ms ns
 
--- Where an atom stands for another, both name defined aliases with counterparts as members. Or neither does, and it is what is written
--- for the other in the second policy.
-pub record KeepsAliases (Stands : Atom → Atom → Type 0) (write : Atom → Atom) (k : Kind) (lines others : List Line) : Type 0 where
-  pub defined : (a b : Atom) → Stands a b → AreDefinedAlike Stands (alias_of k lines a) (alias_of k others b)
-  pub written : (a b : Atom) → Stands a b → alias_of k lines a ≡ None → b ≡ write a
-
 -- The one atom is what is written for the other in the second policy.
 abbrev pub IsWritten : (Atom → Atom) → Atom → Atom → Type 0
 IsWritten write a b = b ≡ write a
