@@ -7,7 +7,7 @@ use Rattle.laws_program.proofs.Common.{rules_of, lines_of, said_by}
 use Rattle.std.specs.Option.{option_map}
 use Rattle.sudoers_line.specs.declared.node.Atom.TheVariants as atom
 use Rattle.sudoers_line.specs.Node as node
-use Rattle.sudoers_match_list.specs.Alike.{AreDefinedAlike}
+use Rattle.sudoers_match_list.specs.Alike.{AreDefinedAlike, IsWritten}
 use Rattle.laws_program.proofs.Parts.{no_defaults, no_specs, made_of_defs, made_alike, as_alike}
 
 -- ---- what definitions say, their places aside
@@ -92,15 +92,15 @@ member_alike m n same = record { negated = sym same.negated; digests = sym same.
 pub members_alike : (ms ns : List Member) → AllSame IsSameMember ms ns → AllAlike (IsRewritten read_back) ms ns
 members_alike ms ns same = as_alike IsSameMember (IsRewritten read_back) member_alike ms ns same
 
-found_alike : (k : Kind) (name : List ℕ) (ds es : List Said) → AllAlike SaysAlike ds es → AreDefinedAlike read_back (found k name ds) (found k name es)
+found_alike : (k : Kind) (name : List ℕ) (ds es : List Said) → AllAlike SaysAlike ds es → AreDefinedAlike (IsWritten read_back) (found k name ds) (found k name es)
 found_alike k name [] [] all = tt
 found_alike k name (d ∷ ds) (e ∷ es) all =
-    subst (λ t. AreDefinedAlike read_back (found k name (d ∷ ds)) (if t then Some e.1.members else found k name es))
+    subst (λ t. AreDefinedAlike (IsWritten read_back) (found k name (d ∷ ds)) (if t then Some e.1.members else found k name es))
     (ap₂ (λ j other. is_kind k j && bytes_eq name other) all.0.kind all.0.def.name)
     (by (is_kind k d.0 && bytes_eq name d.1.name) (found_alike k name ds es all.1))
   where
-    by : (t : Bool) → AreDefinedAlike read_back (found k name ds) (found k name es)
-        → AreDefinedAlike read_back (if t then Some d.1.members else found k name ds) (if t then Some e.1.members else found k name es)
+    by : (t : Bool) → AreDefinedAlike (IsWritten read_back) (found k name ds) (found k name es)
+        → AreDefinedAlike (IsWritten read_back) (if t then Some d.1.members else found k name ds) (if t then Some e.1.members else found k name es)
     by true later = members_alike d.1.members e.1.members all.0.def.members
     by false later = later
 found_alike k name ds es all = absurd all
@@ -109,11 +109,11 @@ found_alike k name ds es all = absurd all
 pub aliases_alike : (k : Kind) (lines read : List Line) → AllSame IsSame (lines_of (rules_of lines)) (said_by read) → AreAliasesAlike read_back k lines read
 aliases_alike k lines read same (atom.Alias name) =
     let there = found_alike k name (said_of (definitions lines)) (said_of (definitions read)) (said_alike lines read same) in
-    subst (λ o. AreDefinedAlike read_back o (alias_of k read (atom.Alias name))) (sym (found_is k name (definitions lines)))
-    (subst (λ o. AreDefinedAlike read_back (found k name (said_of (definitions lines))) o) (sym (found_is k name (definitions read))) there)
+    subst (λ o. AreDefinedAlike (IsWritten read_back) o (alias_of k read (atom.Alias name))) (sym (found_is k name (definitions lines)))
+    (subst (λ o. AreDefinedAlike (IsWritten read_back) (found k name (said_of (definitions lines))) o) (sym (found_is k name (definitions read))) there)
 aliases_alike k lines read same (atom.Host p) = by (reads_as_host (escaped HostName p))
   where
-    by : (t : Bool) → AreDefinedAlike read_back None (alias_of k read (if t then atom.Host p else atom.Host (92 ∷ p)))
+    by : (t : Bool) → AreDefinedAlike (IsWritten read_back) None (alias_of k read (if t then atom.Host p else atom.Host (92 ∷ p)))
     by true = tt
     by false = tt
 aliases_alike k lines read same n = tt

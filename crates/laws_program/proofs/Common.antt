@@ -38,7 +38,8 @@ pub use Rattle.sudoers_match.proofs.Alike.{all_alike_append, all_to, all_turned,
 pub use Rattle.sudoers_match.proofs.Existing.{some_rows}
 pub use Rattle.sudoers_match.proofs.Lasts.{all_append}
 pub use Rattle.sudoers_match.proofs.OneAnswer.{FlatLaw, rows_one}
-pub use Rattle.sudoers_match.specs.Alike.{AreCountedAlike, AreDefaultsAlike, AreGroupsAlike, AreRowsAlike, AreRowsEqual, AreRunasAlike, AreRunasListsAlike}
+pub use Rattle.sudoers_match.specs.Alike.{AreCountedAlike, AreDefaultsAlike, AreGroupsAlike, AreRowsAlike, AreRunasAlike, AreRunasListsAlike}
+pub use Rattle.sudoers_match.specs.Alike.{AreCommandsAlike, AreGroupsEqual, AreSpecsEqual}
 pub use Rattle.sudoers_match.specs.Alike.{AreScopesAlike, AreSettingsAlike, AreSpecsAlike, MatchesSame, SaysSame}
 pub use Rattle.sudoers_match.specs.Answer.{Answer, Answers, Fits, IsAnswer, told}
 pub use Rattle.sudoers_match.specs.Default.{IsRunasDefault, defaults_of, settings_in, defaults_in as settings_of, with_scope}

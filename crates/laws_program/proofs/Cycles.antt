@@ -5,11 +5,12 @@ use Rattle.laws_program.proofs.Common.{roots_in, roots, IsReachable, HasReachabl
 use Rattle.sudoers_line.specs.Node as node
 use Rattle.sudoers_cvt.specs.Rules.{defaults_in}
 use Rattle.laws_program.proofs.Aliases.{Said, said_of}
-use Rattle.laws_program.proofs.Defined.{all_has}
+use Rattle.sudoers_match_list.proofs.Defined.{all_has}
 use Rattle.laws_program.proofs.Flattened.{definitions_kept, expanded_line}
 use Rattle.laws_program.proofs.Kept.{written_in, kept, kept_definitions, over_lines, all_kept, none_of_defs}
 use Rattle.laws_program.proofs.RootsAlike.{Name}
-use Rattle.laws_program.proofs.Reached.{left_of, right_of, of_has, node_met}
+use Rattle.sudoers_match.proofs.MetMembers.{left_of, right_of, of_has}
+use Rattle.laws_program.proofs.Reached.{node_met}
 
 -- ---- what the kept lines mention
 

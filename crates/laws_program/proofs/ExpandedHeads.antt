@@ -2,7 +2,7 @@
 use Rattle.laws_program.proofs.Common.{◌≡◌, Bool, List, ◌++◌, Option, Some, None, refl, sym, ap, ◌∙◌, ◌==◌, option_or, OptionName, Tag, RunasSpec, CmdSpec}
 use Rattle.laws_program.proofs.Common.{Member, Line, AreRunasAlike, Head, no_head, inherit, last_said, option_place, option_of, tag_place, tag_of, with_member}
 use Rattle.laws_program.proofs.Twice.{last_append}
-use Rattle.laws_program.proofs.Flattened.{as_it_was}
+use Rattle.sudoers_match_list.specs.Alike.{as_it_was}
 
 -- Both say the same, the second in the other policy.
 pub record IsExpandedHead (lines others : List Line) (h g : Head) : Type 0 where

@@ -9,14 +9,10 @@ use Rattle.sudoers_line.specs.Node as node
 use Rattle.sudoers_tree.specs.Policy.{IsWalk}
 use Rattle.sudoers_match_list.specs.Flat.{turn, IsFlat, many}
 use Rattle.sudoers_match_list.specs.Cycle.{LeadsToCycle}
-use Rattle.sudoers_match_list.specs.Alike.{rewritten}
+use Rattle.sudoers_match_list.specs.Alike.{as_it_was, rewritten}
 use Rattle.sudoers_match.specs.internal.Straight.{RunasIsStraight}
 use Rattle.sudoers_cvt_rewrite.proofs.Lists.{longer}
 use Rattle.sudoers_cvt_rewrite.proofs.Members.{have_members}
-
--- Each atom is written as it was.
-abbrev pub as_it_was : Atom → Atom
-as_it_was a = a
 
 -- a line with its aliases replaced
 abbrev pub expanded_line : List Line → Line → Line

@@ -7,7 +7,7 @@ use Rattle.sudoers_cvt.specs.Rules.{defaults_in}
 use Rattle.laws_program.proofs.Aliases.{Said, said_of, said_in, said_since}
 use Rattle.laws_program.proofs.Parts.{made_each, no_defaults, nothing}
 use Rattle.laws_program.proofs.Second.{defaults_of_defaults}
-use Rattle.laws_program.proofs.RowsAlike.{spec_list, specs_are}
+use Rattle.laws_program.proofs.PrintedSpecs.{spec_list, specs_are}
 use Rattle.laws_program.proofs.SettingsAlike.{settings_are, in_defaults}
 
 -- the user specification that a line is, as it is written

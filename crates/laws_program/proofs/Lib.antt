@@ -13,11 +13,10 @@ mod Twice
 mod Second
 mod SettingsAlike
 mod HeadsAlike
-mod RowsAlike
+mod PrintedSpecs
 mod RootsAlike
 mod PrintedAnswers
 mod SameCycles
-mod AnswersBack
 mod Flattened
 mod ExpandedHeads
 mod Settings
@@ -31,7 +30,6 @@ mod Written
 mod Printed
 mod Reached
 mod Cycles
-mod Defined
 mod SecondExpansion
 mod Matching
 mod Left

@@ -1,18 +1,16 @@
 -- What is read of the printed rules of a policy with its aliases replaced answers as the policy.
-use Rattle.laws_program.proofs.Common.{◌≡◌, ◌↔◌, ℕ, true, List, Option, Ok, refl, sym, subst, ◌∙◌, Kind, Member, Line, IsSound, read_of, HasReachableCycle}
-use Rattle.laws_program.proofs.Common.{Who, read_back, IsSameMember, AllSame, IsSame, AllAlike, AreAlike, GroupPlace, Request, MatchesSame, AreDefaultsAlike}
-use Rattle.laws_program.proofs.Common.{AreRowsEqual, SaysSame, Answer, Fits, told, IsAnswer, IsRunasDefault, AreHostGroups, IsLast, Row, AreRows, all_turned}
-use Rattle.laws_program.proofs.Common.{last_alike, turned_both, some_rows, FlatLaw, rows_one, Rules, rules_of, lines_of, printed, fits, said_by, IsReadAs}
+use Rattle.laws_program.proofs.Common.{◌≡◌, ◌↔◌, ℕ, true, List, Option, Ok, sym, subst, ◌∙◌, Kind, Member, Line, IsSound, read_of, HasReachableCycle}
+use Rattle.laws_program.proofs.Common.{Who, read_back, IsSameMember, AllSame, IsSame, AreAlike, GroupPlace, Request, MatchesSame, AreDefaultsAlike}
+use Rattle.laws_program.proofs.Common.{SaysSame, Answer, IsAnswer, IsRunasDefault, AreHostGroups}
+use Rattle.laws_program.proofs.Common.{FlatLaw, Rules, rules_of, lines_of, printed, fits, said_by, IsReadAs}
 use Rattle.laws_program.proofs.Common.{used_rules, expanded}
-use Rattle.std.specs.Option.{option_map}
-use Rattle.laws_program.proofs.RowsAlike.{all_rows_alike, all_specs_alike}
+use Rattle.laws_program.proofs.PrintedSpecs.{specs_equal, specs_for_same}
 use Rattle.laws_program.proofs.PrintedAnswers.{ListLaw, DefaultLaw, GroupLaw, AnswerLaw as EqualLaw, lists_alike, defaults_there}
 use Rattle.laws_program.proofs.SameCycles.{cycle_both}
 use Rattle.laws_program.proofs.Cycles.{cycle_back}
 use Rattle.laws_program.proofs.Flattened.{ListLaws, expanded_keeps}
 use Rattle.laws_program.proofs.Kept.{kept, kept_rules, kept_specs, kept_settings}
-use Rattle.laws_program.proofs.AnswersBack.{FitLaw, OneLaw}
-use Rattle.laws_program.proofs.ExpandedAnswers.{AnswerLaw, IsLikeExpanded, same_default, same_groups, rows_there, there, back}
+use Rattle.laws_program.proofs.ExpandedAnswers.{FitLaw, OneLaw, AnswerLaw, IsLikeExpanded, same_default, same_groups, there, back}
 use Rattle.laws_program.proofs.Used.{kept_keeps}
 
 both_then : {A B C : Type 0} → A ↔ B → B ↔ C → A ↔ C
@@ -27,32 +25,14 @@ module _ (law : ListLaw) (hits : MatchesSame read_back) (lines read : List Line)
   settings : AreDefaultsAlike read_back lines read
   settings = defaults_there law lines read same
 
-  read_rows : (rows : List Row) → AreRows lines rows → (likes : List Row) × AreRows read likes × AllAlike (AreRowsEqual read_back lines read) rows likes
-  read_rows = all_rows_alike lines read lists same
-
   read_default : DefaultLaw → (who : Who) (name : List ℕ) → IsRunasDefault lines who name ↔ IsRunasDefault read who name
   read_default defaults who name = defaults read_back lines read hits settings who name
 
   read_groups : GroupLaw → (who : Who) (places : List GroupPlace) → AreHostGroups lines who places ↔ AreHostGroups read who places
-  read_groups groups who places = groups read_back lines read hits (all_specs_alike lines read lists same) who places
+  read_groups groups who places = groups read_back lines read hits (specs_for_same lines read lists same) who places
 
-  module _ (equal : EqualLaw) (q : Request) where
-    read_there : (answer : Option Answer) → IsAnswer lines q answer → IsAnswer read q answer
-    read_there answer a =
-        let new = read_rows a.rows a.are_rows in
-        record { rows = new.0; are_rows = new.1; answers = equal read_back lines read hits settings q a.rows new.0 answer new.2 a.answers }
-
-    -- An answer there was given before, if there are rows.
-    read_again : FitLaw → FlatLaw → OneLaw → (rows : List Row) → AreRows lines rows → (answer : Option Answer) → IsAnswer read q answer → IsAnswer lines q answer
-    read_again fits one_flat one rows are answer b =
-        let new = read_rows rows are in
-        let here = rows_one one_flat read b.rows new.0 b.are_rows new.1 in
-        let found = last_alike (λ s r. AreRowsEqual read_back lines read r s) (Fits read q) (Fits lines q)
-        (λ s r alike. turned_both (fits read_back lines read hits settings q r s alike.alike)) new.0 rows b.answers.last
-        (all_turned (AreRowsEqual read_back lines read) rows new.0 new.2) (subst (λ rs. IsLast (Fits read q) rs b.answers.last) here b.answers.is_last) in
-        let was : IsAnswer lines q (option_map told found.0) =
-        record { rows = rows; are_rows = are; answers = record { last = found.0; is_last = found.1; says = refl } } in
-        subst (IsAnswer lines q) (one read q (option_map told found.0) answer (read_there (option_map told found.0) was) b) was
+  read_answers : EqualLaw → (q : Request) (answer : Option Answer) → IsAnswer lines q answer ↔ IsAnswer read q answer
+  read_answers equal q answer = equal read_back lines read hits settings (specs_equal lines read lists same) q answer
 
 -- ---- the rules that are kept of a policy with its aliases replaced
 
@@ -98,14 +78,12 @@ module _ (reads : ReadLaw) (law : ListLaw) (hits : MatchesSame read_back) (laws 
     pub printed_there : (answer : Option Answer) → IsAnswer lines q answer → (other : Option Answer) × IsAnswer read q other × SaysSame answer other
     printed_there answer a =
         let mid = there laws lines (rest_of lines) policy straight (rest_like lines) answers q answer a in
-        (mid.0, read_there law hits (rest_of lines) read same equal q mid.0 mid.1, mid.2)
+        (mid.0, (read_answers law hits (rest_of lines) read same equal q mid.0).0 mid.1, mid.2)
 
     pub printed_back : FitLaw → FlatLaw → OneLaw → (other : Option Answer) → IsAnswer read q other → (answer : Option Answer) × IsAnswer lines q answer × SaysSame answer other
     printed_back fits one_flat one other b =
-        let old = some_rows laws.some lines straight in
-        let mid = rows_there laws lines (rest_of lines) policy straight (rest_like lines) old.0 old.1 in
         back laws lines (rest_of lines) policy straight (rest_like lines) answers q fits one_flat one other
-        (read_again law hits (rest_of lines) read same equal q fits one_flat one mid.0 mid.1 other b)
+        ((read_answers law hits (rest_of lines) read same equal q other).1 b)
 
 -- None of its reachable aliases is cyclic.
 pub printed_straight : ReadLaw → (lines read : List Line) → IsSound lines → (HasReachableCycle lines → ⊥) → fits (used_rules (expanded lines)) ≡ true

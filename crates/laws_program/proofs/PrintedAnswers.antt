@@ -1,10 +1,10 @@
 -- Printed rules answer as the policy.
 use Rattle.laws_program.proofs.Common.{◌≡◌, ◌↔◌, ℕ, true, List, Option, Ok, Atom, Kind, Member, Line, IsSound, read_of, Who, read_back, IsSameMember, AllSame}
-use Rattle.laws_program.proofs.Common.{IsSame, AllAlike, AreAlike, AreAliasesAlike, IsRewritten, Request, MatchesSame, AreDefaultsAlike, AreRowsEqual}
-use Rattle.laws_program.proofs.Common.{AreSpecsAlike, Answer, Answers, IsAnswer, IsRunasDefault, AreHostGroups, Row, specs_of, GroupPlace, rules_of, lines_of}
+use Rattle.laws_program.proofs.Common.{IsSame, AllAlike, AreAlike, AreAliasesAlike, IsRewritten, Request, MatchesSame, AreDefaultsAlike, AreSpecsEqual}
+use Rattle.laws_program.proofs.Common.{AreSpecsAlike, Answer, IsAnswer, IsRunasDefault, AreHostGroups, specs_of, GroupPlace, rules_of, lines_of}
 use Rattle.laws_program.proofs.Common.{printed, fits, said_by}
 use Rattle.laws_program.proofs.Aliases.{members_alike, aliases_alike}
-use Rattle.laws_program.proofs.RowsAlike.{all_rows_alike, all_specs_alike}
+use Rattle.laws_program.proofs.PrintedSpecs.{specs_equal, specs_for_same}
 use Rattle.laws_program.proofs.Second.{ReadLaw, same_read}
 use Rattle.laws_program.proofs.SettingsAlike.{settings_alike}
 
@@ -23,8 +23,8 @@ GroupLaw = (write : Atom → Atom) (lines others : List Line) → MatchesSame wr
 
 abbrev pub AnswerLaw : Type 0
 AnswerLaw = (write : Atom → Atom) (lines others : List Line) → MatchesSame write → AreDefaultsAlike write lines others
-    → (q : Request) (rows others_rows : List Row) (answer : Option Answer) → AllAlike (AreRowsEqual write lines others) rows others_rows
-    → Answers lines q rows answer → Answers others q others_rows answer
+    → AllAlike (AreSpecsEqual write lines others) (specs_of lines) (specs_of others) → (q : Request) (answer : Option Answer)
+    → IsAnswer lines q answer ↔ IsAnswer others q answer
 
 module _ (law : ListLaw) (lines read : List Line) (same : AllSame IsSame (lines_of (rules_of lines)) (said_by read)) where
   pub lists_alike : (k : Kind) (ms ns : List Member) → AllSame IsSameMember ms ns → AreAlike read_back k lines read ms ns
@@ -34,15 +34,10 @@ module _ (law : ListLaw) (lines read : List Line) (same : AllSame IsSame (lines_
   defaults_there = settings_alike lines read lists_alike same
 
 pub same_answer : ReadLaw → ListLaw → AnswerLaw → MatchesSame read_back → (lines read : List Line) → IsSound lines → fits (rules_of lines) ≡ true
-    → read_of (printed (rules_of lines)) ≡ Ok read → (q : Request) (answer : Option Answer) → IsAnswer lines q answer → IsAnswer read q answer
-same_answer reads law answers hits lines read is size e q answer a =
+    → read_of (printed (rules_of lines)) ≡ Ok read → (q : Request) (answer : Option Answer) → IsAnswer lines q answer ↔ IsAnswer read q answer
+same_answer reads law answers hits lines read is size e q answer =
     let same = same_read reads lines read is size e in
-    let found = all_rows_alike lines read (lists_alike law lines read same) same a.rows a.are_rows in
-    record {
-      rows = found.0;
-      are_rows = found.1;
-      answers = answers read_back lines read hits (defaults_there law lines read same) q a.rows found.0 answer found.2 a.answers;
-    }
+    answers read_back lines read hits (defaults_there law lines read same) (specs_equal lines read (lists_alike law lines read same) same) q answer
 
 pub same_runas_default : ReadLaw → ListLaw → DefaultLaw → MatchesSame read_back → (lines read : List Line) → IsSound lines → fits (rules_of lines) ≡ true
     → read_of (printed (rules_of lines)) ≡ Ok read → (who : Who) (name : List ℕ) → IsRunasDefault lines who name ↔ IsRunasDefault read who name
@@ -54,4 +49,4 @@ pub same_host_groups : ReadLaw → ListLaw → GroupLaw → MatchesSame read_bac
     → read_of (printed (rules_of lines)) ≡ Ok read → (who : Who) (places : List GroupPlace) → AreHostGroups lines who places ↔ AreHostGroups read who places
 same_host_groups reads law groups hits lines read is size e who places =
     let same = same_read reads lines read is size e in
-    groups read_back lines read hits (all_specs_alike lines read (lists_alike law lines read same) same) who places
+    groups read_back lines read hits (specs_for_same lines read (lists_alike law lines read same) same) who places

@@ -1,105 +1,65 @@
 -- What a policy mentions with its aliases replaced, chains of mentions lead to in the policy that was read.
-use Rattle.laws_program.proofs.Common.{◌≡◌, inl, inr, ℕ, zero, suc, Bool, if◌then◌else◌, List, [], ◌∷◌, ◌++◌, length, map, Option, Some, None, refl, subst}
-use Rattle.laws_program.proofs.Common.{AllByRecursion, flat_map, Kind, User, Runas, Host, Cmnd, Atom, Member, RunasSpec, CmdSpec, HostGroup, Scope, Node, Line}
-use Rattle.laws_program.proofs.Common.{definitions, is_kind, of_runas, in_group, in_scope, Has, onward, name_in, names_in, roots_in, IsReachable, alias_of}
+use Rattle.laws_program.proofs.Common.{◌≡◌, ℕ, zero, suc, Bool, if◌then◌else◌, List, [], ◌∷◌, ◌++◌, length, map, Option, Some, None, refl}
+use Rattle.laws_program.proofs.Common.{AllByRecursion, flat_map, Kind, User, Runas, Host, Cmnd, Member, RunasSpec, CmdSpec, HostGroup, Scope, Node, Line}
+use Rattle.laws_program.proofs.Common.{definitions, is_kind, of_runas, in_group, in_scope, roots_in, IsReachable, alias_of}
 use Rattle.laws_program.proofs.Common.{turned_member, replaced_by, replaced_once, replaced_times, flattened, all_append, expanded_runas, with_member}
 use Rattle.laws_program.proofs.Common.{expanded_command, expanded_group, expanded_list, expanded_scope, expanded_node}
 use Rattle.std.specs.Option.{option_map}
 use Rattle.sudoers_line.specs.Node as node
 use Rattle.laws_program.proofs.RootsAlike.{all_runas}
-use Rattle.laws_program.proofs.Defined.{alias_named}
-
--- ---- lists
-
-module _ {X : Type 0} (P : X → Type 0) where
-  pub left_of : (xs ys : List X) → AllByRecursion P (xs ++ ys) → AllByRecursion P xs
-  left_of [] ys all = tt
-  left_of (x ∷ xs) ys all = (all.0, left_of xs ys all.1)
-
-  pub right_of : (xs ys : List X) → AllByRecursion P (xs ++ ys) → AllByRecursion P ys
-  right_of [] ys all = all
-  right_of (x ∷ xs) ys all = right_of xs ys all.1
-
-  pub of_has : (xs : List X) → ((x : X) → Has xs x → P x) → AllByRecursion P xs
-  of_has [] each = tt
-  of_has (x ∷ xs) each = (each x (inl refl), of_has xs (λ y h. each y (inr h)))
+use Rattle.sudoers_match.proofs.MetMembers.{left_of, right_of, IsMet, AreMet, names_met, met_names, of_alias}
 
 module _ (lines : List Line) where
-  -- Chains of mentions lead to the names of the member.
-  abbrev IsMet : Kind → Member → Type 0
-  IsMet k m = AllByRecursion (IsReachable k lines) (name_in m.atom)
-
-  abbrev AreMet : Kind → List Member → Type 0
-  AreMet k ms = AllByRecursion (IsMet k) ms
-
-  names_met : (k : Kind) (ms : List Member) → AreMet k ms → AllByRecursion (IsReachable k lines) (names_in ms)
-  names_met k [] all = tt
-  names_met k (m ∷ ms) all = all_append (IsReachable k lines) (name_in m.atom) (names_in ms) all.0 (names_met k ms all.1)
-
-  met_names : (k : Kind) (ms : List Member) → AllByRecursion (IsReachable k lines) (names_in ms) → AreMet k ms
-  met_names k [] all = tt
-  met_names k (m ∷ ms) all =
-      (left_of (IsReachable k lines) (name_in m.atom) (names_in ms) all, met_names k ms (right_of (IsReachable k lines) (name_in m.atom) (names_in ms) all))
-
-  -- ---- members of aliases
-
-  of_alias : (k : Kind) (a : Atom) → AllByRecursion (IsReachable k lines) (name_in a) → (ms : List Member) → alias_of k lines a ≡ Some ms → AreMet k ms
-  of_alias k a met ms e =
-      let d = alias_named k lines a ms e in
-      let reached = subst (λ b. AllByRecursion (IsReachable k lines) (name_in b)) d.is met in
-      subst (AreMet k) d.members (met_names k d.by.def.members (of_has (IsReachable k lines) (names_in d.by.def.members) (λ x h.
-      onward d.name x reached.0 (record { by = d.by; stands = d.stands; of_kind = d.of_kind; of_name = d.of_name; mentions = h }))))
-
   -- ---- lists with their aliases replaced
 
-  turned_met : (k : Kind) (negated : Bool) (ms : List Member) → AreMet k ms → AreMet k (map (turned_member negated) ms)
+  turned_met : (k : Kind) (negated : Bool) (ms : List Member) → AreMet lines k ms → AreMet lines k (map (turned_member negated) ms)
   turned_met k negated [] all = tt
   turned_met k negated (m ∷ ms) all = (all.0, turned_met k negated ms all.1)
 
-  by_met : (k : Kind) (m : Member) → IsMet k m → (o : Option (List Member)) → alias_of k lines m.atom ≡ o → AreMet k (replaced_by m o)
+  by_met : (k : Kind) (m : Member) → IsMet lines k m → (o : Option (List Member)) → alias_of k lines m.atom ≡ o → AreMet lines k (replaced_by m o)
   by_met k m met None e = (met, tt)
-  by_met k m met (Some ms) e = turned_met k m.negated ms (of_alias k m.atom met ms e)
+  by_met k m met (Some ms) e = turned_met k m.negated ms (of_alias lines k m.atom met ms e)
 
-  once_met : (k : Kind) (ms : List Member) → AreMet k ms → AreMet k (replaced_once k lines ms)
+  once_met : (k : Kind) (ms : List Member) → AreMet lines k ms → AreMet lines k (replaced_once k lines ms)
   once_met k [] all = tt
   once_met k (m ∷ ms) all =
-      all_append (IsMet k) (replaced_by m (alias_of k lines m.atom)) (replaced_once k lines ms) (by_met k m all.0 (alias_of k lines m.atom) refl) (once_met k ms all.1)
+      all_append (IsMet lines k) (replaced_by m (alias_of k lines m.atom)) (replaced_once k lines ms) (by_met k m all.0 (alias_of k lines m.atom) refl) (once_met k ms all.1)
 
-  times_met : (n : ℕ) (k : Kind) (ms : List Member) → AreMet k ms → AreMet k (replaced_times n k lines ms)
+  times_met : (n : ℕ) (k : Kind) (ms : List Member) → AreMet lines k ms → AreMet lines k (replaced_times n k lines ms)
   times_met zero k ms all = all
   times_met (suc n) k ms all = times_met n k (replaced_once k lines ms) (once_met k ms all)
 
-  list_met : (k : Kind) (ms : List Member) → AreMet k ms → AreMet k (flattened k lines ms)
+  list_met : (k : Kind) (ms : List Member) → AreMet lines k ms → AreMet lines k (flattened k lines ms)
   list_met k ms all = times_met (length (definitions lines)) k ms all
 
   -- ---- commands
 
-  runas_met : (r : Option RunasSpec) → AreMet Runas (of_runas r) → AreMet Runas (of_runas (option_map (expanded_runas lines) r))
+  runas_met : (r : Option RunasSpec) → AreMet lines Runas (of_runas r) → AreMet lines Runas (of_runas (option_map (expanded_runas lines) r))
   runas_met None all = tt
   runas_met (Some r) all =
-      all_append (IsMet Runas) (flattened Runas lines r.users) (flattened Runas lines r.groups)
-      (list_met Runas r.users (left_of (IsMet Runas) r.users r.groups all)) (list_met Runas r.groups (right_of (IsMet Runas) r.users r.groups all))
+      all_append (IsMet lines Runas) (flattened Runas lines r.users) (flattened Runas lines r.groups)
+      (list_met Runas r.users (left_of (IsMet lines Runas) r.users r.groups all)) (list_met Runas r.groups (right_of (IsMet lines Runas) r.users r.groups all))
 
   abbrev commands_in : List CmdSpec → List Member
   commands_in cs = map (λ (c : CmdSpec). c.member) cs
 
-  each_runas : (r : Option RunasSpec) (c : CmdSpec) (ms : List Member) (rest : List CmdSpec) → AreMet Runas (of_runas r) → AreMet Runas (all_runas rest)
-      → AreMet Runas (all_runas (map (with_member r c) ms ++ rest))
+  each_runas : (r : Option RunasSpec) (c : CmdSpec) (ms : List Member) (rest : List CmdSpec) → AreMet lines Runas (of_runas r) → AreMet lines Runas (all_runas rest)
+      → AreMet lines Runas (all_runas (map (with_member r c) ms ++ rest))
   each_runas r c [] rest own all = all
-  each_runas r c (m ∷ ms) rest own all = all_append (IsMet Runas) (of_runas r) (all_runas (map (with_member r c) ms ++ rest)) own (each_runas r c ms rest own all)
+  each_runas r c (m ∷ ms) rest own all = all_append (IsMet lines Runas) (of_runas r) (all_runas (map (with_member r c) ms ++ rest)) own (each_runas r c ms rest own all)
 
-  runas_each_met : (cs : List CmdSpec) → AreMet Runas (all_runas cs) → AreMet Runas (all_runas (flat_map (expanded_command lines) cs))
+  runas_each_met : (cs : List CmdSpec) → AreMet lines Runas (all_runas cs) → AreMet lines Runas (all_runas (flat_map (expanded_command lines) cs))
   runas_each_met [] all = tt
   runas_each_met (c ∷ cs) all =
       each_runas (option_map (expanded_runas lines) c.runas) c (flattened Cmnd lines (c.member ∷ [])) (flat_map (expanded_command lines) cs)
-      (runas_met c.runas (left_of (IsMet Runas) (of_runas c.runas) (all_runas cs) all)) (runas_each_met cs (right_of (IsMet Runas) (of_runas c.runas) (all_runas cs) all))
+      (runas_met c.runas (left_of (IsMet lines Runas) (of_runas c.runas) (all_runas cs) all)) (runas_each_met cs (right_of (IsMet lines Runas) (of_runas c.runas) (all_runas cs) all))
 
-  each_member : (r : Option RunasSpec) (c : CmdSpec) (ms : List Member) (rest : List CmdSpec) → AreMet Cmnd ms → AreMet Cmnd (commands_in rest)
-      → AreMet Cmnd (commands_in (map (with_member r c) ms ++ rest))
+  each_member : (r : Option RunasSpec) (c : CmdSpec) (ms : List Member) (rest : List CmdSpec) → AreMet lines Cmnd ms → AreMet lines Cmnd (commands_in rest)
+      → AreMet lines Cmnd (commands_in (map (with_member r c) ms ++ rest))
   each_member r c [] rest own all = all
   each_member r c (m ∷ ms) rest own all = (own.0, each_member r c ms rest own.1 all)
 
-  all_members : (cs : List CmdSpec) → AreMet Cmnd (commands_in cs) → AreMet Cmnd (commands_in (flat_map (expanded_command lines) cs))
+  all_members : (cs : List CmdSpec) → AreMet lines Cmnd (commands_in cs) → AreMet lines Cmnd (commands_in (flat_map (expanded_command lines) cs))
   all_members [] all = tt
   all_members (c ∷ cs) all =
       each_member (option_map (expanded_runas lines) c.runas) c (flattened Cmnd lines (c.member ∷ [])) (flat_map (expanded_command lines) cs)
@@ -107,20 +67,20 @@ module _ (lines : List Line) where
 
   -- ---- lines
 
-  group_met : (k : Kind) (g : HostGroup) → AreMet k (in_group k g) → AreMet k (in_group k (expanded_group lines g))
+  group_met : (k : Kind) (g : HostGroup) → AreMet lines k (in_group k g) → AreMet lines k (in_group k (expanded_group lines g))
   group_met User g all = tt
   group_met Runas g all = runas_each_met g.commands all
   group_met Host g all = list_met Host g.hosts all
   group_met Cmnd g all = all_members g.commands all
 
-  groups_met : (k : Kind) (gs : List HostGroup) → AreMet k (flat_map (in_group k) gs) → AreMet k (flat_map (in_group k) (map (expanded_group lines) gs))
+  groups_met : (k : Kind) (gs : List HostGroup) → AreMet lines k (flat_map (in_group k) gs) → AreMet lines k (flat_map (in_group k) (map (expanded_group lines) gs))
   groups_met k [] all = tt
   groups_met k (g ∷ gs) all =
-      all_append (IsMet k) (in_group k (expanded_group lines g)) (flat_map (in_group k) (map (expanded_group lines) gs))
-      (group_met k g (left_of (IsMet k) (in_group k g) (flat_map (in_group k) gs) all))
-      (groups_met k gs (right_of (IsMet k) (in_group k g) (flat_map (in_group k) gs) all))
+      all_append (IsMet lines k) (in_group k (expanded_group lines g)) (flat_map (in_group k) (map (expanded_group lines) gs))
+      (group_met k g (left_of (IsMet lines k) (in_group k g) (flat_map (in_group k) gs) all))
+      (groups_met k gs (right_of (IsMet lines k) (in_group k g) (flat_map (in_group k) gs) all))
 
-  scoped_met : (k j : Kind) (ms : List Member) → AreMet k (if is_kind k j then ms else []) → AreMet k (if is_kind k j then expanded_list lines j ms else [])
+  scoped_met : (k j : Kind) (ms : List Member) → AreMet lines k (if is_kind k j then ms else []) → AreMet lines k (if is_kind k j then expanded_list lines j ms else [])
   scoped_met User User ms all = list_met User ms all
   scoped_met Runas Runas ms all = list_met Runas ms all
   scoped_met Host Host ms all = list_met Host ms all
@@ -138,20 +98,20 @@ module _ (lines : List Line) where
   scoped_met Cmnd Runas ms all = tt
   scoped_met Cmnd Host ms all = tt
 
-  scope_met : (k : Kind) (s : Option Scope) → AreMet k (in_scope k s) → AreMet k (in_scope k (option_map (expanded_scope lines) s))
+  scope_met : (k : Kind) (s : Option Scope) → AreMet lines k (in_scope k s) → AreMet lines k (in_scope k (option_map (expanded_scope lines) s))
   scope_met k None all = tt
   scope_met k (Some s) all = scoped_met k s.kind s.members all
 
   spec_met : (k : Kind) (users : List Member) (groups : List HostGroup) → AllByRecursion (IsReachable k lines) (roots_in k (node.Spec users groups))
       → AllByRecursion (IsReachable k lines) (roots_in k (node.Spec (flattened User lines users) (map (expanded_group lines) groups)))
-  spec_met User users groups all = names_met User (flattened User lines users) (list_met User users (met_names User users all))
-  spec_met Runas users groups all = names_met Runas (flat_map (in_group Runas) (map (expanded_group lines) groups)) (groups_met Runas groups (met_names Runas (flat_map (in_group Runas) groups) all))
-  spec_met Host users groups all = names_met Host (flat_map (in_group Host) (map (expanded_group lines) groups)) (groups_met Host groups (met_names Host (flat_map (in_group Host) groups) all))
-  spec_met Cmnd users groups all = names_met Cmnd (flat_map (in_group Cmnd) (map (expanded_group lines) groups)) (groups_met Cmnd groups (met_names Cmnd (flat_map (in_group Cmnd) groups) all))
+  spec_met User users groups all = names_met lines User (flattened User lines users) (list_met User users (met_names lines User users all))
+  spec_met Runas users groups all = names_met lines Runas (flat_map (in_group Runas) (map (expanded_group lines) groups)) (groups_met Runas groups (met_names lines Runas (flat_map (in_group Runas) groups) all))
+  spec_met Host users groups all = names_met lines Host (flat_map (in_group Host) (map (expanded_group lines) groups)) (groups_met Host groups (met_names lines Host (flat_map (in_group Host) groups) all))
+  spec_met Cmnd users groups all = names_met lines Cmnd (flat_map (in_group Cmnd) (map (expanded_group lines) groups)) (groups_met Cmnd groups (met_names lines Cmnd (flat_map (in_group Cmnd) groups) all))
 
   -- What the line mentions with its aliases replaced.
   pub node_met : (k : Kind) (n : Node) → AllByRecursion (IsReachable k lines) (roots_in k n) → AllByRecursion (IsReachable k lines) (roots_in k (expanded_node lines n))
   node_met k (node.Defaults scope params) all =
-      names_met k (in_scope k (option_map (expanded_scope lines) scope)) (scope_met k scope (met_names k (in_scope k scope) all))
+      names_met lines k (in_scope k (option_map (expanded_scope lines) scope)) (scope_met k scope (met_names lines k (in_scope k scope) all))
   node_met k (node.Spec users groups) all = spec_met k users groups all
   node_met k n all = tt

@@ -9,7 +9,7 @@ use Rattle.std.specs.Option.{option_map}
 use Rattle.sudoers_line.specs.Node as node
 use Rattle.laws_print.specs.Writable.{IsScopeMember, IsWritableScope}
 use Rattle.laws_print.proofs.Kept.{all_of}
-use Rattle.laws_program.proofs.Defined.{all_has, alias_named}
+use Rattle.sudoers_match_list.proofs.Defined.{all_has, alias_named}
 use Rattle.laws_program.proofs.Flattened.{still_some, expanded_line}
 
 -- what the law of what stays writable says of a sign

@@ -8,7 +8,8 @@ use Rattle.sudoers_match.specs.Heads.{filled}
 use Rattle.sudoers_match.specs.Specs.{AreJoined}
 use Rattle.sudoers_match.specs.internal.Straight.{CommandIsStraight}
 use Rattle.laws_program.proofs.HeadsAlike.{values_alike, tags_alike}
-use Rattle.laws_program.proofs.Flattened.{as_it_was, ListLaws, KeepUndefined, none_defined, still_some, runas_alike}
+use Rattle.sudoers_match_list.specs.Alike.{as_it_was}
+use Rattle.laws_program.proofs.Flattened.{ListLaws, KeepUndefined, none_defined, still_some, runas_alike}
 use Rattle.laws_program.proofs.ExpandedHeads.{IsExpandedHead, first_head, next_head}
 
 -- Two rows say the same, the second in the policy with its aliases replaced.

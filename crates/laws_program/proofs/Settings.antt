@@ -8,7 +8,8 @@ use Rattle.sudoers_line.specs.Node as node
 use Rattle.sudoers_match.specs.Default.{defaults_in}
 use Rattle.sudoers_match.specs.internal.Straight.{ScopeIsStraight}
 use Rattle.sudoers_match.proofs.Reached.{scope_straight}
-use Rattle.laws_program.proofs.Flattened.{as_it_was, ListLaws, KeepUndefined, list_alike, expanded_line}
+use Rattle.sudoers_match_list.specs.Alike.{as_it_was}
+use Rattle.laws_program.proofs.Flattened.{ListLaws, KeepUndefined, list_alike, expanded_line}
 
 module _ (laws : ListLaws) (lines others : List Line) (policy : IsSound lines) (keep : KeepUndefined lines others) (straight : HasReachableCycle lines → ⊥) where
   abbrev SettingsAlike : Option Scope × List ℕ → Option Scope × List ℕ → Type 0

@@ -6,7 +6,8 @@ use Rattle.laws_program.proofs.Common.{expanded}
 use Rattle.sudoers_line.specs.Node as node
 use Rattle.sudoers_match.specs.internal.Straight.{GroupIsStraight, GroupsAreStraight}
 use Rattle.sudoers_match.proofs.Reached.{users_straight, groups_straight}
-use Rattle.laws_program.proofs.Flattened.{as_it_was, ListLaws, KeepUndefined, list_alike, expanded_line}
+use Rattle.sudoers_match_list.specs.Alike.{as_it_was}
+use Rattle.laws_program.proofs.Flattened.{ListLaws, KeepUndefined, list_alike, expanded_line}
 use Rattle.laws_program.proofs.ExpandedHeads.{no_heads}
 use Rattle.laws_program.proofs.Rows.{IsExpandedRow, commands_alike}
 

@@ -17,8 +17,7 @@ ghost use Rattle.sudoers_cvt.specs.Rules.{rules_of, printed, fits};
 
 use crate::printing::printed_rules_are_read;
 use sudoers_match::laws::{
-    alike_defaults_are_same, alike_rows_answer, alike_rows_fit, alike_specs_have_same_groups,
-    one_answer,
+    alike_defaults_are_same, alike_specs_have_same_groups, equal_specs_answer_same,
 };
 use sudoers_match_list::laws::rewritten_lists_are_alike;
 use sudoers_match_member::laws::plain_first_is;
@@ -48,8 +47,6 @@ pub fn printed_rules_answer()
     printed_rules_are_read();
     rewritten_lists_are_alike();
     alike_defaults_are_same();
-    alike_rows_answer();
-    alike_rows_fit();
     alike_specs_have_same_groups();
-    one_answer();
+    equal_specs_answer_same();
 }

@@ -20,7 +20,7 @@ use crate::answers::read_member_matches_same;
 use crate::rewriting::expanded_rules_are_read;
 use sudoers_match::laws::{
     alike_defaults_are_same, alike_rows_answer, alike_rows_fit, alike_specs_have_same_groups,
-    one_answer,
+    equal_specs_answer_same, one_answer,
 };
 use sudoers_match_list::laws::{
     alias_free_list_is_flat, flat_or_cycle, flattened_is_flat, one_flat, rewritten_lists_are_alike,
@@ -80,6 +80,7 @@ pub fn printed_expansion_answers()
     alike_rows_answer();
     alike_rows_fit();
     alike_specs_have_same_groups();
+    equal_specs_answer_same();
     one_answer();
     one_flat();
 }

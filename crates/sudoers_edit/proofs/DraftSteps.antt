@@ -113,7 +113,7 @@ def_goes l tells policy n at line text splice read here cut =
     told : drop_def (length c.front) at (c.front ++ c.one ∷ c.rest) ≡ changed_or_refusal n text (texts policy)
     told = ap (λ m. drop_def m at (c.front ++ c.one ∷ c.rest)) c.place ∙ ap (drop_def n at) (sym c.is) ∙ cut.forth
 
-    by : Drops c.front cut.kind (length cut.defs) c.rest (drop_def (length c.front) at (c.front ++ c.one ∷ c.rest)) → DefGoes n at policy text splice
+    by : Drops c.front cut.kind cut.defs at c.rest (drop_def (length c.front) at (c.front ++ c.one ∷ c.rest)) → DefGoes n at policy text splice
     by (inl refused) = absurd (changed_no_splice n text (texts policy) (sym told ∙ refused))
     by (inr dropped) =
         let next : List Line = c.front ++ dropped.new ∷ c.rest in

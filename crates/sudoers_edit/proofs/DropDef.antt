@@ -118,23 +118,24 @@ says_of l text says h = by (is_logical_line text) refl (outcome_of text) (l.outc
 
 -- ---- where it leads
 
--- The line has a definition less, and the lines are those of a policy.
-pub record Dropped (front : List Line) (k : Kind) (count : ℕ) (after : List Line) (r : Result Lines EditFault) : Type 0 where
+-- The line has a definition less, that at this place, and the lines are those of a policy.
+pub record Dropped (front : List Line) (k : Kind) (defs : List Def) (at : ℕ) (after : List Line) (r : Result Lines EditFault) : Type 0 where
   pub new : Line
   pub less : List Def
   pub makes : new.node ≡ node.Alias k less
-  pub fewer : length less + 1 ≡ count
+  pub fewer : length less + 1 ≡ length defs
+  pub alike : are_alike is_same_def (remove defs at) less ≡ true
   pub is : r ≡ Ok (texts (front ++ new ∷ after))
   pub whole : IsWhole (front ++ new ∷ after)
 
-abbrev pub Drops : List Line → Kind → ℕ → List Line → Result Lines EditFault → Type 0
-Drops front k count after r = (r ≡ Err BadSplice) ⊎ Dropped front k count after r
+abbrev pub Drops : List Line → Kind → List Def → ℕ → List Line → Result Lines EditFault → Type 0
+Drops front k defs at after r = (r ≡ Err BadSplice) ⊎ Dropped front k defs at after r
 
 -- the line without the definition, where it reads as it should
 put_less : Laws → EndsLaw → (front : List Line) (line : Line) (after : List Line) (k : Kind) (defs : List Def) (at from to : ℕ) (says : Node)
     → IsWhole (front ++ line ∷ after) → line.node ≡ node.Alias k defs → at < length defs → seam at (def_extents defs) ≡ Some from
     → owned_stop at (def_extents defs) ≡ Some to → Says (line_without from to line.text) says → Less k defs at says
-    → Dropped front k (length defs) after (changed_or_refusal (length front) (line_without from to line.text) (texts (front ++ line ∷ after)))
+    → Dropped front k defs at after (changed_or_refusal (length front) (line_without from to line.text) (texts (front ++ line ∷ after)))
 put_less l ends front line after k defs at from to says whole makes inside begins stops is less =
     let text : List ℕ = line_without from to line.text in
     let new : Line = record { text = text; node = says } in
@@ -169,6 +170,7 @@ put_less l ends front line after k defs at from to says whole makes inside begin
       less = less.less;
       makes = less.is;
       fewer = count;
+      alike = less.alike;
       is = rw (le-ltb line_limit (length text) short) (ap lines_or_refusal there ∙ landed l (front ++ new ∷ after) again);
       whole = again;
     }
@@ -206,9 +208,9 @@ place_is at xs next inside many =
 -- A definition of several, taken out of a line of a policy.
 pub drop_goes : Laws → EndsLaw → (front : List Line) (line : Line) (after : List Line) (k : Kind) (defs : List Def) (at : ℕ)
     → IsWhole (front ++ line ∷ after) → line.node ≡ node.Alias k defs → at < length defs → 2 ≤ length defs
-    → Drops front k (length defs) after (drop_def (length front) at (front ++ line ∷ after))
+    → Drops front k defs at after (drop_def (length front) at (front ++ line ∷ after))
 drop_goes l ends front line after k defs at whole makes inside many =
-    subst (Drops front k (length defs) after) (sym told) (by_seam (seam at xs) refl (owned_stop at xs) refl)
+    subst (Drops front k defs at after) (sym told) (by_seam (seam at xs) refl (owned_stop at xs) refl)
   where
     xs : List Extent
     xs = def_extents defs
@@ -227,7 +229,7 @@ drop_goes l ends front line after k defs at whole makes inside many =
 
     by_less : (from to : ℕ) → seam at xs ≡ Some from → owned_stop at xs ≡ Some to → (o : Option Node) → said (line_without from to line.text) ≡ o
         → (b : Bool) → is_def_more at from to (Some (node.Alias k defs)) o ≡ b
-        → Drops front k (length defs) after
+        → Drops front k defs at after
         (refuse_if (not b) BadSplice (changed_or_refusal (length front) (line_without from to line.text) (texts policy)))
     by_less from to begins stops o is false no_more = inl refl
     by_less from to begins stops None is true more = absurd (cc)
@@ -236,9 +238,9 @@ drop_goes l ends front line after k defs at whole makes inside many =
         (says_of l (line_without from to line.text) says is)
         (less_of k defs at from to says more))
 
-    by_cut : (from to : ℕ) → seam at xs ≡ Some from → owned_stop at xs ≡ Some to → Drops front k (length defs) after (next from to)
+    by_cut : (from to : ℕ) → seam at xs ≡ Some from → owned_stop at xs ≡ Some to → Drops front k defs at after (next from to)
     by_cut from to begins stops =
-        subst (λ (n : Node). Drops front k (length defs) after
+        subst (λ (n : Node). Drops front k defs at after
         (refuse_if (not (is_def_more at from to (Some n) (said (line_without from to line.text)))) BadSplice
         (changed_or_refusal (length front) (line_without from to line.text) (texts policy))))
         (sym makes)
@@ -246,7 +248,7 @@ drop_goes l ends front line after k defs at whole makes inside many =
         (is_def_more at from to (Some (node.Alias k defs)) (said (line_without from to line.text))) refl)
 
     by_seam : (o : Option ℕ) → seam at xs ≡ o → (p : Option ℕ) → owned_stop at xs ≡ p
-        → Drops front k (length defs) after (or_refuse o BadSplice (λ from. or_refuse p BadSplice (λ to. next from to)))
+        → Drops front k defs at after (or_refuse o BadSplice (λ from. or_refuse p BadSplice (λ to. next from to)))
     by_seam None begins p stops = inl refl
     by_seam (Some from) begins None stops = inl refl
     by_seam (Some from) begins (Some to) stops = by_cut from to begins stops

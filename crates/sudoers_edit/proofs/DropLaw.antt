@@ -19,10 +19,10 @@ use Rattle.sudoers_edit.proofs.WithoutLine.{cut_at}
 use Rattle.sudoers_edit.proofs.DropDef.{EndsLaw, Drops, drop_goes}
 use Rattle.sudoers_edit.proofs.DefEnds.{defs_end}
 
-refused_so : (front : List Line) (k : Kind) (count : ℕ) (after : List Line) (r : Result Lines EditFault) (fault : EditFault)
-    → Drops front k count after r → r ≡ Err fault → fault ≡ BadSplice
-refused_so front k count after r fault (inl refused) is = let same : Err fault ≡ Err BadSplice = sym is ∙ refused in cc
-refused_so front k count after r fault (inr dropped) is =
+refused_so : (front : List Line) (k : Kind) (defs : List Def) (at : ℕ) (after : List Line) (r : Result Lines EditFault) (fault : EditFault)
+    → Drops front k defs at after r → r ≡ Err fault → fault ≡ BadSplice
+refused_so front k defs at after r fault (inl refused) is = let same : Err fault ≡ Err BadSplice = sym is ∙ refused in cc
+refused_so front k defs at after r fault (inr dropped) is =
     absurd (let same : Err fault ≡ Ok (texts (front ++ dropped.new ∷ after)) = sym is ∙ dropped.is in cc)
 
 some_same : (a b : Line) → Some a ≡ Some b → a ≡ b
@@ -40,6 +40,6 @@ drop_refused l policy line k defs n at fault read here makes inside many is =
     let same : line ≡ c.one = some_same line c.one (sym here ∙ there) in
     let told : step (DropDef 0 n at) (texts policy) ≡ drop_def (length c.front) at (c.front ++ c.one ∷ c.rest) =
     ap (drop_def n at) (known l policy whole) ∙ ap (drop_def n at) c.is ∙ ap (λ m. drop_def m at (c.front ++ c.one ∷ c.rest)) (sym c.place) in
-    refused_so c.front k (length defs) c.rest (drop_def (length c.front) at (c.front ++ c.one ∷ c.rest)) fault
+    refused_so c.front k defs at c.rest (drop_def (length c.front) at (c.front ++ c.one ∷ c.rest)) fault
     (drop_goes l ends c.front c.one c.rest k defs at (subst IsWhole c.is whole) (ap (λ (x : Line). x.node) (sym same) ∙ makes) inside many)
     (sym told ∙ is)

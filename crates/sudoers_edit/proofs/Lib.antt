@@ -21,8 +21,8 @@ mod PruneNumbers
 pub mod RenameExamples
 mod ReadLemmas
 mod RedoLemmas
-mod RenameLemmas
-mod RenameSteps
+pub mod RenameLemmas
+pub mod RenameSteps
 mod ReplaceLemmas
 mod ReplacedLemmas
 mod SeamLemmas
@@ -37,30 +37,29 @@ mod FallLemmas
 mod PruneSteps
 mod SpliceLemmas
 mod SpliceSteps
-mod StepLemmas
+pub mod StepLemmas
 mod WayBackLemmas
 mod WithinLemmas
 mod RunEnds
 mod FormEnds
 mod TokenEnds
 mod LineTokens
-mod DefEnds
+pub mod DefEnds
 mod DefinedNames
-mod NameFree
-mod NameGone
-mod NameParts
+pub mod NameFree
+pub mod NameGone
+pub mod NameParts
 mod NameStarts
 mod OwnedBytes
 mod PutNames
-mod RenamedNames
-mod RenamedOnce
-mod RenamedPolicy
+pub mod RenamedNames
+pub mod RenamedOnce
+pub mod RenamedPolicy
 mod RenamedTexts
-mod RenameOutcome
+pub mod RenameOutcome
 mod RenameRefused
-mod Whole
-mod WithoutLine
-mod DropDef
+pub mod Whole
+pub mod WithoutLine
+pub mod DropDef
 mod DropLaw
-mod PruneSplice
 mod ElsewhereLemmas

@@ -21,7 +21,7 @@ use Rattle.sudoers_edit.proofs.RenamedNames.{Lacks}
 
 -- ---- members
 
-no_parts : {X : Type 0} (xs ys : List X) → xs ++ ys ≡ [] → (xs ≡ []) × (ys ≡ [])
+pub no_parts : {X : Type 0} (xs ys : List X) → xs ++ ys ≡ [] → (xs ≡ []) × (ys ≡ [])
 no_parts [] ys h = (refl, h)
 no_parts (x ∷ xs) ys h = absurd (cc)
 

@@ -18,7 +18,7 @@ use Rattle.sudoers_edit.specs.Renamed.{alias_of, renamed_lines}
 use Rattle.sudoers_edit.proofs.NameStarts.{none_all, mapped, nested}
 
 -- another name for an alias of this kind
-abbrev renaming : Kind → List ℕ → List ℕ → (ℕ → ℕ) → Renaming
+abbrev pub renaming : Kind → List ℕ → List ℕ → (ℕ → ℕ) → Renaming
 renaming k name fresh at = record { old = alias_of k name; fresh = fresh; at = at }
 
 -- the mentions of the name in a member

@@ -69,7 +69,7 @@ once_made l k name fresh policy new may whole =
     ∙ ap (λ (b : Bool). refuse_if b TooLarge (lines_or_refusal (texts new))) (all_short l (texts new) whole.each)
     ∙ landed l.base new whole
 
-step_is : RenameLaws → (k : Kind) (name fresh : List ℕ) (policy : List Line) → IsWhole policy
+pub step_is : RenameLaws → (k : Kind) (name fresh : List ℕ) (policy : List Line) → IsWhole policy
     → step (Rename k name fresh) (texts policy) ≡ rename k name fresh policy
 step_is l k name fresh policy whole = ap (rename k name fresh) (known l.base policy whole)
 
@@ -82,7 +82,7 @@ undone_lines l k name fresh (line ∷ lines) says without =
     ap₂ (λ (x : List ℕ) (xs : Lines). x ∷ xs) (l.undone (alias_of k name) fresh line.text line.node says.0 without.0)
     (undone_lines l k name fresh lines says.1 without.1)
 
-not_mentioned : (k : Kind) (fresh : List ℕ) (policy : List Line) → nat_lt 0 (length (mentions k fresh policy)) ≡ false → mentions k fresh policy ≡ []
+pub not_mentioned : (k : Kind) (fresh : List ℕ) (policy : List Line) → nat_lt 0 (length (mentions k fresh policy)) ≡ false → mentions k fresh policy ≡ []
 not_mentioned k fresh policy none = nil_from_length (mentions k fresh policy) (omega (arith, ltb-false 0 (length (mentions k fresh policy)) none))
 
 -- ---- both ways
@@ -117,7 +117,7 @@ back_may l k name fresh policy f =
           ap₂ (λ (a : Bool) (n : ℕ). a || nat_lt 0 n) (lacked k name es (old_gone k name fresh ds es are apart))
           (ap length (mentions_gone k name fresh apart 0 policy));
       are =
-          renamed_texts l.ascend k fresh name now (says_renamed l (alias_of k name) fresh old f.new policy f.whole.walk.says)
+          renamed_texts l.ascend k fresh name now (says_renamed l.same (alias_of k name) fresh old f.new policy f.whole.walk.says)
           ∙ undone_lines l k name fresh policy f.whole.walk.says without;
     }
   where

@@ -103,7 +103,7 @@ unlike_bytes a b differ = by (bytes_eq a b) refl
     by true is = absurd (differ ((bytes_eq-Decides a b).0 is))
     by false is = refl
 
-kind_like : (j i : Kind) → is_kind j i ≡ true → j ≡ i
+pub kind_like : (j i : Kind) → is_kind j i ≡ true → j ≡ i
 kind_like User User h = refl
 kind_like User Runas h = absurd (cc)
 kind_like User Host h = absurd (cc)
@@ -141,7 +141,7 @@ same_words true name fresh v w a b = by (bytes_eq name v) (bytes_eq name w) refl
         ∙ sym (unlike_bytes v w (λ same. bytes_unlike name v is ((bytes_eq-Decides name w).0 so ∙ sym same)))
     by false false is so = refl
 
-same_defines : (k : Kind) (name fresh : List ℕ) (j : Kind) (word : List ℕ) (d e : Definition) → e.kind ≡ d.kind
+pub same_defines : (k : Kind) (name fresh : List ℕ) (j : Kind) (word : List ℕ) (d e : Definition) → e.kind ≡ d.kind
     → e.def.name ≡ other_name k name fresh d.kind d.def.name → (is_kind k j && bytes_eq fresh word) ≡ false → Lacks k fresh d
     → defines j (other_name k name fresh j word) e ≡ defines j word d
 same_defines k name fresh j word d e kinds names free lacks =

@@ -16,13 +16,18 @@ use Rattle.sudoers_line.specs.Renamed.{NamedAlias, renamed_alias, renamed_node, 
 use Rattle.sudoers_tree.specs.Line.{Line}
 use Rattle.sudoers_tree.specs.Definition.{Definition, defined, definitions, place_of}
 use Rattle.sudoers_tree.specs.Fault.{is_some}
-use Rattle.sudoers_tree.specs.Policy.{texts, SaysSo}
+use Rattle.sudoers_tree.specs.Policy.{texts, SaysSo, IsWalk}
 use Rattle.sudoers_tree.specs.Reading.{read_of}
 use Rattle.sudoers_edit.specs.Renamed.{alias_of, renamed_line, renamed_lines, AreWithin}
 use Rattle.sudoers_edit.proofs.Whole.{Laws, IsWhole, whole_of, read_whole}
 use Rattle.sudoers_edit.proofs.DefinedNames.{defined_is_definable}
 use Rattle.sudoers_edit.proofs.RenamedNames.{AreRenamed, are_renamed, free_renamed, count_renamed, place_in}
 use Rattle.sudoers_edit.proofs.RenamedOnce.{lacks, once_renamed}
+
+-- what the law of a line with another name says
+abbrev pub SameLaw : Type 0
+SameLaw = (alias : NamedAlias) (fresh line : List ℕ) (says : Node) → IsDefinableName alias.name → IsDefinableName fresh → ReadsLine line says
+    → ReadsLine (renamed_text alias fresh says line) (renamed_node (renaming_of alias fresh says) says)
 
 -- The laws of lines and policies, and those of a line with another name.
 pub record RenameLaws : Type 0 where
@@ -32,8 +37,7 @@ pub record RenameLaws : Type 0 where
   pub logical : (line : List ℕ) → cut_of line ≡ Ok (line ∷ []) → is_logical_line line ≡ true
   pub ascend : (alias : NamedAlias) (line : List ℕ) (says : Node) → ReadsLine line says
       → NamesAscend (length alias.name) 0 (length line) (node_starts alias says)
-  pub same : (alias : NamedAlias) (fresh line : List ℕ) (says : Node) → IsDefinableName alias.name → IsDefinableName fresh → ReadsLine line says
-      → ReadsLine (renamed_text alias fresh says line) (renamed_node (renaming_of alias fresh says) says)
+  pub same : SameLaw
   pub line : (alias : NamedAlias) (fresh line : List ℕ) (says : Node) → IsDefinableName alias.name → IsDefinableName fresh → ReadsLine line says
       → IsLogicalLine line → IsLogicalLine (renamed_text alias fresh says line)
   pub ends : (alias : NamedAlias) (fresh line : List ℕ) (says : Node) → IsDefinableName alias.name → IsDefinableName fresh → ReadsLine line says
@@ -62,40 +66,47 @@ ended_renamed l alias fresh old new (line ∷ next ∷ lines) says =
     ap₂ (λ (a b : Bool). not a || b) (sym (l.ends alias fresh line.text line.node old new says.0))
     (ended_renamed l alias fresh old new (next ∷ lines) says.1)
 
-pub says_renamed : RenameLaws → (alias : NamedAlias) (fresh : List ℕ) → IsDefinableName alias.name → IsDefinableName fresh → (lines : List Line)
+pub says_renamed : SameLaw → (alias : NamedAlias) (fresh : List ℕ) → IsDefinableName alias.name → IsDefinableName fresh → (lines : List Line)
     → AllByRecursion SaysSo lines → AllByRecursion SaysSo (map (renamed_line alias fresh) lines)
-says_renamed l alias fresh old new [] says = tt
-says_renamed l alias fresh old new (line ∷ lines) says =
-    (l.same alias fresh line.text line.node old new says.0, says_renamed l alias fresh old new lines says.1)
+says_renamed same alias fresh old new [] says = tt
+says_renamed same alias fresh old new (line ∷ lines) says =
+    (same alias fresh line.text line.node old new says.0, says_renamed same alias fresh old new lines says.1)
+
+-- Lines in the order of a walk are so with another name that none of the kind had.
+pub walk_renamed : SameLaw → (k : Kind) (name fresh : List ℕ) (lines : List Line) → IsWalk lines → IsDefinableName name → IsDefinableName fresh
+    → is_some (place_of k fresh lines) ≡ false → IsWalk (renamed_lines k name fresh lines)
+walk_renamed same k name fresh lines walk old new free =
+    let ds : List Definition = definitions lines in
+    let es : List Definition = definitions (renamed_lines k name fresh lines) in
+    let are : AreRenamed k name fresh ds es = are_renamed k name fresh lines in
+    record {
+      says = says_renamed same (alias_of k name) fresh old new lines walk.says;
+      free = free_renamed k name fresh ds es are new.1 walk.free;
+      once = once_renamed k name fresh ds es are (lacks k fresh ds free) walk.once;
+      few = λ j. omega (arith, count_renamed k name fresh j ds es are, walk.few j);
+    }
 
 pub whole_renamed : RenameLaws → (k : Kind) (name fresh : List ℕ) (lines : List Line) → IsWhole lines → IsDefinableName name → IsDefinableName fresh
     → is_some (place_of k fresh lines) ≡ false → AllByRecursion IsShort (texts (renamed_lines k name fresh lines))
     → length (join (texts (renamed_lines k name fresh lines))) ≤ text_limit → IsWhole (renamed_lines k name fresh lines)
 whole_renamed l k name fresh lines whole old new free short fits =
     let alias : NamedAlias = alias_of k name in
-    let ds : List Definition = definitions lines in
-    let es : List Definition = definitions (renamed_lines k name fresh lines) in
-    let are : AreRenamed k name fresh ds es = are_renamed k name fresh lines in
     record {
       each = alone_renamed l alias fresh old new lines whole.each whole.walk.says short;
       ended = ended_renamed l alias fresh old new lines whole.walk.says ∙ whole.ended;
       fits = fits;
-      walk =
-          record {
-            says = says_renamed l alias fresh old new lines whole.walk.says;
-            free = free_renamed k name fresh ds es are new.1 whole.walk.free;
-            once = once_renamed k name fresh ds es are (lacks k fresh ds free) whole.walk.once;
-            few = λ j. omega (arith, count_renamed k name fresh j ds es are, whole.walk.few j);
-          };
+      walk = walk_renamed l.same k name fresh lines whole.walk old new free;
     }
 
 some_placed : (o : Option Definition) → is_some (place_in o) ≡ is_some o
 some_placed None = refl
 some_placed (Some d) = refl
 
+pub walk_definable : (k : Kind) (name : List ℕ) (lines : List Line) → IsWalk lines → is_some (place_of k name lines) ≡ true → IsDefinableName name
+walk_definable k name lines walk is = defined_is_definable k name lines walk (sym (some_placed (defined k name (definitions lines))) ∙ is)
+
 pub name_definable : (k : Kind) (name : List ℕ) (lines : List Line) → IsWhole lines → is_some (place_of k name lines) ≡ true → IsDefinableName name
-name_definable k name lines whole is =
-    defined_is_definable k name lines whole.walk (sym (some_placed (defined k name (definitions lines))) ∙ is)
+name_definable k name lines whole is = walk_definable k name lines whole.walk is
 
 pub renamed_is_one : RenameLaws → (k : Kind) (name fresh : List ℕ) (policy : List Line) → read_of (join (texts policy)) ≡ Ok policy
     → is_some (place_of k name policy) ≡ true → IsDefinableName fresh → is_some (place_of k fresh policy) ≡ false

@@ -120,24 +120,6 @@ pub fn drop_is_refused_for_a_splice_alone()
     policy_is_cut();
 }
 
-/// A prune of a policy is refused for a splice alone. A line would not read as before but for the one definition less, or this would
-/// not own exactly the bytes that go with it.
-pub fn prune_is_refused_for_a_splice_alone()
-    ensures { (policy : List LineOf) (fault : AFault) → read_of (join (texts policy)) ≡ Ok policy
-        → step_of Edit.Prune (texts policy) ≡ Err fault → fault ≡ EditFault.BadSplice }
-{
-    cut_is();
-    lines_of_join();
-    lines_stand_alone();
-    line_alone_size();
-    line_alone_is_whole();
-    outcome_is();
-    definitions_ascend();
-    read_is();
-    one_outcome();
-    policy_is_cut();
-}
-
 /// A policy with another name for an alias that it defines is a policy, while lines and text are within the limits. The new name may
 /// define an alias, and defines none of the kind yet. Each line has the new name wherever the old one meant that alias, and says the
 /// same with it.

@@ -15,7 +15,7 @@ use Rattle.sudoers_match_member.specs.Hits.{user_hits, group_hits, host_hits}
 use Rattle.sudoers_match_list.specs.declared.verdict.Verdict.{Verdict}
 use Rattle.sudoers_match_list.specs.declared.verdict.Verdict.TheVariants.{Allow}
 use Rattle.sudoers_match_list.specs.Flat.{Signed, is_all, has_none, IsVerdict}
-use Rattle.sudoers_match_list.specs.Alike.{AllAlike, AreAlike}
+use Rattle.sudoers_match_list.specs.Alike.{AllAlike, AreAlike, as_it_was}
 use Rattle.sudoers_match_member.specs.declared.request.Request.{Request}
 use Rattle.sudoers_match.specs.Alike.{MatchesSame, AreCountedAlike, AreScopesAlike, AreSettingsAlike, AreDefaultsAlike, AreRunasListsAlike, AreRunasAlike, AreRowsAlike, AreRowsEqual, SaysSame}
 use Rattle.sudoers_match.specs.Allows.{Allows}
@@ -247,7 +247,7 @@ module _ (law : VerdictLaw) (write : Atom → Atom) (lines others : List Line) (
     told_alike (Some r) None alike = absurd alike
     told_alike (Some r) (Some s) alike = (allow_alike r s alike, tags_alike r s alike, alike.options)
 
-    told_equal : (a b : Option Row) → LastsAlike (AreRowsEqual write lines others) a b → option_map told a ≡ option_map told b
+    pub told_equal : (a b : Option Row) → LastsAlike (AreRowsEqual write lines others) a b → option_map told a ≡ option_map told b
     told_equal None None equal = refl
     told_equal None (Some s) equal = absurd equal
     told_equal (Some r) None equal = absurd equal
@@ -276,6 +276,15 @@ module _ (law : VerdictLaw) (write : Atom → Atom) (lines others : List Line) (
         record { last = found.0; is_last = found.1; says = a.says ∙ told_equal a.last found.0 found.2 }
 
 -- ---- the laws
+
+pub same_as_it_was : MatchesSame as_it_was
+same_as_it_was = record {
+  all = λ a. refl;
+  user = λ person a. refl;
+  group = λ group a. refl;
+  host = λ who a. refl;
+  command = λ asked a. refl;
+}
 
 pub same_default : VerdictLaw → (write : Atom → Atom) (lines others : List Line) → MatchesSame write → AreDefaultsAlike write lines others → (who : Who) (name : List ℕ)
     → IsRunasDefault lines who name ↔ IsRunasDefault others who name

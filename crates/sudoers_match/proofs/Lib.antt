@@ -15,3 +15,8 @@ pub mod OneAnswer
 pub mod GroupsAlike
 pub mod OneListing
 pub mod OneHead
+pub mod MetMembers
+pub mod SpecsEqual
+pub mod Counterparts
+pub mod CounterpartsAnswer
+pub mod Unreachable

@@ -14,7 +14,7 @@ use Rattle.sudoers_match_list.specs.Flat.{is_all}
 use Rattle.sudoers_match_list.specs.Alike.{AllAlike, AreAlike, rewritten}
 use Rattle.sudoers_match.specs.Answer.{Answer}
 use Rattle.sudoers_match.specs.Default.{defaults_of}
-use Rattle.sudoers_match.specs.Heads.{tags_of}
+use Rattle.sudoers_match.specs.Heads.{Head, no_head, filled, tags_of}
 use Rattle.sudoers_match.specs.Rows.{Row}
 use Rattle.sudoers_match.specs.Specs.{Spec}
 use Rattle.sudoers_match.specs.Values.{values_of}
@@ -62,7 +62,7 @@ pub record AreSpecsAlike (write : Atom → Atom) (lines others : List Line) (s t
   pub users : AreAlike write User lines others s.users t.users
   pub groups : AllAlike (AreGroupsAlike write lines others) s.groups t.groups
 
--- ---- rows
+-- ---- commands
 
 -- The lists of a Runas_Spec say the same, or both are empty.
 abbrev pub AreRunasListsAlike : (Atom → Atom) → List Line → List Line → List Member → List Member → Type 0
@@ -77,6 +77,29 @@ AreRunasAlike write lines others None (Some s) = ⊥
 AreRunasAlike write lines others (Some r) None = ⊥
 AreRunasAlike write lines others (Some r) (Some s) =
     AreRunasListsAlike write lines others r.users s.users × AreRunasListsAlike write lines others r.groups s.groups
+
+-- What holds of the commands says the same.
+pub record AreHeadsAlike (write : Atom → Atom) (lines others : List Line) (h g : Head) : Type 0 where
+  pub runas : AreRunasAlike write lines others h.runas g.runas
+  pub options : values_of g.options ≡ values_of h.options
+  pub tags : tags_of g.tags ≡ tags_of h.tags
+
+-- The commands say the same, and so does what holds of them.
+pub record AreCommandsAlike (write : Atom → Atom) (lines others : List Line) (c d : Head × Member) : Type 0 where
+  pub head : AreHeadsAlike write lines others c.0 d.0
+  pub member : AreAlike write Cmnd lines others (c.1 ∷ []) (d.1 ∷ [])
+
+-- The host groups are for the same hosts, and say the same of them, command by command.
+pub record AreGroupsEqual (write : Atom → Atom) (lines others : List Line) (g h : HostGroup) : Type 0 where
+  pub hosts : AreAlike write Host lines others g.hosts h.hosts
+  pub commands : AllAlike (AreCommandsAlike write lines others) (filled no_head g.commands) (filled no_head h.commands)
+
+-- The user specifications are for the same users, and say the same of them, host group by host group.
+pub record AreSpecsEqual (write : Atom → Atom) (lines others : List Line) (s t : Spec) : Type 0 where
+  pub users : AreAlike write User lines others s.users t.users
+  pub groups : AllAlike (AreGroupsEqual write lines others) s.groups t.groups
+
+-- ---- rows
 
 -- The rows say the same. They may have other numbers.
 pub record AreRowsAlike (write : Atom → Atom) (lines others : List Line) (r s : Row) : Type 0 where

@@ -12,4 +12,5 @@ pub mod Rows
 pub mod Answer
 pub mod Found
 pub mod Alike
+pub mod Beside
 pub mod internal

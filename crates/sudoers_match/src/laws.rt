@@ -1,13 +1,16 @@
 //! Laws of rows, answers, defaults and listings. Each is the contract of a function that does nothing.
 
 ghost use Rattle.std.specs.Prelude.{◌≡◌, ◌↔◌, ℕ, List, Option};
+ghost use Rattle.sudoers_check.specs.Chains.{HasReachableCycle};
 ghost use Rattle.sudoers_line.specs.declared.node.Atom.{Atom as AtomOf};
 ghost use Rattle.sudoers_tree.specs.Line.{Line as LineOf};
+ghost use Rattle.sudoers_tree.specs.Policy.{IsWalk};
 ghost use Rattle.sudoers_match_member.specs.declared.asked.Who.{Who as WhoOf};
 ghost use Rattle.sudoers_match_list.specs.Alike.{AllAlike};
 ghost use Rattle.sudoers_match_member.specs.declared.request.Request.{Request as RequestOf};
-ghost use Rattle.sudoers_match.specs.Alike.{AreDefaultsAlike, AreRowsAlike, AreRowsEqual, AreSpecsAlike, MatchesSame, SaysSame};
+ghost use Rattle.sudoers_match.specs.Alike.{AreDefaultsAlike, AreRowsAlike, AreRowsEqual, AreSpecsAlike, AreSpecsEqual, MatchesSame, SaysSame};
 ghost use Rattle.sudoers_match.specs.Answer.{Answer as AnswerOf, Answers, Fits, IsAnswer};
+ghost use Rattle.sudoers_match.specs.Beside.{KeepsReachable};
 ghost use Rattle.sudoers_match.specs.Default.{IsRunasDefault};
 ghost use Rattle.sudoers_match.specs.Groups.{AreHostGroups};
 ghost use Rattle.sudoers_match.specs.Heads.{Head as HeadOf};
@@ -17,7 +20,7 @@ ghost use Rattle.sudoers_match.specs.Specs.{specs_of};
 ghost use Rattle.sudoers_match.specs.declared.head.Head.{Head as HeadHeld};
 ghost use Rattle.sudoers_match.specs.declared.groups.GroupPlace.{GroupPlace as GroupPlaceOf};
 
-use sudoers_match_list::laws::{alike_lists_say_same, one_flat};
+use sudoers_match_list::laws::{alike_lists_lead_to_cycle, alike_lists_say_same, one_flat};
 
 /// A request has one answer.
 pub fn one_answer()
@@ -81,4 +84,29 @@ pub fn alike_rows_answer()
         → Answers lines request rows answer → Answers others request others_rows answer }
 {
     alike_lists_say_same();
+}
+
+/// Policies whose user specifications say the same, command by command, answer the same, numbers included.
+pub fn equal_specs_answer_same()
+    ensures { (write : AtomOf → AtomOf) (lines others : List LineOf) → MatchesSame write → AreDefaultsAlike write lines others
+        → AllAlike (AreSpecsEqual write lines others) (specs_of lines) (specs_of others) → (request : RequestOf) (answer : Option AnswerOf)
+        → IsAnswer lines request answer ↔ IsAnswer others request answer }
+{
+    alike_lists_say_same();
+}
+
+/// Definitions to which no chain of mentions leads change no answer, so a policy answers the same without them. A user has the same
+/// runas_default, and rules at the same places. A reachable alias is cyclic in both policies, or in neither.
+pub fn unreachable_definitions_change_no_answer()
+    ensures answer { (lines others : List LineOf) → KeepsReachable lines others → (request : RequestOf) (answer : Option AnswerOf)
+        → IsAnswer lines request answer ↔ IsAnswer others request answer }
+    ensures default { (lines others : List LineOf) → KeepsReachable lines others → (who : WhoOf) (name : List ℕ)
+        → IsRunasDefault lines who name ↔ IsRunasDefault others who name }
+    ensures groups { (lines others : List LineOf) → KeepsReachable lines others → (who : WhoOf) (places : List GroupPlaceOf)
+        → AreHostGroups lines who places ↔ AreHostGroups others who places }
+    ensures cycle { (lines others : List LineOf) → KeepsReachable lines others → IsWalk lines → IsWalk others
+        → HasReachableCycle lines ↔ HasReachableCycle others }
+{
+    alike_lists_say_same();
+    alike_lists_lead_to_cycle();
 }

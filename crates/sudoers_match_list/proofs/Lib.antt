@@ -14,3 +14,4 @@ pub mod Said
 pub mod Alike
 pub mod Straight
 pub mod Roots
+pub mod Defined

@@ -15,9 +15,9 @@ returns c =
     let hits = c.read_member_matches_same.ensures in
     record {
       there = λ lines read policy straight size e q answer a. printed_there reads law hits laws lines read policy straight size e
-          c.alike_rows_answer.ensures.alike c.alike_rows_answer.ensures.equal q answer a;
+          c.alike_rows_answer.ensures.alike c.equal_specs_answer_same.ensures q answer a;
       back = λ lines read policy straight size e q other b. printed_back reads law hits laws lines read policy straight size e
-          c.alike_rows_answer.ensures.alike c.alike_rows_answer.ensures.equal q c.alike_rows_fit.ensures c.one_flat.ensures
+          c.alike_rows_answer.ensures.alike c.equal_specs_answer_same.ensures q c.alike_rows_fit.ensures c.one_flat.ensures
           c.one_answer.ensures other b;
       straight = printed_straight reads;
       default = λ lines read policy straight size e who name. printed_default reads law hits laws lines read policy straight size e

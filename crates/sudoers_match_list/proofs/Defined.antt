@@ -1,8 +1,15 @@
 -- The definition that an atom names.
-use Rattle.laws_program.proofs.Common.{◌≡◌, inl, inr, ℕ, Bool, true, false, if◌then◌else◌, List, [], ◌∷◌, Option, Some, None, refl, sym, ap, subst, ◌∙◌}
-use Rattle.laws_program.proofs.Common.{AllByRecursion, Kind, Atom, Member, Line, Definition, definitions, defines, defined, Has, alias_of}
+use Rattle.std.proofs.Common.{◌≡◌, inl, inr, ℕ, Bool, true, false, if◌then◌else◌, List, [], ◌∷◌, Option, Some, None, refl, sym, ap, subst, ◌∙◌}
+use Rattle.std.specs.List.{AllByRecursion}
 use Rattle.std.specs.Option.{option_map}
+use Rattle.sudoers_line.specs.declared.node.Kind.{Kind}
+use Rattle.sudoers_line.specs.declared.node.Atom.{Atom}
 use Rattle.sudoers_line.specs.declared.node.Atom.TheVariants as atom
+use Rattle.sudoers_line.specs.Node.{Member}
+use Rattle.sudoers_tree.specs.Line.{Line}
+use Rattle.sudoers_tree.specs.Definition.{Definition, definitions, defines, defined}
+use Rattle.sudoers_check.specs.Chain.{Has}
+use Rattle.sudoers_match_list.specs.Flat.{alias_of}
 use Rattle.sudoers_match_list.proofs.Numbered.{is_of_name}
 
 pub all_has : {X : Type 0} (P : X → Type 0) (xs : List X) → AllByRecursion P xs → (x : X) → Has xs x → P x

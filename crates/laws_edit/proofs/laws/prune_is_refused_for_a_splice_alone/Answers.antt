@@ -1,5 +1,5 @@
-use Rattle.sudoers_edit.proofs.PruneSplice.{refused_for_splice}
-use Rattle.sudoers_edit.proofs.laws.prune_is_refused_for_a_splice_alone.Goals as goal
+use Rattle.laws_edit.proofs.PruneSplice.{refused_for_splice}
+use Rattle.laws_edit.proofs.laws.prune_is_refused_for_a_splice_alone.Goals as goal
 
 pub returns : goal.returns
 returns c = refused_for_splice (record {
@@ -13,4 +13,4 @@ returns c = refused_for_splice (record {
   reads = c.read_is.ensures;
   one = c.one_outcome.ensures;
   policy_cut = c.policy_is_cut.ensures;
-})
+}) c.chains_are.ensures.unused

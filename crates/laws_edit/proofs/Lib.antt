@@ -1,0 +1,7 @@
+mod SameMembers
+mod LeftDefinitions
+mod PruneLeaves
+mod PruneSplice
+mod RenameMade
+mod RenamedMembers
+mod RenamedAnswers
