@@ -75,7 +75,11 @@ pub fn line_moved(policy: &OneFile, from: u32, to: u32) -> Result<Plan, EditFaul
     }
     let text = Text::from_slice(alloc, line)?;
     let changes = move_changes(alloc, from, to, text)?;
-    let back = Edit::Move { file: 0, from: to, to: from };
+    let back = Edit::Move {
+        file: 0,
+        from: to,
+        to: from,
+    };
     let inverse = Edits::one(alloc, back)?;
     is_sound(policy);
     lines_are_whole(policy);

@@ -52,7 +52,10 @@ fn planned(policy: &OneFile, edit: &Edit) -> Result<Plan, EditFault>
         } => member_added(policy, *kind, name.as_slice(), *at, splice.as_slice()),
         Edit::DropMember { kind, name, at } => member_dropped(policy, *kind, name.as_slice(), *at),
         Edit::AddDef {
-            line, at, splice, ..
+            line,
+            at,
+            splice,
+            ..
         } => def_added(policy, *line, *at, splice.as_slice()),
         Edit::DropDef { line, at, .. } => def_dropped(policy, *line, *at),
         Edit::Rename { kind, name, fresh } => {
@@ -76,9 +79,7 @@ fn names_another_file(edit: &Edit) -> bool
         | Edit::DropDef { file, .. }
         | Edit::EndLine { file }
         | Edit::OpenEnd { file } => *file != 0,
-        Edit::AddMember { .. }
-        | Edit::DropMember { .. }
-        | Edit::Rename { .. }
-        | Edit::Prune => false,
+        Edit::AddMember { .. } | Edit::DropMember { .. } | Edit::Rename { .. } | Edit::Prune =>
+            false,
     }
 }

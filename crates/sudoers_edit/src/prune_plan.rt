@@ -89,11 +89,7 @@ fn taken_out(
 }
 
 /// Takes a line out.
-fn line_out(
-    policy: &OneFile,
-    changes: &mut Vec<LineChange>,
-    at: u32,
-) -> Result<Edit, EditFault>
+fn line_out(policy: &OneFile, changes: &mut Vec<LineChange>, at: u32) -> Result<Edit, EditFault>
     ensures { (now : List LineOf) (below upto : ℕ) → IsDraft policy.now (reverse changes.old.items) now
         → IsReady below upto (reverse changes.old.items) (length policy.now) → at < below
         → TakesOut policy.now (Removal.Line at) now (reverse changes.new.items) result }
@@ -132,15 +128,16 @@ fn def_out(
         Err(fault) => return Err(fault),
     };
     replace_line(changes, line as usize, text)?;
-    Ok(Edit::AddDef { file: 0, line, at, splice })
+    Ok(Edit::AddDef {
+        file: 0,
+        line,
+        at,
+        splice,
+    })
 }
 
 /// Returns the line `line` as the changes make it so far.
-fn line_so_far<'a>(
-    policy: &'a OneFile,
-    changes: &'a [LineChange],
-    line: usize,
-) -> Option<&'a [u8]>
+fn line_so_far<'a>(policy: &'a OneFile, changes: &'a [LineChange], line: usize) -> Option<&'a [u8]>
     ensures { option_copied result ≡ option_or (replaced_by line (reverse changes.now)) (slice_get (texts policy.now) line) }
 {
     let Some((last, _)) = changes.split_last() else {
@@ -163,11 +160,7 @@ fn replaced_text(change: &LineChange, line: usize) -> Option<&[u8]>
 }
 
 /// Adds the change that replaces the line `line` by `text`, in the place of the last change if that replaces the line too.
-fn replace_line(
-    changes: &mut Vec<LineChange>,
-    line: usize,
-    text: Text,
-) -> Result<(), AllocError>
+fn replace_line(changes: &mut Vec<LineChange>, line: usize, text: Text) -> Result<(), AllocError>
     ensures { OnOk result (reverse changes.new.items ≡ Swap 0 line text ∷ unless_replaced line (reverse changes.old.items)) }
 {
     let is_replaced = match changes.last() {

@@ -76,7 +76,15 @@ pub fn def_dropped(policy: &OneFile, line: u32, at: u32) -> Result<Plan, EditFau
         Err(fault) => return Err(fault),
     };
     let splice = Text::from_slice(alloc, &old.text[from..to])?;
-    let inverse = Edits::one(alloc, Edit::AddDef { file: 0, line, at, splice })?;
+    let inverse = Edits::one(
+        alloc,
+        Edit::AddDef {
+            file: 0,
+            line,
+            at,
+            splice,
+        },
+    )?;
     line_replaced(policy, line as usize, text, inverse)
 }
 
