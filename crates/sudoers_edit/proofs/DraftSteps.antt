@@ -86,7 +86,7 @@ changed_no_splice n text lines is =
     (nat_lt 1048576 (length (join (replaced n text lines)))) (replaced n text lines) (read_of (join (replaced n text lines))) is
 
 -- what a changed line leads to, if it is not refused
-changed_to : (n : ℕ) (text : List ℕ) (lines new : Lines) → changed_or_refusal n text lines ≡ Ok new → new ≡ replaced n text lines
+pub changed_to : (n : ℕ) (text : List ℕ) (lines new : Lines) → changed_or_refusal n text lines ≡ Ok new → new ≡ replaced n text lines
 changed_to n text lines new is =
     let p = not_refused (is_too_long text) TooLarge (lines_or_refusal (replaced n text lines)) new is in
     sym (accepted (replaced n text lines) new p.1).same

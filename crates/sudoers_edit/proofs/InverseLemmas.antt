@@ -41,7 +41,7 @@ pub record Runs (edits : List Edit) (ls new : Lines) : Type 0 where
   pub numbered : AreNumbered edits → AreNumbered (inv_run edits ls)
 
 -- a step that a run begins with
-first_ok : (next : Lines → Result Lines (ℕ × EditFault)) (place : ℕ) (r : Result Lines EditFault) (new : Lines) → then_or next place r ≡ Ok new
+pub first_ok : (next : Lines → Result Lines (ℕ × EditFault)) (place : ℕ) (r : Result Lines EditFault) (new : Lines) → then_or next place r ≡ Ok new
     → (mid : Lines) × (r ≡ Ok mid) × (next mid ≡ Ok new)
 first_ok next place (Ok mid) new e = (mid, refl, e)
 first_ok next place (Err f) new e = absurd (cc)

@@ -63,3 +63,4 @@ pub mod WithoutLine
 pub mod DropDef
 mod DropLaw
 mod ElsewhereLemmas
+mod PayloadLemmas

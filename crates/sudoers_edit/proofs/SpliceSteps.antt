@@ -44,7 +44,7 @@ found : {A : Type 0} (o : Option A) (f : EditFault) (next : A → Result Lines E
 found None f next new e = absurd (cc)
 found (Some x) f next new e = (x, refl, e)
 
-to_add : (at : ℕ) (xs : List Extent) (next : ℕ → Result Lines EditFault) (new : Lines) → place_to_add at xs next ≡ Ok new
+pub to_add : (at : ℕ) (xs : List Extent) (next : ℕ → Result Lines EditFault) (new : Lines) → place_to_add at xs next ≡ Ok new
     → (from : ℕ) × (seam at xs ≡ Some from) × (next from ≡ Ok new)
 to_add at xs next new e =
     found (seam at xs) BadSplice next new (not_refused (nat_lt (length xs) at) NoPlace (or_refuse (seam at xs) BadSplice next) new e).1
@@ -128,12 +128,12 @@ replaced_steps l edit inverse policy n text new read r numbered told is =
 -- DEFINITIONS
 
 -- A line that makes definitions, and what is done with them.
-record FoundDefs (n : ℕ) (policy : List Line) (next : Line → List Def → Result Lines EditFault) (new : Lines) : Type 0 where
-  line : Line
-  defs : List Def
-  here : slice_get policy n ≡ Some line
-  makes : defs_of line.node ≡ Some defs
-  told : next line defs ≡ Ok new
+pub record FoundDefs (n : ℕ) (policy : List Line) (next : Line → List Def → Result Lines EditFault) (new : Lines) : Type 0 where
+  pub line : Line
+  pub defs : List Def
+  pub here : slice_get policy n ≡ Some line
+  pub makes : defs_of line.node ≡ Some defs
+  pub told : next line defs ≡ Ok new
 
 found_defs : (n : ℕ) (policy : List Line) (next : Line → List Def → Result Lines EditFault) (new : Lines) → with_defs n policy next ≡ Ok new → FoundDefs n policy next new
 found_defs n policy next new e =
@@ -141,7 +141,7 @@ found_defs n policy next new e =
     let b = found (defs_of a.0.node) NoAlias (next a.0) new a.2 in
     record { line = a.0; defs = b.0; here = a.1; makes = b.1; told = b.2 }
 
-added_def : (n at : ℕ) (s : List ℕ) (policy : List Line) (new : Lines) → add_def n at s policy ≡ Ok new
+pub added_def : (n at : ℕ) (s : List ℕ) (policy : List Line) (new : Lines) → add_def n at s policy ≡ Ok new
     → FoundDefs n policy (λ line defs. place_to_add at (def_extents defs) (λ from. put_in among.Definitions at from n s line policy)) new
 unfolding add_def
 added_def n at s policy new e = found_defs n policy (λ line defs. place_to_add at (def_extents defs) (λ from. put_in among.Definitions at from n s line policy)) new e
@@ -176,12 +176,12 @@ drop_def_takes l n at policy new read is =
 -- MEMBERS
 
 -- The definition of an alias, and what is done with it.
-record FoundDef (k : Kind) (name : List ℕ) (policy : List Line) (next : Place → Line → Def → Result Lines EditFault) (new : Lines) : Type 0 where
-  place : Place
-  line : Line
-  d : Def
-  is : IsDefAt k name policy place line d
-  told : next place line d ≡ Ok new
+pub record FoundDef (k : Kind) (name : List ℕ) (policy : List Line) (next : Place → Line → Def → Result Lines EditFault) (new : Lines) : Type 0 where
+  pub place : Place
+  pub line : Line
+  pub d : Def
+  pub is : IsDefAt k name policy place line d
+  pub told : next place line d ≡ Ok new
 
 found_def : (k : Kind) (name : List ℕ) (policy : List Line) (next : Place → Line → Def → Result Lines EditFault) (new : Lines)
     → with_def (place_of k name policy) policy next ≡ Ok new → FoundDef k name policy next new
@@ -195,7 +195,7 @@ found_def k name policy next new e =
     let d = found (slice_get c.0 a.0.def) NoAlias (λ (d : Def). next a.0 b.0 d) new c.2 in
     record { place = a.0; line = b.0; d = d.0; is = record { named = a.1; here = b.1; defs = c.0; makes = c.1; stands = d.1 }; told = d.2 }
 
-added_member : (k : Kind) (name : List ℕ) (at : ℕ) (s : List ℕ) (policy : List Line) (new : Lines) → add_member k name at s policy ≡ Ok new
+pub added_member : (k : Kind) (name : List ℕ) (at : ℕ) (s : List ℕ) (policy : List Line) (new : Lines) → add_member k name at s policy ≡ Ok new
     → FoundDef k name policy (λ place line d. place_to_add at (member_extents d.members) (λ from. put_in (among.Members place.def) at from place.line s line policy)) new
 unfolding add_member
 added_member k name at s policy new e =

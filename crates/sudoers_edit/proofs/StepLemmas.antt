@@ -121,7 +121,7 @@ in_any make only takes file policy new read is =
 
 -- WHOLE LINES
 
-insert_parts : (b c : Bool) (r : Result Lines EditFault) (new : Lines) → (if b then Err NoLine else (if c then r else Err NotOneLine)) ≡ Ok new
+pub insert_parts : (b c : Bool) (r : Result Lines EditFault) (new : Lines) → (if b then Err NoLine else (if c then r else Err NotOneLine)) ≡ Ok new
     → (b ≡ false) × (c ≡ true) × (r ≡ Ok new)
 insert_parts true c r new e = absurd (cc)
 insert_parts false true r new e = (refl, refl, e)

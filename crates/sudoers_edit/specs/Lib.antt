@@ -13,4 +13,5 @@ pub mod Undoing
 pub mod Redoing
 pub mod Named
 pub mod WayBack
+pub mod Payload
 pub mod internal

@@ -1,7 +1,7 @@
 //! Laws of edits. Each is the contract of a function that does nothing.
 
 ghost use Rattle.std.specs.List.{AllByRecursion};
-ghost use Rattle.std.specs.Prelude.{◌≡◌, ◌<◌, ◌≤◌, length, remove, slice_get, ℕ, List, Some, Ok, Err, true, false};
+ghost use Rattle.std.specs.Prelude.{◌≡◌, ◌<◌, ◌≤◌, ◌+◌, length, remove, slice_get, ℕ, List, Some, Ok, Err, true, false};
 ghost use Rattle.sudoers_text.specs.Line.{join};
 ghost use Rattle.sudoers_text.specs.Renamed.{IsDefinableName};
 ghost use Rattle.sudoers_line.specs.declared.node.Kind.{Kind as AKind};
@@ -14,6 +14,7 @@ ghost use Rattle.sudoers_tree.specs.Policy.{SaysSo, texts};
 ghost use Rattle.sudoers_tree.specs.Reading.{read_of};
 ghost use Rattle.sudoers_edit.specs.Editing.{Desk, step as step_of, inv, run_all, inv_run, prune_list, without_place};
 ghost use Rattle.sudoers_edit.specs.Named.{AreNamed, spelling_or_fault};
+ghost use Rattle.sudoers_edit.specs.Payload.{payload_of, takes_out};
 ghost use Rattle.sudoers_edit.specs.Redoing.{MakesAgain};
 ghost use Rattle.sudoers_edit.specs.Renamed.{AreWithin, renamed_lines};
 ghost use Rattle.sudoers_edit.specs.Renaming.{is_taken, renamed};
@@ -70,6 +71,17 @@ pub fn inverse_leads_back()
     names_stand();
     renamed_line();
     one_outcome();
+}
+
+/// What takes an edit back carries exactly as many bytes as the edit took out, if it deleted a line or dropped members or definitions,
+/// and none otherwise. The payload of the undo script shows how much is missing.
+pub fn inverse_carries_what_was_taken_out()
+    ensures taken { (edit : AnEdit) (policy : List LineOf) (new : List (List ℕ)) → takes_out edit ≡ true → read_of (join (texts policy)) ≡ Ok policy
+        → step_of edit (texts policy) ≡ Ok new → length (join new) + payload_of (inv edit (texts policy)) ≡ length (join (texts policy)) }
+    ensures none { (edit : AnEdit) (lines : List (List ℕ)) → takes_out edit ≡ false → payload_of (inv edit lines) ≡ 0 }
+{
+    read_is();
+    inverse_leads_back();
 }
 
 /// A law: Prune is the edits of its list, made one after another: it is refused as the first of them that is, and its inverse is
