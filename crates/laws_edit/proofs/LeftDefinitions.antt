@@ -1,6 +1,6 @@
 -- Lines of a policy of which definitions are gone: what is left of the definitions, and what the aliases name.
 use Rattle.std.proofs.Common.{◌≡◌, ◌⊎◌, inl, inr, ℕ, ◌+◌, Bool, true, false, ◌&&◌, List, [], ◌∷◌, ◌++◌, Option, Some, None, refl, sym, ap, ap₂, subst, ◌∙◌, if◌then◌else◌}
-use Rattle.std.specs.List.{cons_option}
+use Rattle.std.specs.List.{cons_option, filter}
 use Rattle.std.specs.Option.{option_map}
 use Rattle.std.specs.Str.{bytes_eq}
 use Rattle.sudoers_line.specs.declared.node.Kind.{Kind}
@@ -12,6 +12,7 @@ use Rattle.sudoers_check.specs.Chains.{IsReachable}
 use Rattle.sudoers_check.proofs.Named.{defines_is}
 use Rattle.sudoers_match_list.specs.Alike.{AllAlike, IsRewritten, AreDefinedSame, as_it_was}
 use Rattle.sudoers_match.specs.Beside.{unless_alias, without_definitions, KeepsReachable}
+use Rattle.laws_edit.specs.Pruned.{defines_none}
 
 -- The definition has the kind, the name and the members of the other.
 pub record IsSameDefinition (d e : Definition) : Type 0 where
@@ -98,14 +99,16 @@ module _ (Gone : Kind → List ℕ → Type 0) where
   -- Definitions of some lines are gone, and everything else is left.
   pub record AreLeft (old new : List Line) : Type 0 where
     pub beside : without_definitions new ≡ without_definitions old
+    pub others : filter defines_none new ≡ filter defines_none old
     pub part : (i j : ℕ) → Leaves Gone (definitions_since i old) (definitions_since j new)
 
   pub left_itself : (lines : List Line) → AreLeft lines lines
-  left_itself lines = record { beside = refl; part = λ i j. since_itself i j lines }
+  left_itself lines = record { beside = refl; others = refl; part = λ i j. since_itself i j lines }
 
   pub left_then : (old mid new : List Line) → AreLeft old mid → AreLeft mid new → AreLeft old new
   left_then old mid new a b = record {
     beside = b.beside ∙ a.beside;
+    others = b.others ∙ a.others;
     part = λ i j. leaves_then (definitions_since i old) (definitions_since 0 mid) (definitions_since j new) (a.part i 0) (b.part 0 j);
   }
 
@@ -115,6 +118,7 @@ module _ (Gone : Kind → List ℕ → Type 0) where
       let more = left_with front old new is in
       record {
         beside = ap (cons_option (unless_alias line.node)) more.beside;
+        others = ap (λ (ls : List Line). if defines_none line then line ∷ ls else ls) more.others;
         part = λ i j.
             leaves_append (definitions_in i line.node) (definitions_in j line.node) (definitions_since (i + 1) (front ++ old)) (definitions_since (j + 1) (front ++ new))
             (in_itself i j line.node) (more.part (i + 1) (j + 1));

@@ -1,6 +1,7 @@
 mod SameMembers
 mod LeftDefinitions
 mod PruneLeaves
+mod KeptDefinitions
 mod PruneSplice
 mod RenameMade
 mod RenamedMembers

@@ -4,11 +4,12 @@ use Rattle.std.proofs.lemmas.Bool.{and_parts}
 use Rattle.std.proofs.lemmas.List.{length-append, reverse-append}
 use Rattle.std.proofs.lemmas.Slice.Eq.{bytes_eq-Decides}
 use Rattle.std.specs.List.{AllByRecursion, cons_option, filter}
-use Rattle.std.specs.Prelude.{slice_get}
+use Rattle.std.specs.Prelude.{not, slice_get}
 use Rattle.std.specs.Str.{bytes_eq}
 use Rattle.sudoers_line.specs.Node.{Def, Node}
 use Rattle.sudoers_line.specs.declared.node.Kind.{Kind}
 use Rattle.sudoers_line.specs.Node as node
+use Rattle.sudoers_tree.specs.Fault.{is_some}
 use Rattle.sudoers_tree.specs.Line.{Line}
 use Rattle.sudoers_tree.specs.Definition.{Definition, definitions, definitions_from, definitions_in, definitions_since}
 use Rattle.sudoers_check.specs.Chain.{Has}
@@ -20,6 +21,8 @@ use Rattle.sudoers_match.proofs.Lasts.{all_append}
 use Rattle.sudoers_match.proofs.MetMembers.{of_has}
 use Rattle.sudoers_match_list.proofs.Defined.{all_has}
 use Rattle.sudoers_edit.specs.Alike.{are_alike, is_same_def, is_same_member}
+use Rattle.sudoers_edit.specs.SpliceEdits.{defs_of}
+use Rattle.laws_edit.specs.Pruned.{defines_none}
 use Rattle.laws_edit.proofs.LeftDefinitions.{IsSameDefinition, Leaves, leaves_skip, leaves_append, since_itself, AreLeft, IsIdle}
 use Rattle.laws_edit.proofs.SameMembers.{members_same}
 use Rattle.sudoers_edit.proofs.Whole.{here_at}
@@ -99,6 +102,9 @@ module _ (policy : List Line) where
     beside =
         ap (λ (n : Node). cons_option (unless_alias n) (without_definitions after)) made
         ∙ sym (ap (λ (n : Node). cons_option (unless_alias n) (without_definitions after)) makes);
+    others =
+        ap (λ (n : Node). if not (is_some (defs_of n)) then new ∷ filter defines_none after else filter defines_none after) made
+        ∙ sym (ap (λ (n : Node). if not (is_some (defs_of n)) then line ∷ filter defines_none after else filter defines_none after) makes);
     part = λ i j.
         leaves_append (IsIdle policy) (definitions_in i line.node) (definitions_in j new.node) (definitions_since (i + 1) after) (definitions_since (j + 1) after)
         (subst (λ (n : Node). Leaves (IsIdle policy) (definitions_in i n) (definitions_in j new.node)) (sym makes)
@@ -109,12 +115,12 @@ module _ (policy : List Line) where
 
   -- ---- those before it
 
-  record WasAt (defs : List Def) (p : ℕ) (e : Def) : Type 0 where
-    one : Def
-    at : slice_get defs p ≡ Some one
-    called : one.name ≡ e.name
+  pub record WasAt (defs : List Def) (p : ℕ) (e : Def) : Type 0 where
+    pub one : Def
+    pub at : slice_get defs p ≡ Some one
+    pub called : one.name ≡ e.name
 
-  before_same : (defs : List Def) (at : ℕ) (less : List Def) → are_alike is_same_def (remove defs at) less ≡ true → (p : ℕ) → p < at → (e : Def)
+  pub before_same : (defs : List Def) (at : ℕ) (less : List Def) → are_alike is_same_def (remove defs at) less ≡ true → (p : ℕ) → p < at → (e : Def)
       → slice_get less p ≡ Some e → WasAt defs p e
   before_same [] zero [] h p below e is = absurd (cc)
   before_same [] (suc at) [] h p below e is = absurd (cc)
@@ -192,6 +198,7 @@ module _ (policy : List Line) where
         (λ d h. law policy d (among d h) (all_has (λ (x : Definition). is_unused policy x ≡ true) ds unused d h)) in
         record {
           beside = sym (ap (λ (m : Node). cons_option (unless_alias m) (without_definitions after)) makes);
+          others = sym (ap (λ (m : Node). if not (is_some (defs_of m)) then line ∷ filter defines_none after else filter defines_none after) makes);
           part = λ i j.
               leaves_append (IsIdle policy) (definitions_in i line.node) [] (definitions_since (i + 1) after) (definitions_since j after)
               (subst (λ (m : Node). Leaves (IsIdle policy) (definitions_in i m) []) (sym makes) (names_gone i 0 defs (names_of 0 defs idle)))

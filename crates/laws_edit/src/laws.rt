@@ -21,6 +21,7 @@ ghost use Rattle.sudoers_edit.specs.Editing.{step as step_of};
 ghost use Rattle.sudoers_edit.specs.Renaming.{is_taken};
 ghost use Rattle.sudoers_edit.specs.declared.fault.EditFault.{EditFault as EditFaultOf};
 ghost use Rattle.sudoers_edit.specs.Renamed.{renamed_lines};
+ghost use Rattle.laws_edit.specs.Pruned.{LeavesTheReachable};
 
 use sudoers_check::laws::chains_are;
 use sudoers_edit::{Edit, EditFault};
@@ -38,6 +39,25 @@ use sudoers_tree::laws::{one_outcome, policy_is_cut, read_is};
 pub fn prune_is_refused_for_a_splice_alone()
     ensures { (policy : List LineOf) (fault : EditFaultOf) → read_of (join (texts policy)) ≡ Ok policy
         → step_of Edit.Prune (texts policy) ≡ Err fault → fault ≡ EditFault.BadSplice }
+{
+    cut_is();
+    lines_of_join();
+    lines_stand_alone();
+    line_alone_size();
+    line_alone_is_whole();
+    outcome_is();
+    definitions_ascend();
+    read_is();
+    one_outcome();
+    policy_is_cut();
+    chains_are();
+}
+
+/// A prune that is not refused leaves exactly the aliases to which a chain of mentions leads from a user specification or a Defaults line,
+/// with their members. It leaves every line that defines no alias.
+pub fn prune_leaves_the_reachable()
+    ensures { (policy next : List LineOf) (new : List (List ℕ)) → read_of (join (texts policy)) ≡ Ok policy
+        → step_of Edit.Prune (texts policy) ≡ Ok new → read_of (join new) ≡ Ok next → LeavesTheReachable policy next }
 {
     cut_is();
     lines_of_join();

@@ -15,7 +15,7 @@ returns-clause-answer c policy next new read is reads =
       reads = c.read_is.ensures;
       one = c.one_outcome.ensures;
       policy_cut = c.policy_is_cut.ensures;
-    }) c.chains_are.ensures.unused policy next new read is reads in
+    }) c.chains_are.ensures.unused c.chains_are.ensures.used policy next new read is reads in
     c.unreachable_definitions_change_no_answer.ensures.answer policy next (left_keeps policy next pruned.left)
 
 pub returns-clause-default : goal.returns-clause-default
@@ -31,7 +31,7 @@ returns-clause-default c policy next new read is reads =
       reads = c.read_is.ensures;
       one = c.one_outcome.ensures;
       policy_cut = c.policy_is_cut.ensures;
-    }) c.chains_are.ensures.unused policy next new read is reads in
+    }) c.chains_are.ensures.unused c.chains_are.ensures.used policy next new read is reads in
     c.unreachable_definitions_change_no_answer.ensures.default policy next (left_keeps policy next pruned.left)
 
 pub returns-clause-groups : goal.returns-clause-groups
@@ -47,7 +47,7 @@ returns-clause-groups c policy next new read is reads =
       reads = c.read_is.ensures;
       one = c.one_outcome.ensures;
       policy_cut = c.policy_is_cut.ensures;
-    }) c.chains_are.ensures.unused policy next new read is reads in
+    }) c.chains_are.ensures.unused c.chains_are.ensures.used policy next new read is reads in
     c.unreachable_definitions_change_no_answer.ensures.groups policy next (left_keeps policy next pruned.left)
 
 pub returns-clause-cycle : goal.returns-clause-cycle
@@ -63,5 +63,5 @@ returns-clause-cycle c policy next new read is reads =
       reads = c.read_is.ensures;
       one = c.one_outcome.ensures;
       policy_cut = c.policy_is_cut.ensures;
-    }) c.chains_are.ensures.unused policy next new read is reads in
+    }) c.chains_are.ensures.unused c.chains_are.ensures.used policy next new read is reads in
     c.unreachable_definitions_change_no_answer.ensures.cycle policy next (left_keeps policy next pruned.left) pruned.was.walk pruned.whole.walk

@@ -13,4 +13,4 @@ returns c = refused_for_splice (record {
   reads = c.read_is.ensures;
   one = c.one_outcome.ensures;
   policy_cut = c.policy_is_cut.ensures;
-}) c.chains_are.ensures.unused
+}) c.chains_are.ensures.unused c.chains_are.ensures.used
