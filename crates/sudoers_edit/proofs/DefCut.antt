@@ -1,7 +1,6 @@
 -- A definition cut out of a line of a policy.
-use Rattle.std.proofs.Common.{◌≡◌, ◌∙◌, ℕ, ◌+◌, ◌<◌, ◌≤◌, List, [], ◌∷◌, length, Option, Some, None, Result, Ok, Err, refl, sym, ap, subst, arith, inr}
-use Rattle.std.proofs.lemmas.Bool.{lt-leb, eqb-false, leb-false}
-use Rattle.std.proofs.lemmas.List.{length-map}
+use Rattle.std.proofs.Common.{◌≡◌, ◌∙◌, ℕ, ◌<◌, ◌≤◌, List, [], length, Option, Some, None, Result, Ok, Err, refl, sym, ap, subst, arith}
+use Rattle.std.proofs.lemmas.Bool.{eqb-false, leb-false}
 use Rattle.std.specs.Prelude.{slice_get, ◌==◌, nat_le}
 use Rattle.sudoers_text.specs.Line.{join}
 use Rattle.sudoers_line.specs.Node.{Def, Node}
@@ -21,7 +20,6 @@ use Rattle.sudoers_edit.specs.internal.Drafts.{CutDef}
 use Rattle.sudoers_edit.specs.internal.Leading.{CutOut, IsKnown}
 use Rattle.sudoers_edit.proofs.BackLemmas.{drop_found}
 use Rattle.sudoers_edit.proofs.DefLemmas.{drop_replaces}
-use Rattle.sudoers_edit.proofs.ReplacedLemmas.{AllSaid}
 use Rattle.sudoers_line.specs.Ascend.{DefsAscend}
 use Rattle.sudoers_edit.proofs.SpliceLemmas.{owned_in}
 use Rattle.sudoers_edit.proofs.SpliceSteps.{not_refused}

@@ -1,9 +1,9 @@
 -- One change before others: what it makes of the lines that the others make.
-use Rattle.std.proofs.Common.{◌≡◌, ◌∙◌, ℕ, zero, suc, ◌+◌, ◌-◌, ◌<◌, ◌≤◌, List, [], ◌∷◌, ◌++◌, length, take, drop, remove, Some, refl, sym, ap, ap₂, subst, arith, append_assoc}
+use Rattle.std.proofs.Common.{◌≡◌, ◌∙◌, ℕ, zero, suc, ◌+◌, ◌-◌, ◌<◌, ◌≤◌, List, [], ◌∷◌, ◌++◌, length, take, drop, remove, Some, refl, sym, ap, subst, arith, append_assoc}
 use Rattle.std.specs.Prelude.{option_to_list, slice_get}
 use Rattle.sudoers_tree.specs.Changed.{changed, changed_from, place_of, next_place, text_brought, replaced, AreInOrder}
 use Rattle.sudoers_tree.specs.declared.line_change.LineChange.{LineChange}
-use Rattle.sudoers_tree.specs.declared.line_change.LineChange.TheVariants.{Put, Swap, Take}
+use Rattle.sudoers_tree.specs.declared.line_change.LineChange.TheVariants.{Swap, Take}
 use Rattle.sudoers_edit.specs.Editing.{Lines}
 use Rattle.sudoers_edit.proofs.PlanLemmas.{NoneLaw, FirstLaw}
 use Rattle.sudoers_edit.proofs.UndoneLemmas.{both_parts, left_behind, next_place_after, suc_more, within_order, zero_more}

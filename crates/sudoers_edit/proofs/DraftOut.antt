@@ -1,10 +1,10 @@
 -- A line or a definition taken out of a draft.
-use Rattle.std.proofs.Common.{◌≡◌, ◌∙◌, ℕ, ◌+◌, ◌<◌, zero, suc, Bool, true, false, ◌==◌, ◌⊎◌, inl, inr, List, [], ◌∷◌, length, remove, slice_index_or, Option, Some, None, Result, Ok, Err, refl, sym, ap, subst, arith}
+use Rattle.std.proofs.Common.{◌≡◌, ◌∙◌, ℕ, ◌+◌, ◌<◌, zero, suc, Bool, true, false, ◌==◌, ◌⊎◌, inl, inr, List, [], ◌∷◌, length, remove, slice_index_or, Option, Some, None, Result, Ok, refl, sym, ap, subst, arith}
 use Rattle.std.proofs.lemmas.Bool.{eq-eqb, eqb-true, eqb-false}
 use Rattle.std.proofs.lemmas.Bool.Decides.{leb_tells}
 use Rattle.std.proofs.lemmas.Option.{slice_get_within}
 use Rattle.std.specs.List.{AllByRecursion}
-use Rattle.std.specs.Option.{option_map, option_or}
+use Rattle.std.specs.Option.{option_or}
 use Rattle.std.specs.Prelude.{slice_get, if◌then◌else◌}
 use Rattle.sudoers_text.specs.Line.{join}
 use Rattle.sudoers_text.specs.Whole.{IsLogicalLine}
@@ -23,7 +23,7 @@ use Rattle.sudoers_edit.specs.internal.Drafts.{CutDef, DefGoes, IsDraft, IsReady
 use Rattle.sudoers_edit.specs.internal.Leading.{IsMade}
 use Rattle.sudoers_edit.proofs.BackLemmas.{def_of_policy}
 use Rattle.sudoers_edit.proofs.DraftLemmas.{order_weaker}
-use Rattle.sudoers_edit.proofs.PolicyLemmas.{at_get, count_texts, text_at}
+use Rattle.sudoers_edit.proofs.PolicyLemmas.{at_get, count_texts}
 use Rattle.sudoers_edit.proofs.UndoneLemmas.{within_order}
 
 abbrev pub OneLaw : Type 0

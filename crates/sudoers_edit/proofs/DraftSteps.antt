@@ -1,6 +1,5 @@
 -- A line or a definition taken out of a policy: what is left is a policy again.
-use Rattle.std.proofs.Common.{◌≡◌, ◌∙◌, ℕ, ◌+◌, ◌<◌, ◌≤◌, zero, suc, Bool, true, false, ◌⊎◌, inl, inr, List, [], ◌∷◌, ◌++◌, length, remove, slice_index_or, Some, Result, Ok, Err, refl, sym, ap, subst, arith}
-use Rattle.std.proofs.lemmas.Bool.{lt-ltb, ltb-false}
+use Rattle.std.proofs.Common.{◌≡◌, ◌∙◌, ℕ, ◌+◌, ◌<◌, zero, suc, Bool, true, false, inl, inr, List, [], ◌∷◌, ◌++◌, length, remove, slice_index_or, Some, Result, Ok, Err, refl, sym, ap, subst, arith}
 use Rattle.std.proofs.lemmas.Option.{slice_get_within}
 use Rattle.std.specs.Prelude.{slice_get, nat_lt, if◌then◌else◌}
 use Rattle.sudoers_text.specs.Line.{join}
@@ -10,28 +9,25 @@ use Rattle.sudoers_tree.specs.Line.{Line}
 use Rattle.sudoers_tree.specs.Changed.{replaced}
 use Rattle.sudoers_tree.specs.Policy.{texts}
 use Rattle.sudoers_tree.specs.Reading.{read_of}
-use Rattle.sudoers_edit_script.specs.declared.edit.Edit.TheVariants.{AddDef, Delete, DropDef, Insert}
-use Rattle.sudoers_edit.specs.declared.fault.EditFault.{EditFault}
-use Rattle.sudoers_edit.specs.declared.fault.EditFault.TheVariants.{BadSplice, NotPolicy, OpenLine, TooLarge}
-use Rattle.sudoers_edit.specs.Landing.{by_read, changed_or_refusal, is_too_long, lines_or_refusal, policy_or_refusal, where_policy}
+use Rattle.sudoers_edit_script.specs.declared.edit.Edit.TheVariants.{AddDef, Insert}
+use Rattle.sudoers_edit.specs.declared.fault.EditFault.TheVariants.{BadSplice, OpenLine, TooLarge}
+use Rattle.sudoers_edit.specs.Landing.{by_read, changed_or_refusal, is_too_long, lines_or_refusal, where_policy}
 use Rattle.sudoers_edit.specs.SpliceEdits.{drop_def}
 use Rattle.sudoers_edit.specs.Editing.{Lines, run}
 use Rattle.sudoers_edit.specs.OneLine.{IsSound}
-use Rattle.sudoers_edit.specs.internal.Leading.{IsMade}
 use Rattle.sudoers_edit.specs.internal.Drafts.{CutDef, DefGoes, LineGoes, OneMore}
 use Rattle.sudoers_tree.specs.Changed.{AreInOrder}
 use Rattle.sudoers_tree.specs.declared.fault.ReadFault.{ReadFault}
 use Rattle.sudoers_tree.specs.declared.line_change.LineChange.{LineChange}
-use Rattle.sudoers_edit.proofs.BackLemmas.{def_of_policy}
 use Rattle.sudoers_edit.proofs.DefEnds.{defs_end}
 use Rattle.sudoers_edit.proofs.DraftLemmas.{one_taken, one_replaced, again_replaced, one_unchanged, replaced_is}
-use Rattle.sudoers_edit.proofs.DropDef.{Drops, Dropped, EndsLaw, drop_goes}
+use Rattle.sudoers_edit.proofs.DropDef.{Drops, EndsLaw, drop_goes}
 use Rattle.sudoers_edit.proofs.EditLemmas.{back_delete, step_delete}
 use Rattle.sudoers_edit.proofs.PlanLemmas.{NoneLaw, FirstLaw}
 use Rattle.sudoers_edit.proofs.PolicyLemmas.{count_texts}
 use Rattle.sudoers_edit.proofs.SpliceSteps.{not_refused}
 use Rattle.sudoers_edit.proofs.StepLemmas.{accepted}
-use Rattle.sudoers_edit.proofs.Whole.{Laws, IsWhole, whole_of, read_whole, known, landed, here_at}
+use Rattle.sudoers_edit.proofs.Whole.{Laws, IsWhole, whole_of, read_whole, landed, here_at}
 use Rattle.sudoers_edit.proofs.WithoutLine.{Cut, cut_at, without}
 
 -- ---- a line

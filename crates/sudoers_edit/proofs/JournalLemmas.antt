@@ -1,5 +1,5 @@
 -- The steps of a journal, of which the last is taken back.
-use Rattle.std.proofs.Common.{◌≡◌, ◌∙◌, ℕ, zero, suc, ◌+◌, ◌-◌, List, [], ◌∷◌, ◌++◌, length, reverse, Option, Some, Result, Ok, refl, sym, ap, subst, arith, IsSomeAnd, IsOkAnd, unwrap_or}
+use Rattle.std.proofs.Common.{◌≡◌, ◌∙◌, ◌-◌, List, [], ◌∷◌, ◌++◌, length, reverse, Option, Some, Result, Ok, refl, sym, ap, subst, arith, IsSomeAnd, IsOkAnd, unwrap_or}
 use Rattle.std.proofs.lemmas.List.{length-append, map-append, reverse-append}
 use Rattle.std.proofs.lemmas.List.Folds.{flat_map-map}
 use Rattle.std.specs.List.{flat_map}

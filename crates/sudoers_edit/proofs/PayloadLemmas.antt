@@ -1,5 +1,5 @@
 -- What takes an edit back carries as many bytes as the edit took out of the text.
-use Rattle.std.proofs.Common.{◌≡◌, ◌∙◌, ℕ, zero, suc, ◌+◌, ◌≤◌, Bool, true, false, not, ◌==◌, List, [], ◌∷◌, ◌++◌, length, take, drop, insert, Some, Result, Ok, Err, refl, sym, ap, subst, arith}
+use Rattle.std.proofs.Common.{◌≡◌, ℕ, zero, suc, ◌+◌, ◌≤◌, Bool, true, false, not, ◌==◌, List, [], ◌∷◌, ◌++◌, length, take, drop, insert, Some, Result, Ok, Err, ap, arith}
 use Rattle.std.proofs.lemmas.Bool.{ltb-false}
 use Rattle.std.proofs.lemmas.List.{length-append, take-append-drop}
 use Rattle.std.specs.List.{AllByRecursion}
@@ -18,14 +18,14 @@ use Rattle.sudoers_edit.specs.declared.one_more.Among.{Among}
 use Rattle.sudoers_edit.specs.declared.one_more.Among.TheVariants as among
 use Rattle.sudoers_edit.specs.declared.pruning.Removal.{Removal}
 use Rattle.sudoers_edit.specs.declared.pruning.Removal.TheVariants as removal
-use Rattle.sudoers_edit.specs.Editing.{Lines, removed, put_back, put_all_back, step, inv, then_or, run_all, inv_run}
+use Rattle.sudoers_edit.specs.Editing.{Lines, removed, put_back, put_all_back, step, inv, then_or, run_all}
 use Rattle.sudoers_edit.specs.Landing.{policy_of, lines_or_refusal, changed_or_refusal}
 use Rattle.sudoers_edit.specs.LineEdits.{with_line}
 use Rattle.sudoers_edit.specs.OneLine.{is_one_line}
 use Rattle.sudoers_edit.specs.Payload.{payload, payload_of, takes_out}
 use Rattle.sudoers_edit.specs.Pruning.{removals}
 use Rattle.sudoers_edit.specs.Splice.{line_with, def_extents, member_extents}
-use Rattle.sudoers_edit.specs.SpliceEdits.{add_def, add_member, is_one_more, put_in}
+use Rattle.sudoers_edit.specs.SpliceEdits.{add_def, is_one_more, put_in}
 use Rattle.sudoers_tree.specs.Single.{said}
 use Rattle.sudoers_edit.specs.WayBack.{IsTakenBack}
 use Rattle.sudoers_edit.proofs.DraftSteps.{changed_to}

@@ -1,8 +1,8 @@
 -- A prune, removal by removal: what its changes make so far, and where all of them lead.
-use Rattle.std.proofs.Common.{◌≡◌, ◌∙◌, ℕ, List, [], ◌∷◌, ◌++◌, length, Some, Ok, inl, refl, sym, ap, subst, append-nil, append_assoc, arith}
+use Rattle.std.proofs.Common.{◌≡◌, ◌∙◌, List, [], ◌∷◌, ◌++◌, length, Ok, inl, refl, sym, ap, subst, append-nil, append_assoc, arith}
 use Rattle.sudoers_text.specs.Ended.{has_unended_inside}
 use Rattle.sudoers_text.specs.Line.{join}
-use Rattle.sudoers_tree.specs.Changed.{AreInOrder, changed}
+use Rattle.sudoers_tree.specs.Changed.{AreInOrder}
 use Rattle.sudoers_tree.specs.declared.line_change.LineChange.{LineChange}
 use Rattle.sudoers_tree.specs.Line.{Line}
 use Rattle.sudoers_tree.specs.Policy.{texts}
@@ -10,7 +10,7 @@ use Rattle.sudoers_tree.specs.Reading.{read_of}
 use Rattle.sudoers_edit_script.specs.declared.edit.Edit.{Edit}
 use Rattle.sudoers_edit_script.specs.declared.edit.Edit.TheVariants.{Prune}
 use Rattle.sudoers_edit.specs.declared.pruning.Removal.{Removal}
-use Rattle.sudoers_edit.specs.Editing.{Lines, inv, put_all_back, removed_all, run}
+use Rattle.sudoers_edit.specs.Editing.{Lines, inv, put_all_back, removed_all}
 use Rattle.sudoers_edit.specs.OneLine.{IsSound}
 use Rattle.sudoers_edit.specs.Pruning.{edit_of, removals}
 use Rattle.sudoers_edit.specs.internal.Drafts.{Falls, IsPruned, IsTakenOut, defs_below, lines_below}

@@ -1,7 +1,6 @@
-use Rattle.std.proofs.Common.{◌≡◌, ◌∙◌, ◌<◌, ◌≤◌, ℕ, List, [], Option, Some, None, inr, ap, sym, subst, refl, arith, length, rules}
+use Rattle.std.proofs.Common.{◌≡◌, ◌∙◌, ℕ, List, [], Option, Some, None, inr, ap, sym, subst, refl, arith, length, rules}
 use Rattle.std.proofs.lemmas.List.{length-map}
 use Rattle.std.specs.Prelude.{slice_get}
-use Rattle.sudoers_line.specs.Ascend.{DefsAscend}
 use Rattle.sudoers_line.specs.Line.{ReadsLine}
 use Rattle.sudoers_line.specs.Node.{Def, Node}
 use Rattle.sudoers_line.specs.Node as node
@@ -11,9 +10,8 @@ use Rattle.sudoers_tree.specs.Single.{IsSaid, said}
 use Rattle.sudoers_edit.specs.declared.one_more.Among.TheVariants as among
 use Rattle.sudoers_edit.specs.Editing.{Refuses}
 use Rattle.sudoers_edit.specs.Splice.{def_extents}
-use Rattle.sudoers_edit.specs.SpliceEdits.{cut_out, defs_of, place_to_drop}
+use Rattle.sudoers_edit.specs.SpliceEdits.{cut_out, defs_of}
 use Rattle.sudoers_edit.specs.internal.Drafts.{CutDef}
-use Rattle.sudoers_edit.specs.internal.Leading.{IsKnown}
 use Rattle.sudoers_edit.proofs.DefCut.{cut_def, cut_within, line_is, no_defs, refused_found, several, shown_line}
 use Rattle.sudoers_edit.proofs.prune_plan.def_cut.Goals as goal
 

@@ -1,13 +1,12 @@
-use Rattle.std.proofs.Common.{◌≡◌, ◌∙◌, ◌∷◌, [], List, ℕ, Some, reverse, ap, sym, subst}
+use Rattle.std.proofs.Common.{◌∙◌, List, ℕ, reverse, ap, sym, subst}
 use Rattle.std.specs.Option.{option_or}
 use Rattle.std.specs.Prelude.{slice_get}
 use Rattle.sudoers_tree.specs.declared.line_change.LineChange.{LineChange}
-use Rattle.sudoers_tree.specs.declared.line_change.LineChange.TheVariants.{Swap}
 use Rattle.sudoers_tree.specs.Line.{Line}
 use Rattle.sudoers_tree.specs.Policy.{texts}
 use Rattle.sudoers_edit_script.specs.declared.edit.Edit.TheVariants.{AddDef}
 use Rattle.sudoers_edit.specs.declared.pruning.Removal.TheVariants as removal
-use Rattle.sudoers_edit.specs.internal.Drafts.{IsTakenOut, replaced_by, unless_replaced}
+use Rattle.sudoers_edit.specs.internal.Drafts.{IsTakenOut, replaced_by}
 use Rattle.sudoers_edit.proofs.DraftOut.{Found, def_is_there, def_refused, def_taken, found}
 use Rattle.sudoers_edit.proofs.prune_plan.def_out.Goals as goal
 

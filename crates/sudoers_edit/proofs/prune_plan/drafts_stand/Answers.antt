@@ -1,7 +1,4 @@
 use Rattle.sudoers_edit.proofs.DraftSteps.{def_goes, line_goes, one_more}
-use Rattle.sudoers_edit.proofs.DraftOut.{found}
-use Rattle.sudoers_edit.proofs.PruneSteps.{pruned_leads}
-use Rattle.sudoers_edit.proofs.UndoneLemmas.{changes_undone}
 use Rattle.sudoers_edit.proofs.Whole.{Laws}
 use Rattle.sudoers_edit.proofs.prune_plan.drafts_stand.Goals as goal
 

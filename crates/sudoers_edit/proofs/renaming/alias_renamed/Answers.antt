@@ -1,4 +1,4 @@
-use Rattle.std.proofs.Common.{◌≡◌, ◌∙◌, Bool, true, false, not, ◌||◌, Option, Some, None, List, ℕ, [], ◌∷◌, inr, ap, sym, refl, subst}
+use Rattle.std.proofs.Common.{◌≡◌, ◌∙◌, Bool, true, false, not, ◌||◌, Option, Some, None, List, ℕ, inr, ap, sym, refl, subst}
 use Rattle.std.specs.List.{list_any}
 use Rattle.std.specs.Option.{is_some as is_there}
 use Rattle.sudoers_text.specs.Word.{is_name, is_reserved}

@@ -1,4 +1,3 @@
-use Rattle.std.proofs.Common.{sym}
 use Rattle.sudoers_edit.proofs.RenamedPolicy.{RenameLaws}
 use Rattle.sudoers_edit.proofs.SwapLemmas.{swaps_lead}
 use Rattle.sudoers_edit.proofs.Whole.{whole_of}

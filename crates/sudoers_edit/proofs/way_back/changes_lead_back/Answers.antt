@@ -1,4 +1,4 @@
-use Rattle.std.proofs.Common.{◌≡◌, length, sym, subst}
+use Rattle.std.proofs.Common.{sym, subst}
 use Rattle.std.proofs.lemmas.List.{length-map}
 use Rattle.sudoers_tree.specs.Changed.{AreInOrder}
 use Rattle.sudoers_tree.specs.Line.{Line}
