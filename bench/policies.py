@@ -132,6 +132,16 @@ def front_edits(count):
     return b"insert 1\n|#\n" * count
 
 
+def renames(count):
+    """Renames of the teams of an ordinary policy, from the first to the last of so many."""
+    return b"".join(b"rename user TEAM%d CREW%d\n" % (n, n) for n in range(1, count + 1))
+
+
+def spare_aliases(count):
+    """Lines that each define an alias which nothing mentions."""
+    return b"".join(b"User_Alias SPARE%d = spare\n" % n for n in range(count))
+
+
 def unused_aliases(lines, each):
     """A policy of unused aliases: so many lines, with so many definitions each."""
     defined = [b"A%d = h" % n for n in range(lines * each)]
