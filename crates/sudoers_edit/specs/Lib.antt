@@ -14,4 +14,5 @@ pub mod Redoing
 pub mod Named
 pub mod WayBack
 pub mod Payload
+pub mod files
 pub mod internal

@@ -8,3 +8,4 @@ pub mod Swaps
 pub mod Undone
 pub mod Drafts
 pub mod Elsewhere
+pub mod FileLeading

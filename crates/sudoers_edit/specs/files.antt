@@ -1,0 +1,7 @@
+-- Edits over the files of a policy.
+pub mod Landing
+pub mod LineEdits
+pub mod SpliceEdits
+pub mod Renaming
+pub mod Pruning
+pub mod Editing
