@@ -3,6 +3,7 @@
 
 mod alike;
 mod editor;
+mod files;
 mod fault;
 pub mod laws;
 mod line_edits;
