@@ -1,0 +1,2 @@
+-- Lemmas of edits over the files of a policy.
+pub mod LandLemmas
