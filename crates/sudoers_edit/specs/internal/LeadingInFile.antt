@@ -1,5 +1,5 @@
 -- A device of the proof, which no public contract cites: where an edit of one file of a policy leads.
-use Rattle.std.specs.Prelude.{◌≡◌, ◌<◌, ◌≤◌, ℕ, false, List, [], ◌∷◌, length, Ok}
+use Rattle.std.specs.Prelude.{◌≡◌, ◌<◌, ◌≤◌, ℕ, ◌+◌, nat_lt, if◌then◌else◌, false, List, [], ◌∷◌, length, Ok}
 use Rattle.std.specs.List.{AllByRecursion}
 use Rattle.sudoers_text.specs.Cut.{StandAlone}
 use Rattle.sudoers_text.specs.Ended.{has_unended_inside}
@@ -7,6 +7,7 @@ use Rattle.sudoers_text.specs.Fault.{text_limit}
 use Rattle.sudoers_text.specs.Line.{join}
 use Rattle.sudoers_text.specs.Whole.{IsLogicalLine}
 use Rattle.sudoers_tree.specs.declared.line_change.LineChange.{LineChange}
+use Rattle.sudoers_tree.specs.declared.line_change.LineChange.TheVariants.{Put, Take}
 use Rattle.sudoers_tree.specs.Changed.{AreInOrder, brought, file_of}
 use Rattle.sudoers_tree.specs.Files.{lines_of}
 use Rattle.sudoers_tree.specs.Load.{Loaded, files_of, load_of}
@@ -42,3 +43,9 @@ pub record LandsIn (edit back_edit : Edit) (inverse : List Edit) (policy : Loade
   pub back_is : inverse ≡ back_edit ∷ []
   pub back : (after : Loaded) → load_of (with_bytes f (join new) (files_of policy)) ≡ Ok after → f < length after.files → texts_of after f ≡ new
       → step back_edit after ≡ landed after f (texts_of policy f)
+
+-- the line `from` of this file, which has this text, goes to where it stands at `to`
+abbrev pub move_changes : ℕ → ℕ → ℕ → List ℕ → List LineChange
+move_changes f from to text =
+    if nat_lt from to then Take f from ∷ Put f (to + 1) text ∷ []
+    else (if nat_lt to from then Put f to text ∷ Take f from ∷ [] else [])
