@@ -9,3 +9,5 @@ pub mod Undone
 pub mod Drafts
 pub mod Elsewhere
 pub mod FileLeading
+pub mod LeadingInFile
+pub mod MadeInFiles

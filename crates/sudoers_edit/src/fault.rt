@@ -2,7 +2,7 @@
 
 use std::alloc::{AllocError, AllocFailed};
 use sudoers_text::TextFault;
-use sudoers_tree::ReadFault;
+use sudoers_tree::{LoadFault, ReadFault};
 use thiserror::Error;
 
 /// Why an edit is refused, the first cause in this order.
@@ -85,6 +85,20 @@ impl From<ReadFault> for EditFault {
             ReadFault::NoMemory => EditFault::NoMemory,
             ReadFault::Text(TextFault::TooLarge) => EditFault::TooLarge,
             fault => EditFault::NotPolicy(fault),
+        }
+    }
+}
+
+impl From<LoadFault> for EditFault {
+    ghost use Rattle.std.specs.Prelude.{◌≡◌};
+    ghost use Rattle.sudoers_edit.specs.files.Landing.{edit_of_load};
+
+    ghost from_gives = { λ fault e. e ≡ edit_of_load fault };
+
+    fn from(fault: LoadFault) -> EditFault {
+        match fault {
+            LoadFault::InFile { fault, .. } => EditFault::from(fault),
+            LoadFault::TooManyFiles | LoadFault::SameName { .. } | LoadFault::NoMemory => EditFault::NoMemory,
         }
     }
 }

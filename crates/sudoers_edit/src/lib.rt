@@ -5,6 +5,7 @@ mod alike;
 mod editor;
 mod files;
 mod fault;
+mod files;
 pub mod laws;
 mod line_edits;
 mod making;

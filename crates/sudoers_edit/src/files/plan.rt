@@ -1,1 +1,113 @@
-//! .
+//! Plans of edits of the files of a policy: what changes of their lines an edit is, and the edits that take it back.
+ghost use Rattle.std.specs.Prelude.{◌≡◌, ◌≤◌, ◌<◌, ◌∷◌, [], List, ℕ, length, insert, remove, Ok, IfOk, OnOk, OnErr};
+ghost use Rattle.sudoers_text.specs.Whole.{IsLogicalLine};
+ghost use Rattle.sudoers_tree.specs.Changed.{changed, replaced};
+ghost use Rattle.sudoers_tree.specs.ChangedFiles.{CanBeMade, files_changed};
+ghost use Rattle.sudoers_tree.specs.Load.{Loaded, files_of, load_of};
+ghost use Rattle.sudoers_tree.specs.declared.line_change.LineChange.{LineChange as LineChangeOf};
+ghost use Rattle.sudoers_edit_script.specs.declared.edit.Edit.{Edit as AnEdit};
+ghost use Rattle.sudoers_edit.specs.internal.FileLeading.{Leads};
+ghost use Rattle.sudoers_edit.specs.internal.LeadingInFile.{AreFileLines, FitIn, LandsIn, texts_of};
+ghost use Rattle.sudoers_edit.specs.internal.MadeInFiles.{Makes};
+
+use crate::fault::EditFault;
+use crate::plan::Plan;
+use std::alloc::{AllocError, Global};
+use sudoers_edit_script::{Edits, Text};
+use sudoers_text::laws::{line_alone_is_whole, lines_stand_alone, whole_line_is};
+use sudoers_tree::laws::{
+    changed_files_have_lines, loaded_files_are, loaded_files_are_cut, one_change,
+};
+use sudoers_tree::{LineChange, Policy};
+
+/// Returns the plan of one change.
+fn one(alloc: Global, change: LineChange, inverse: Edits) -> Result<Plan, AllocError>
+    ensures changes { IfOk result (λ plan. plan.changes.items ≡ change ∷ []) }
+    ensures inverse { IfOk result (λ plan. plan.inverse ≡ inverse) }
+{
+    let mut changes = Vec::with_capacity(alloc, 1)?;
+    changes.push(change)?;
+    Ok(Plan { changes, inverse })
+}
+
+/// Plans that the line `text` is put before the line `at` of a file.
+pub fn put(
+    alloc: Global,
+    file: usize,
+    at: usize,
+    text: Text,
+    inverse: Edits,
+) -> Result<Plan, AllocError>
+    ensures { (edit back : AnEdit) (policy : Loaded) → load_of (files_of policy) ≡ Ok policy → at ≤ length (texts_of policy file) → IsLogicalLine text
+        → LandsIn edit back inverse policy file (insert (texts_of policy file) at text) → IfOk result (λ plan. Leads edit plan.inverse policy plan.changes.items) }
+{
+    one_change();
+    one_file_leads();
+    one(alloc, LineChange::Put { file, at, text }, inverse)
+}
+
+/// Plans that the line `at` of a file is taken out.
+pub fn take(alloc: Global, file: usize, at: usize, inverse: Edits) -> Result<Plan, AllocError>
+    ensures { (edit back : AnEdit) (policy : Loaded) → load_of (files_of policy) ≡ Ok policy → at < length (texts_of policy file)
+        → LandsIn edit back inverse policy file (remove (texts_of policy file) at) → IfOk result (λ plan. Leads edit plan.inverse policy plan.changes.items) }
+{
+    one_change();
+    one_file_leads();
+    one(alloc, LineChange::Take { file, at }, inverse)
+}
+
+/// Plans that the line `text` stands in the place of the line `at` of a file.
+pub fn swap(
+    alloc: Global,
+    file: usize,
+    at: usize,
+    text: Text,
+    inverse: Edits,
+) -> Result<Plan, AllocError>
+    ensures { (edit back : AnEdit) (policy : Loaded) → load_of (files_of policy) ≡ Ok policy → at < length (texts_of policy file) → IsLogicalLine text
+        → LandsIn edit back inverse policy file (replaced at text (texts_of policy file)) → IfOk result (λ plan. Leads edit plan.inverse policy plan.changes.items) }
+{
+    one_change();
+    one_file_leads();
+    one(alloc, LineChange::Swap { file, at, text }, inverse)
+}
+
+/// Makes the changes of a plan, and returns the edits that take them back.
+pub fn carry_out(plan: Plan, policy: &mut Policy) -> Result<Edits, EditFault>
+    requires { CanBeMade plan.changes.items policy.old.files }
+    ensures made { (edit : AnEdit) → Leads edit plan.inverse policy.old plan.changes.items → Makes edit policy.old policy.new result }
+    ensures loaded { OnOk result (load_of (files_changed plan.changes.items policy.old.files) ≡ Ok policy.new) }
+    ensures unchanged { OnErr result (policy.new ≡ policy.old) }
+{
+    match policy.changed(plan.changes.as_slice()) {
+        Ok(()) => Ok(plan.inverse),
+        Err(fault) => Err(EditFault::from(fault)),
+    }
+}
+
+/// A law: what the lines of each file of a policy are.
+pub fn file_is_sound(policy: &Policy)
+    ensures { (file : ℕ) → AreFileLines (texts_of policy.now file) }
+{
+    policy.is_loaded();
+    loaded_files_are();
+    loaded_files_are_cut();
+    lines_stand_alone();
+    line_alone_is_whole();
+    whole_line_is();
+    changed_files_have_lines();
+}
+
+/// A law: changes of one file of a policy make the files to which the edit leads, and one edit leads back.
+pub fn one_file_leads()
+    ensures { (edit back : AnEdit) (inverse : List AnEdit) (policy : Loaded) (file : ℕ) (changes : List LineChangeOf)
+        → load_of (files_of policy) ≡ Ok policy → FitIn file changes (texts_of policy file)
+        → LandsIn edit back inverse policy file (changed changes (texts_of policy file)) → Leads edit inverse policy changes }
+{
+    loaded_files_are();
+    loaded_files_are_cut();
+    lines_stand_alone();
+    line_alone_is_whole();
+    whole_line_is();
+    changed_files_have_lines();
+}
