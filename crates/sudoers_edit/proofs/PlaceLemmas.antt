@@ -63,25 +63,25 @@ kind_same Cmnd Cmnd h = refl
 -- HEADS
 
 -- the definitions have the same kinds, places and names
-SameHeads : List Definition → List Definition → Type 0
+pub SameHeads : List Definition → List Definition → Type 0
 SameHeads [] [] = Unit {0}
 SameHeads [] (e ∷ es) = ⊥
 SameHeads (d ∷ ds) [] = ⊥
 SameHeads (d ∷ ds) (e ∷ es) = (d.kind ≡ e.kind) × (d.place ≡ e.place) × (d.def.name ≡ e.def.name) × SameHeads ds es
 
-heads_refl : (ds : List Definition) → SameHeads ds ds
+pub heads_refl : (ds : List Definition) → SameHeads ds ds
 unfolding SameHeads
 heads_refl [] = tt
 heads_refl (d ∷ ds) = (refl, refl, refl, heads_refl ds)
 
-heads_append : (xs bs cs ds : List Definition) → SameHeads xs bs → SameHeads cs ds → SameHeads (xs ++ cs) (bs ++ ds)
+pub heads_append : (xs bs cs ds : List Definition) → SameHeads xs bs → SameHeads cs ds → SameHeads (xs ++ cs) (bs ++ ds)
 unfolding SameHeads
 heads_append [] [] cs ds h rest = rest
 heads_append [] (b ∷ bs) cs ds h rest = absurd h
 heads_append (a ∷ xs) [] cs ds h rest = absurd h
 heads_append (a ∷ xs) (b ∷ bs) cs ds h rest = (h.0, h.1, h.2, heads_append xs bs cs ds h.3 rest)
 
-heads_from : (k : Kind) (line n : ℕ) (ds es : List Def) → SameNames ds es → SameHeads (definitions_from k line n ds) (definitions_from k line n es)
+pub heads_from : (k : Kind) (line n : ℕ) (ds es : List Def) → SameNames ds es → SameHeads (definitions_from k line n ds) (definitions_from k line n es)
 unfolding SameNames SameHeads
 heads_from k line n [] [] h = tt
 heads_from k line n [] (e ∷ es) h = absurd h
@@ -94,7 +94,7 @@ place_if : (a b : Bool) (p q : Place) (r s : Option Definition) (d e : Definitio
 place_if true b p q r s d e is here rest = rw (sym is) (ap (λ z. Some z) here)
 place_if false b p q r s d e is here rest = rw (sym is) rest
 
-heads_placed : (k : Kind) (name : List ℕ) (ds es : List Definition) → SameHeads ds es
+pub heads_placed : (k : Kind) (name : List ℕ) (ds es : List Definition) → SameHeads ds es
     → option_map (λ (x : Definition). x.place) (defined k name ds) ≡ option_map (λ (x : Definition). x.place) (defined k name es)
 unfolding SameHeads
 heads_placed k name [] [] h = refl

@@ -80,13 +80,13 @@ line_put at line [] = []
 line_put zero line (old ∷ lines) = line ∷ lines
 line_put (suc at) line (old ∷ lines) = old ∷ line_put at line lines
 
-texts_put : (lines : List Line) (at : ℕ) (line : Line) → texts (line_put at line lines) ≡ replaced at line.text (texts lines)
+pub texts_put : (lines : List Line) (at : ℕ) (line : Line) → texts (line_put at line lines) ≡ replaced at line.text (texts lines)
 unfolding line_put
 texts_put [] at line = refl
 texts_put (old ∷ lines) zero line = refl
 texts_put (old ∷ lines) (suc at) line = ap (λ z. old.text ∷ z) (texts_put lines at line)
 
-said_put : (lines : List Line) (at : ℕ) (line : Line) → AllSaid lines → said line.text ≡ Some line.node → AllSaid (line_put at line lines)
+pub said_put : (lines : List Line) (at : ℕ) (line : Line) → AllSaid lines → said line.text ≡ Some line.node → AllSaid (line_put at line lines)
 unfolding line_put
 said_put [] at line all is = tt
 said_put (old ∷ lines) zero line all is = (is, all.1)
@@ -105,7 +105,7 @@ tails : (a b : List ℕ) (xs ys : List (List ℕ)) → a ∷ xs ≡ b ∷ ys →
 tails a b xs ys is = (cc, cc)
 
 -- what lines say is known from their texts
-one_said : (ls ms : List Line) → AllSaid ls → AllSaid ms → texts ls ≡ texts ms → ls ≡ ms
+pub one_said : (ls ms : List Line) → AllSaid ls → AllSaid ms → texts ls ≡ texts ms → ls ≡ ms
 one_said [] [] a b same = refl
 one_said [] (m ∷ ms) a b same = absurd (cc)
 one_said (l ∷ ls) [] a b same = absurd (cc)
@@ -115,7 +115,7 @@ one_said (l ∷ ls) (m ∷ ms) a b same =
     let line : l ≡ m = ap₂ (λ t n. record { text = t; node = n }) parts.0 nodes in
     ap₂ (λ x xs. x ∷ xs) line (one_said ls ms a.1 b.1 parts.1)
 
-restored : (lines : List Line) (at : ℕ) (t : List ℕ) (old : Line) → slice_get lines at ≡ Some old → replaced at old.text (replaced at t (texts lines)) ≡ texts lines
+pub restored : (lines : List Line) (at : ℕ) (t : List ℕ) (old : Line) → slice_get lines at ≡ Some old → replaced at old.text (replaced at t (texts lines)) ≡ texts lines
 restored [] at t old here = refl
 restored (l ∷ lines) zero t old here = let e : l ≡ old = cc in ap (λ (x : Line). x.text ∷ texts lines) (sym e)
 restored (l ∷ lines) (suc at) t old here = ap (λ z. l.text ∷ z) (restored lines at t old here)

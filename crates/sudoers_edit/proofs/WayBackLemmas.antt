@@ -36,7 +36,7 @@ said_at [] n line all here = absurd (cc)
 said_at (l ∷ lines) zero line all here = let e : l ≡ line = cc in subst (λ (x : Line). said x.text ≡ Some x.node) e all.0
 said_at (l ∷ lines) (suc n) line all here = said_at lines n line all.1 here
 
-alone_at : (lines : List Line) (n : ℕ) (line : Line) → StandAlone (texts lines) → slice_get lines n ≡ Some line → IsAlone line.text
+pub alone_at : (lines : List Line) (n : ℕ) (line : Line) → StandAlone (texts lines) → slice_get lines n ≡ Some line → IsAlone line.text
 alone_at [] n line all here = absurd (cc)
 alone_at (l ∷ lines) zero line all here = let e : l ≡ line = cc in subst (λ (x : Line). IsAlone x.text) e all.0
 alone_at (l ∷ lines) (suc n) line all here = alone_at lines n line all.1 here

@@ -19,7 +19,7 @@ use Rattle.sudoers_edit.proofs.SpliceLemmas.{ascend_le, seam_in, owned_in}
 -- LINES
 
 -- a line that makes definitions
-makes_alias : (n : Node) (defs : List Def) → defs_of n ≡ Some defs → (k : Kind) × (n ≡ node.Alias k defs)
+pub makes_alias : (n : Node) (defs : List Def) → defs_of n ≡ Some defs → (k : Kind) × (n ≡ node.Alias k defs)
 makes_alias (node.Alias k ds) defs h = let e : ds ≡ defs = cc in (k, subst (λ z. node.Alias k ds ≡ node.Alias k z) e refl)
 makes_alias node.Blank defs h = absurd (cc)
 makes_alias node.Comment defs h = absurd (cc)
@@ -27,7 +27,7 @@ makes_alias (node.Include dir path) defs h = absurd (cc)
 makes_alias (node.Defaults scope params) defs h = absurd (cc)
 makes_alias (node.Spec users groups) defs h = absurd (cc)
 
-says_at : (lines : List Line) (n : ℕ) (line : Line) → AllByRecursion SaysSo lines → slice_get lines n ≡ Some line → ReadsLine line.text line.node
+pub says_at : (lines : List Line) (n : ℕ) (line : Line) → AllByRecursion SaysSo lines → slice_get lines n ≡ Some line → ReadsLine line.text line.node
 says_at [] n line all here = absurd (cc)
 says_at (l ∷ lines) zero line all here = let e : l ≡ line = cc in subst (λ (x : Line). ReadsLine x.text x.node) e all.0
 says_at (l ∷ lines) (suc n) line all here = says_at lines n line all.1 here
@@ -57,7 +57,7 @@ def_goes_on policy n at from to line defs known here is begins stops =
 -- MEMBERS
 
 -- a definition at a place, of which the members stand in it
-held : (from to : ℕ) (defs : List Def) (at : ℕ) (d : Def) → Ascend (λ (e : Def). e.start) (λ (e : Def). e.stop) from to defs → AllByRecursion HoldsMembers defs
+pub held : (from to : ℕ) (defs : List Def) (at : ℕ) (d : Def) → Ascend (λ (e : Def). e.start) (λ (e : Def). e.stop) from to defs → AllByRecursion HoldsMembers defs
     → slice_get defs at ≡ Some d → HoldsMembers d × (d.stop ≤ to)
 held from to [] at d a all here = absurd (cc)
 held from to (e ∷ defs) zero d a all here =

@@ -9,5 +9,6 @@ pub mod Undone
 pub mod Drafts
 pub mod Elsewhere
 pub mod FileLeading
+pub mod FileSplicing
 pub mod LeadingInFile
 pub mod MadeInFiles

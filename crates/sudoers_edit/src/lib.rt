@@ -3,7 +3,6 @@
 
 mod alike;
 mod editor;
-mod files;
 mod fault;
 mod files;
 pub mod laws;

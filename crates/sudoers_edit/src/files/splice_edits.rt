@@ -1,1 +1,238 @@
-//! .
+//! Members and definitions put in and taken out.
+ghost use Rattle.std.specs.Prelude.{◌≡◌, ◌≤◌, ◌<◌, ◌∷◌, [], length, option_map, slice_get, Some, Result, Ok, Err, List, ℕ, IfErr, IfOk, MatchResult};
+ghost use Rattle.sudoers_text.specs.Ended.{has_unended_inside};
+ghost use Rattle.sudoers_line.specs.Node.{Def as DefOf};
+ghost use Rattle.sudoers_line_rows.specs.View.{def_shown, defs_shown, node_shown};
+ghost use Rattle.sudoers_tree.specs.Changed.{replaced};
+ghost use Rattle.sudoers_tree.specs.Files.{lines_of};
+ghost use Rattle.sudoers_tree.specs.Line.{Line as LineOf, line_shown, lines_shown};
+ghost use Rattle.sudoers_tree.specs.Load.{Loaded, load_of};
+ghost use Rattle.sudoers_tree.specs.Policy.{texts};
+ghost use Rattle.sudoers_tree.specs.declared.load.NamedFile.{NamedFile as NamedFileOf};
+ghost use Rattle.sudoers_edit.specs.Editing.{Refuses};
+ghost use Rattle.sudoers_edit.specs.SpliceEdits.{defs_of, with_defs};
+ghost use Rattle.sudoers_edit.specs.declared.fault.EditFault.{EditFault as Refusal};
+ghost use Rattle.sudoers_edit.specs.files.Landing.{Lines};
+ghost use Rattle.sudoers_edit.specs.files.SpliceEdits.{cut_out as with_less, put_in as with_more, with_changed};
+ghost use Rattle.sudoers_edit.specs.internal.FileLeading.{Plans};
+ghost use Rattle.sudoers_edit.specs.internal.FileSplicing.{AreKnown, ReplacesIn};
+ghost use Rattle.sudoers_edit.specs.internal.Leading.{CutOut, PutIn};
+ghost use Rattle.sudoers_edit.specs.internal.LeadingInFile.{texts_of};
+ghost use Rattle.sudoers_edit_script.specs.declared.edit.Edit.{Edit as AnEdit};
+
+use crate::fault::EditFault;
+use crate::files::plan::{file_is_sound, swap};
+use crate::one_more::{Among, OneMore};
+use crate::plan::Plan;
+use crate::splice::{line_with, line_without, place_to_add, place_to_drop};
+use std::alloc::Global;
+use sudoers_edit_script::{Edit, Edits, Text};
+use sudoers_line::laws::{definitions_ascend, no_fault};
+use sudoers_line_reader::laws::{one_reading, outcome_is};
+use sudoers_text::laws::{line_alone_is_whole, line_alone_size, lines_stand_alone, whole_line_is};
+use sudoers_text::{LINE_LIMIT, ends_in_lf};
+use sudoers_tree::laws::{loaded_files_are_cut, loaded_lines_are_said};
+use sudoers_tree::{DefRow, Line, LineRow, Node, Policy, Rows, read_line};
+
+/// Plans a definition put into a line of a file.
+pub fn def_added(
+    policy: &Policy,
+    file: u32,
+    line: u32,
+    at: u32,
+    splice: &[u8],
+) -> Result<Plan, EditFault>
+    ensures { Plans (Edit.AddDef file line at splice.now) policy.now result }
+{
+    policy.is_loaded();
+    lines_are_known();
+    if file as usize >= policy.files() {
+        return Err(EditFault::NoFile);
+    }
+    let alloc = policy.allocator();
+    let lines = policy.file_lines(file as usize);
+    let (old, defs) = match defs_at(&lines, line as usize) {
+        Ok(found) => found,
+        Err(fault) => return Err(fault),
+    };
+    let from = match place_to_add(&defs, at as usize) {
+        Ok(from) => from,
+        Err(fault) => return Err(fault),
+    };
+    let text = match put_in(alloc, Among::Definitions, at as usize, from, splice, &old) {
+        Ok(text) => text,
+        Err(fault) => return Err(fault),
+    };
+    let inverse = Edits::one(alloc, Edit::DropDef { file, line, at })?;
+    line_replaced(policy, file as usize, line as usize, text, inverse)
+}
+
+/// Plans a definition taken out of a line of a file.
+pub fn def_dropped(policy: &Policy, file: u32, line: u32, at: u32) -> Result<Plan, EditFault>
+    ensures { Plans (Edit.DropDef file line at) policy.now result }
+{
+    policy.is_loaded();
+    lines_are_known();
+    if file as usize >= policy.files() {
+        return Err(EditFault::NoFile);
+    }
+    let alloc = policy.allocator();
+    let lines = policy.file_lines(file as usize);
+    let (old, defs) = match defs_at(&lines, line as usize) {
+        Ok(found) => found,
+        Err(fault) => return Err(fault),
+    };
+    let (from, to) = match place_to_drop(&defs, at as usize) {
+        Ok(bytes) => bytes,
+        Err(fault) => return Err(fault),
+    };
+    let among = Among::Definitions;
+    let text = match cut_out(alloc, among, at as usize, from, to, old.text, &old.node) {
+        Ok(text) => text,
+        Err(fault) => return Err(fault),
+    };
+    let splice = Text::from_slice(alloc, &old.text[from..to])?;
+    let back = Edit::AddDef {
+        file,
+        line,
+        at,
+        splice,
+    };
+    let inverse = Edits::one(alloc, back)?;
+    line_replaced(policy, file as usize, line as usize, text, inverse)
+}
+
+/// Returns the line of a number, and its definitions.
+fn defs_at<'a>(
+    lines: &Rows<'a, LineRow>,
+    number: usize,
+) -> Result<(Line<'a>, Rows<'a, DefRow>), EditFault>
+    ensures outcome { (next : LineOf → List DefOf → Result Lines Refusal) → MatchResult result
+        (λ found. with_defs number (lines_shown lines.now) next ≡ next (line_shown found.0) (defs_shown found.1))
+        (λ fault. with_defs number (lines_shown lines.now) next ≡ Err fault) }
+    ensures found { IfOk result (λ found. (slice_get (lines_shown lines.now) number ≡ Some (line_shown found.0))
+        × (defs_of (line_shown found.0).node ≡ Some (defs_shown found.1))) }
+{
+    let Some(line) = line_in(lines, number) else {
+        return Err(EditFault::NoLine);
+    };
+    match line.node {
+        Node::Alias { defs, .. } => Ok((line, defs)),
+        _ => Err(EditFault::NoAlias),
+    }
+}
+
+/// Returns the line of a number.
+fn line_in<'a>(lines: &Rows<'a, LineRow>, number: usize) -> Option<Line<'a>>
+    ensures { option_map line_shown result ≡ slice_get (lines_shown lines.now) number }
+{
+    match lines.rows.get(number) {
+        Some(row) => Some(Line::of(lines.tables, row)),
+        None => None,
+    }
+}
+
+/// Returns a line with one more, which stands at a place and has these bytes.
+fn put_in(
+    alloc: Global,
+    among: Among,
+    at: usize,
+    from: usize,
+    splice: &[u8],
+    old: &Line<'_>,
+) -> Result<Vec<u8>, EditFault>
+    requires { from ≤ length (line_shown old.now).text }
+    ensures put { IfOk result (λ text. PutIn among at from splice.now (line_shown old.now) text.items) }
+    ensures outcome { (n : ℕ) (lines : List LineOf) → MatchResult result
+        (λ text. with_more among at from n splice.now (line_shown old.now) lines ≡ with_changed n text.items (texts lines))
+        (λ fault. Refuses fault (with_more among at from n splice.now (line_shown old.now) lines)) }
+{
+    let text = line_with(alloc, old.text, from, splice)?;
+    let Some(new) = read_line(alloc, text.as_slice())? else {
+        return Err(EditFault::BadSplice);
+    };
+    let to = from + splice.len();
+    let one = OneMore { at, from, to };
+    if !one.is_more(among, &new.node(), &old.node) {
+        return Err(EditFault::BadSplice);
+    }
+    Ok(text)
+}
+
+/// Returns a line, which says this, without one that stands at a place and has these bytes.
+pub fn cut_out(
+    alloc: Global,
+    among: Among,
+    at: usize,
+    from: usize,
+    to: usize,
+    old: &[u8],
+    says: &Node<'_>,
+) -> Result<Vec<u8>, EditFault>
+    requires { (from ≤ to) × (to ≤ length old.now) }
+    ensures cut { IfOk result (λ text. CutOut among at from to (record { text = old.now; node = node_shown says.now }) text.items) }
+    ensures outcome { (n : ℕ) (lines : List LineOf) → MatchResult result
+        (λ text. with_less among at from to n (record { text = old.now; node = node_shown says.now }) lines ≡ with_changed n text.items (texts lines))
+        (λ fault. Refuses fault (with_less among at from to n (record { text = old.now; node = node_shown says.now }) lines)) }
+{
+    let text = line_without(alloc, old, from, to)?;
+    let Some(new) = read_line(alloc, text.as_slice())? else {
+        return Err(EditFault::BadSplice);
+    };
+    let one = OneMore { at, from, to };
+    if !one.is_more(among, says, &new.node()) {
+        return Err(EditFault::BadSplice);
+    }
+    Ok(text)
+}
+
+/// Plans a line of a file changed that reads as it should.
+fn line_replaced(
+    policy: &Policy,
+    file: usize,
+    at: usize,
+    text: Vec<u8>,
+    inverse: Edits,
+) -> Result<Plan, EditFault>
+    requires { at < length (lines_of policy.now.files file) }
+    ensures { (edit back : AnEdit) → ReplacesIn edit back inverse policy.now file at text.items → Plans edit policy.now result }
+{
+    policy.is_loaded();
+    file_is_sound(policy);
+    whole_line_is();
+    if text.len() > LINE_LIMIT {
+        return Err(EditFault::TooLarge);
+    }
+    if leaves_open(policy, file, at, text.as_slice()) {
+        return Err(EditFault::OpenLine);
+    }
+    let text = Text::from_vec(text);
+    Ok(swap(policy.allocator(), file, at, text, inverse)?)
+}
+
+/// Returns whether a line without LF would stand before another once the text stands in the place of a line of a file.
+fn leaves_open(policy: &Policy, file: usize, at: usize, text: &[u8]) -> bool
+    requires { at < length (lines_of policy.now.files file) }
+    ensures { result ≡ has_unended_inside (replaced at text.now (texts_of policy.now file)) }
+{
+    file_is_sound(policy);
+    if ends_in_lf(text) {
+        return false;
+    }
+    policy.len(file) - at > 1
+}
+
+/// A law: the lines of loaded files are known from what they say.
+fn lines_are_known()
+    ensures { (files : List NamedFileOf) (policy : Loaded) → load_of files ≡ Ok policy → (file : ℕ) → AreKnown (lines_of policy.files file) }
+{
+    loaded_lines_are_said();
+    loaded_files_are_cut();
+    lines_stand_alone();
+    line_alone_size();
+    line_alone_is_whole();
+    outcome_is();
+    one_reading();
+    no_fault();
+    definitions_ascend();
+}
