@@ -6,3 +6,4 @@ pub mod SwapLemmas
 pub mod ReplaceLemmas
 pub mod KnownLemmas
 pub mod DefLemmas
+pub mod MemberLemmas

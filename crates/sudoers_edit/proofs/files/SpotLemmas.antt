@@ -102,9 +102,12 @@ opened_are files at w lead inner is = by_targets (targets files lead) refl is
 
 -- TWO WALKS
 
+abbrev pub placed : Spot → ℕ × ℕ
+placed at = (at.file, at.line)
+
 -- where lines stand, but for their rows
 abbrev pub places : Walked → List (ℕ × ℕ)
-places w = map (λ (at : Spot). (at.file, at.line)) w.spots
+places w = map placed w.spots
 
 -- The same files are on both walks, and the same places.
 pub record AreAlike (v w : Walked) : Type 0 where
@@ -124,9 +127,6 @@ alike_at v w u t p q alike = subst (λ x. AreAlike x t) p (subst (λ x. AreAlike
 same_inner : (a b : List ℕ) → Some a ≡ Some b → a ≡ b
 same_inner a b is = cc
 
-place : Spot → ℕ × ℕ
-place at = (at.file, at.line)
-
 module _ (files others : List FileReading) (names : file_names files ≡ file_names others)
     (leads : (f : ℕ) → LeadAlike (name_of files f) (lines_of files f) (lines_of others f)) where
   abbrev VisitsAlike : Visit → Visit → Type 0
@@ -145,9 +145,9 @@ module _ (files others : List FileReading) (names : file_names files ≡ file_na
   line_alike f n l m w v alike = record {
     on = alike.on;
     places =
-        map-append (λ (at : Spot). (at.file, at.line)) v.spots (spot_of others f n ∷ [])
+        map-append placed v.spots (spot_of others f n ∷ [])
         ∙ ap (λ (ps : List (ℕ × ℕ)). ps ++ (f, n) ∷ []) alike.places
-        ∙ sym (map-append (λ (at : Spot). (at.file, at.line)) w.spots (spot_of files f n ∷ []));
+        ∙ sym (map-append placed w.spots (spot_of files f n ∷ []));
   }
 
   inner_alike : (f n : ℕ) (l m : Line) (w v : Walked) (a b : List ℕ) → lead_of (name_of files f) m.node ≡ lead_of (name_of files f) l.node

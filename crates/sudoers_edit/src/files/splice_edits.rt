@@ -236,3 +236,8 @@ fn lines_are_known()
     no_fault();
     definitions_ascend();
 }
+
+#[tactic(auto, using(crate::proofs::files::MemberLemmas::place_kept))]
+fn stub()
+    ensures { ℕ }
+{}
