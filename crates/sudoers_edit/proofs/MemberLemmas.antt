@@ -59,7 +59,7 @@ member_more def at from to (node.Defaults s p) m h = absurd (cc)
 member_more def at from to (node.Spec u g) m h = absurd (cc)
 
 -- of which definition that is
-some_def : (o : Option Def) (at from : ℕ) → seam at (extents_in o) ≡ Some from → (d : Def) × (o ≡ Some d)
+pub some_def : (o : Option Def) (at from : ℕ) → seam at (extents_in o) ≡ Some from → (d : Def) × (o ≡ Some d)
 some_def (Some d) at from h = (d, refl)
 some_def None zero from h = absurd (cc)
 some_def None (suc at) from h = let within = seam_within [] (suc at) from h in absurd (omega (arith, within))

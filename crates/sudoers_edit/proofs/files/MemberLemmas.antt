@@ -24,10 +24,22 @@ use Rattle.sudoers_tree.specs.declared.load.NamedFile.{NamedFile}
 use Rattle.sudoers_tree.specs.declared.place.FilePlace.{FilePlace}
 use Rattle.sudoers_tree.specs.declared.place.Place.{Place}
 use Rattle.sudoers_tree.specs.declared.place.Spot.{Spot}
-use Rattle.sudoers_edit.specs.files.Landing.{with_bytes}
-use Rattle.sudoers_edit.specs.internal.FileSplicing.{AreKnown, IsDefIn}
+use Rattle.sudoers_edit_script.specs.declared.edit.Edit.TheVariants.{AddMember, DropMember}
+use Rattle.sudoers_edit.specs.declared.fault.EditFault.{EditFault}
+use Rattle.sudoers_edit.specs.declared.one_more.Among.TheVariants as among
+use Rattle.sudoers_edit.specs.Splice.{extents_in, member_extents, owned_stop, seam, slice}
+use Rattle.sudoers_edit.specs.SpliceEdits.{defs_of, place_to_add, place_to_drop, with_def}
+use Rattle.sudoers_edit.specs.files.Editing.{at_alias, owned_by, place_in_file, step}
+use Rattle.sudoers_edit.specs.files.Landing.{Lines, and_then, landed, with_bytes}
+use Rattle.sudoers_edit.specs.files.SpliceEdits.{add_member, cut_out, drop_member, owned_member, put_in, with_changed}
+use Rattle.sudoers_edit.specs.internal.FileSplicing.{AreKnown, IsDefIn, ReplacesIn}
+use Rattle.sudoers_edit.specs.internal.Leading.{CutOut, PutIn}
 use Rattle.sudoers_edit.specs.internal.LeadingInFile.{texts_of}
-use Rattle.sudoers_edit.proofs.PlaceLemmas.{SameHeads, SameNames, heads_append, heads_from, heads_placed, heads_refl}
+use Rattle.sudoers_edit.proofs.PlaceLemmas.{SameHeads, SameNames, heads_append, heads_from, heads_placed, heads_refl, names_sym}
+use Rattle.sudoers_edit.proofs.BackLemmas.{adds, drops}
+use Rattle.sudoers_edit.proofs.MemberLemmas.{member_more, some_def}
+use Rattle.sudoers_edit.proofs.WayBackLemmas.{said_logical}
+use Rattle.sudoers_edit.proofs.files.SwapLemmas.{Swapped, cut_back, put_back, swapped}
 use Rattle.sudoers_edit.proofs.ReplacedLemmas.{line_put, one_said}
 use Rattle.sudoers_edit.proofs.files.SpotLemmas.{AreAlike, LeadAlike, placed, places, walks_alike}
 
@@ -230,3 +242,119 @@ place_kept laws policy after f n bytes old new j ds es loaded now here put is wa
     named = heads_placed k name (definitions after.walk.lines) (definitions policy.walk.lines)
         (heads_walk policy after heads policy.walk.spots policy.walk.lines after.walk.spots after.walk.lines (laws.stand (files_of policy) policy loaded)
         (laws.stand (with_bytes f bytes (files_of policy)) after now) alike.places 0)
+
+-- WHAT THE CODE MEETS
+
+pub alias_refused : (k : Kind) (name : List ℕ) (at : ℕ) (s : List ℕ) (policy : Loaded) (fault : EditFault)
+    → ((next : List Line → Place → Line → Def → Result Lines EditFault) → at_alias k name policy (λ place lines. with_def (Some place) lines (next lines)) ≡ Err fault)
+    → (step (AddMember k name at s) policy ≡ Err fault) × (step (DropMember k name at) policy ≡ Err fault)
+unfolding add_member drop_member
+alias_refused k name at s policy fault none = (
+  none (λ lines place line d. place_to_add at (member_extents d.members) (λ from. put_in (among.Members place.def) at from place.line s line lines)),
+  none (λ lines place line d. place_to_drop at (member_extents d.members) (λ from to. cut_out (among.Members place.def) at from to place.line line lines)),
+)
+
+-- what is done at an alias that is there
+pub at_alias_is : (k : Kind) (name : List ℕ) (policy : Loaded) (at : FilePlace) (line : Line) (d : Def) (edit : Place → List Line → Result Lines EditFault)
+    → IsDefIn k name policy at line d → at_alias k name policy edit ≡ and_then (edit (place_in_file at) (lines_of policy.files at.file)) (landed policy at.file)
+at_alias_is k name policy at line d edit is = rw is.named refl
+
+pub add_found : (at : ℕ) (s : List ℕ) (k : Kind) (name : List ℕ) (policy : Loaded) (place : FilePlace) (line : Line) (d : Def) → IsDefIn k name policy place line d
+    → add_member (place_in_file place) at s (lines_of policy.files place.file)
+    ≡ place_to_add at (member_extents d.members) (λ from. put_in (among.Members place.def) at from place.line s line (lines_of policy.files place.file))
+unfolding add_member
+add_found at s k name policy place line d is = rw (is.here, is.makes, is.stands) refl
+
+pub drop_found : (at : ℕ) (k : Kind) (name : List ℕ) (policy : Loaded) (place : FilePlace) (line : Line) (d : Def) → IsDefIn k name policy place line d
+    → drop_member (place_in_file place) at (lines_of policy.files place.file)
+    ≡ place_to_drop at (member_extents d.members) (λ from to. cut_out (among.Members place.def) at from to place.line line (lines_of policy.files place.file))
+unfolding drop_member
+drop_found at k name policy place line d is = rw (is.here, is.makes, is.stands) refl
+
+-- a file with a line
+within_files : (files : List FileReading) (f n : ℕ) (line : Line) → slice_get (lines_of files f) n ≡ Some line → f < length files
+within_files [] zero n line here = absurd cc
+within_files [] (suc f) n line here = absurd cc
+within_files (file ∷ files) zero n line here = omega arith
+within_files (file ∷ files) (suc f) n line here = omega (arith, within_files files f n line here)
+
+-- THE WAY BACK
+
+-- the alias in the policy after it
+def_after : WalkLaws → (k : Kind) (name : List ℕ) (policy after : Loaded) (bytes : List ℕ) (place : FilePlace) (line new : Line) (d e : Def) (j : Kind) (ds es : List Def)
+    → load_of (files_of policy) ≡ Ok policy → load_of (with_bytes place.file bytes (files_of policy)) ≡ Ok after → IsDefIn k name policy place line d
+    → Swapped (lines_of policy.files place.file) (lines_of after.files place.file) place.line line new → line.node ≡ node.Alias j ds → new.node ≡ node.Alias j es
+    → SameNames es ds → slice_get es place.def ≡ Some e → IsDefIn k name after place new e
+def_after laws k name policy after bytes place line new d e j ds es loaded now is swap was later names stands = record {
+  named = place_kept laws policy after place.file place.line bytes line new j ds es loaded now is.here swap.is was later names k name ∙ is.named;
+  here = swap.here;
+  defs = es;
+  makes = ap defs_of later;
+  stands = stands;
+}
+
+pub add_replaces : WalkLaws → (k : Kind) (name : List ℕ) (at from : ℕ) (s text : List ℕ) (policy : Loaded) (place : FilePlace) (line : Line) (d : Def)
+    → load_of (files_of policy) ≡ Ok policy → IsDefIn k name policy place line d → (put : PutIn (among.Members place.def) at from s line text)
+    → add_member (place_in_file place) at s (lines_of policy.files place.file) ≡ with_changed place.line text (texts_of policy place.file)
+    → ReplacesIn (AddMember k name at s) (DropMember k name at) (DropMember k name at ∷ []) policy place.file place.line text
+add_replaces laws k name at from s text policy place line d loaded is put forth = record {
+  here = within_files policy.files place.file place.line line is.here;
+  said_is = said_logical text put.new put.says;
+  forth = at_alias_is k name policy place line d (λ p. add_member p at s) is ∙ ap (λ r. and_then r (landed policy place.file)) forth;
+  inverse_is = refl;
+  back_is = refl;
+  back = λ after now inside same.
+      let f : ℕ = place.file in
+      let bytes : List ℕ = join (replaced place.line text (texts_of policy f)) in
+      let before : List Line = lines_of policy.files f in
+      let later : List Line = lines_of after.files f in
+      let to : ℕ = from + length s in
+      let new : Line = record { text = text; node = put.new } in
+      let more = member_more place.def at from to put.new line.node put.more in
+      let swap = swapped before later place.line line text put.new (laws.known (files_of policy) policy loaded f) (laws.known (with_bytes f bytes (files_of policy)) after now f) is.here put.says same in
+      let e = some_def (slice_get more.more place.def) at from more.owned.begins in
+      let there : IsDefIn k name after place new e.0 =
+          def_after laws k name policy after bytes place line new d e.0 more.k more.less more.more loaded now is swap more.was more.is more.names e.1 in
+      let begins : seam at (member_extents e.0.members) ≡ Some from = ap (λ o. seam at (extents_in o)) (sym e.1) ∙ more.owned.begins in
+      let stops : owned_stop at (member_extents e.0.members) ≡ Some to = ap (λ o. owned_stop at (extents_in o)) (sym e.1) ∙ more.owned.stops in
+      at_alias_is k name after place new e.0 (λ p. drop_member p at) there
+      ∙ ap (λ r. and_then r (landed after f))
+      (drop_found at k name after place new e.0 there
+      ∙ drops at from to (member_extents e.0.members) (λ from to. cut_out (among.Members place.def) at from to place.line new later) begins stops
+      ∙ put_back (among.Members place.def) at from place.line s text before later line (laws.known (files_of policy) policy loaded f) is.here put swap);
+}
+
+owned_is : (k : Kind) (name : List ℕ) (policy : Loaded) (at from to : ℕ) (place : FilePlace) (line : Line) (d : Def) → IsDefIn k name policy place line d
+    → seam at (member_extents d.members) ≡ Some from → owned_stop at (member_extents d.members) ≡ Some to → owned_by k name at policy ≡ slice from to line.text
+unfolding owned_member
+owned_is k name policy at from to place line d is begins stops = rw (is.named, is.here, is.makes, is.stands, begins, stops) refl
+
+pub drop_replaces : WalkLaws → (k : Kind) (name : List ℕ) (at from to : ℕ) (s text : List ℕ) (policy : Loaded) (place : FilePlace) (line : Line) (d : Def)
+    → load_of (files_of policy) ≡ Ok policy → IsDefIn k name policy place line d → seam at (member_extents d.members) ≡ Some from
+    → owned_stop at (member_extents d.members) ≡ Some to → (cut : CutOut (among.Members place.def) at from to line text) → s ≡ slice from to line.text
+    → drop_member (place_in_file place) at (lines_of policy.files place.file) ≡ with_changed place.line text (texts_of policy place.file)
+    → ReplacesIn (DropMember k name at) (AddMember k name at s) (AddMember k name at s ∷ []) policy place.file place.line text
+drop_replaces laws k name at from to s text policy place line d loaded is begins stops cut owned forth = record {
+  here = within_files policy.files place.file place.line line is.here;
+  said_is = said_logical text cut.new cut.says;
+  forth = at_alias_is k name policy place line d (λ p. drop_member p at) is ∙ ap (λ r. and_then r (landed policy place.file)) forth;
+  inverse_is = ap (λ z. AddMember k name at z ∷ []) (owned ∙ sym (owned_is k name policy at from to place line d is begins stops));
+  back_is = refl;
+  back = λ after now inside same.
+      let f : ℕ = place.file in
+      let bytes : List ℕ = join (replaced place.line text (texts_of policy f)) in
+      let before : List Line = lines_of policy.files f in
+      let later : List Line = lines_of after.files f in
+      let new : Line = record { text = text; node = cut.new } in
+      let more = member_more place.def at from to line.node cut.new cut.more in
+      let swap = swapped before later place.line line text cut.new (laws.known (files_of policy) policy loaded f) (laws.known (with_bytes f bytes (files_of policy)) after now f) is.here cut.says same in
+      let e = some_def (slice_get more.less place.def) at from more.owned.fits in
+      let there : IsDefIn k name after place new e.0 =
+          def_after laws k name policy after bytes place line new d e.0 more.k more.more more.less loaded now is swap more.is more.was (names_sym more.more more.less more.names) e.1 in
+      let fits : seam at (member_extents e.0.members) ≡ Some from = ap (λ o. seam at (extents_in o)) (sym e.1) ∙ more.owned.fits in
+      at_alias_is k name after place new e.0 (λ p. add_member p at s) there
+      ∙ ap (λ r. and_then r (landed after f))
+      (add_found at s k name after place new e.0 there
+      ∙ adds at from (member_extents e.0.members) (λ from. put_in (among.Members place.def) at from place.line s new later) fits
+      ∙ cut_back (among.Members place.def) at from to place.line s text before later line (laws.known (files_of policy) policy loaded f) is.here cut owned swap);
+}

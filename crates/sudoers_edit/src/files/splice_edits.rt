@@ -9,13 +9,15 @@ ghost use Rattle.sudoers_tree.specs.Line.{Line as LineOf, line_shown, lines_show
 ghost use Rattle.sudoers_tree.specs.Load.{Loaded, load_of};
 ghost use Rattle.sudoers_tree.specs.Policy.{texts};
 ghost use Rattle.sudoers_tree.specs.declared.load.NamedFile.{NamedFile as NamedFileOf};
+ghost use Rattle.sudoers_tree.specs.declared.place.Place.{Place as PlaceOf};
 ghost use Rattle.sudoers_edit.specs.Editing.{Refuses};
-ghost use Rattle.sudoers_edit.specs.SpliceEdits.{defs_of, with_defs};
+ghost use Rattle.sudoers_edit.specs.SpliceEdits.{defs_of, with_def, with_defs};
 ghost use Rattle.sudoers_edit.specs.declared.fault.EditFault.{EditFault as Refusal};
+ghost use Rattle.sudoers_edit.specs.files.Editing.{at_alias};
 ghost use Rattle.sudoers_edit.specs.files.Landing.{Lines};
 ghost use Rattle.sudoers_edit.specs.files.SpliceEdits.{cut_out as with_less, put_in as with_more, with_changed};
 ghost use Rattle.sudoers_edit.specs.internal.FileLeading.{Plans};
-ghost use Rattle.sudoers_edit.specs.internal.FileSplicing.{AreKnown, ReplacesIn};
+ghost use Rattle.sudoers_edit.specs.internal.FileSplicing.{AreKnown, IsDefIn, ReplacesIn};
 ghost use Rattle.sudoers_edit.specs.internal.Leading.{CutOut, PutIn};
 ghost use Rattle.sudoers_edit.specs.internal.LeadingInFile.{texts_of};
 ghost use Rattle.sudoers_edit_script.specs.declared.edit.Edit.{Edit as AnEdit};
@@ -25,14 +27,17 @@ use crate::files::plan::{file_is_sound, swap};
 use crate::one_more::{Among, OneMore};
 use crate::plan::Plan;
 use crate::splice::{line_with, line_without, place_to_add, place_to_drop};
-use std::alloc::Global;
+use std::alloc::{AllocError, Global};
 use sudoers_edit_script::{Edit, Edits, Text};
 use sudoers_line::laws::{definitions_ascend, no_fault};
 use sudoers_line_reader::laws::{one_reading, outcome_is};
 use sudoers_text::laws::{line_alone_is_whole, line_alone_size, lines_stand_alone, whole_line_is};
 use sudoers_text::{LINE_LIMIT, ends_in_lf};
-use sudoers_tree::laws::{loaded_files_are_cut, loaded_lines_are_said};
-use sudoers_tree::{DefRow, Line, LineRow, Node, Policy, Rows, read_line};
+use sudoers_tree::laws::{
+    loaded_files_are, loaded_files_are_cut, loaded_lines_are_said, loaded_lines_stand,
+    loaded_walk_is,
+};
+use sudoers_tree::{Def, DefRow, FilePlace, Kind, Line, LineRow, Node, Policy, Rows, read_line};
 
 /// Plans a definition put into a line of a file.
 pub fn def_added(
@@ -100,6 +105,115 @@ pub fn def_dropped(policy: &Policy, file: u32, line: u32, at: u32) -> Result<Pla
     };
     let inverse = Edits::one(alloc, back)?;
     line_replaced(policy, file as usize, line as usize, text, inverse)
+}
+
+/// Plans a member put into the list of an alias.
+pub fn member_added(
+    policy: &Policy,
+    kind: Kind,
+    name: &[u8],
+    at: u32,
+    splice: &[u8],
+) -> Result<Plan, EditFault>
+    ensures { Plans (Edit.AddMember kind name.now at splice.now) policy.now result }
+{
+    policy.is_loaded();
+    lines_are_known();
+    loaded_files_are();
+    loaded_files_are_cut();
+    loaded_walk_is();
+    loaded_lines_stand();
+    let alloc = policy.allocator();
+    let (place, old, def) = match def_at(policy, kind, name) {
+        Ok(found) => found,
+        Err(fault) => return Err(fault),
+    };
+    let from = match place_to_add(&def.members, at as usize) {
+        Ok(from) => from,
+        Err(fault) => return Err(fault),
+    };
+    let among = Among::Members { def: place.def };
+    let text = match put_in(alloc, among, at as usize, from, splice, &old) {
+        Ok(text) => text,
+        Err(fault) => return Err(fault),
+    };
+    let name = Text::from_slice(alloc, name)?;
+    let inverse = Edits::one(alloc, Edit::DropMember { kind, name, at })?;
+    line_replaced(policy, place.file, place.line, text, inverse)
+}
+
+/// Plans a member taken out of the list of an alias.
+pub fn member_dropped(policy: &Policy, kind: Kind, name: &[u8], at: u32) -> Result<Plan, EditFault>
+    ensures { Plans (Edit.DropMember kind name.now at) policy.now result }
+{
+    policy.is_loaded();
+    lines_are_known();
+    loaded_files_are();
+    loaded_files_are_cut();
+    loaded_walk_is();
+    loaded_lines_stand();
+    let alloc = policy.allocator();
+    let (place, old, def) = match def_at(policy, kind, name) {
+        Ok(found) => found,
+        Err(fault) => return Err(fault),
+    };
+    let (from, to) = match place_to_drop(&def.members, at as usize) {
+        Ok(bytes) => bytes,
+        Err(fault) => return Err(fault),
+    };
+    let among = Among::Members { def: place.def };
+    let text = match cut_out(alloc, among, at as usize, from, to, old.text, &old.node) {
+        Ok(text) => text,
+        Err(fault) => return Err(fault),
+    };
+    let inverse = member_again(alloc, kind, name, at, &old.text[from..to])?;
+    line_replaced(policy, place.file, place.line, text, inverse)
+}
+
+/// Returns the edit that puts a member in again.
+fn member_again(
+    alloc: Global,
+    kind: Kind,
+    name: &[u8],
+    at: u32,
+    splice: &[u8],
+) -> Result<Edits, AllocError>
+    ensures { IfOk result (λ edits. edits ≡ Edit.AddMember kind name.now at splice.now ∷ []) }
+{
+    let name = Text::from_slice(alloc, name)?;
+    let splice = Text::from_slice(alloc, splice)?;
+    let back = Edit::AddMember {
+        kind,
+        name,
+        at,
+        splice,
+    };
+    Edits::one(alloc, back)
+}
+
+/// Returns where an alias is defined on the walk: its place in a file, its line and its definition.
+fn def_at<'a>(
+    policy: &'a Policy,
+    kind: Kind,
+    name: &[u8],
+) -> Result<(FilePlace, Line<'a>, Def<'a>), EditFault>
+    ensures found { IfOk result (λ found. IsDefIn kind name.now policy.now found.0 (line_shown found.1) (def_shown found.2)) }
+    ensures refused { IfErr result (λ fault. (next : List LineOf → PlaceOf → LineOf → DefOf → Result Lines Refusal)
+        → at_alias kind name.now policy.now (λ place lines. with_def (Some place) lines (next lines)) ≡ Err fault) }
+{
+    let Some(place) = policy.definition(kind, name) else {
+        return Err(EditFault::NoAlias);
+    };
+    let Some(line) = policy.line(place.file, place.line) else {
+        return Err(EditFault::NoAlias);
+    };
+    let Node::Alias { defs, .. } = line.node else {
+        return Err(EditFault::NoAlias);
+    };
+    match defs.rows.get(place.def) {
+        Some(row) => Ok((place, line, defs.tables.def(row))),
+        None => Err(EditFault::NoAlias),
+    }
 }
 
 /// Returns the line of a number, and its definitions.
@@ -236,8 +350,3 @@ fn lines_are_known()
     no_fault();
     definitions_ascend();
 }
-
-#[tactic(auto, using(crate::proofs::files::MemberLemmas::place_kept))]
-fn stub()
-    ensures { ℕ }
-{}
