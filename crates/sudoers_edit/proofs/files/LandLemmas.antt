@@ -1,5 +1,5 @@
 -- Changes of the lines of one file: the files that they make, and the way back.
-use Rattle.std.proofs.Common.{◌≡◌, ◌∙◌, ◌⊎◌, inl, inr, ◌<◌, ◌≤◌, ◌+◌, ◌==◌, ℕ, zero, suc, Bool, true, false, if◌then◌else◌, List, [], ◌∷◌, length, map, Some, Result, Ok, refl, sym, ap, ap₂, subst, arith}
+use Rattle.std.proofs.Common.{◌≡◌, ◌∙◌, ◌⊎◌, inl, inr, ◌<◌, ◌≤◌, ◌+◌, ◌==◌, ℕ, zero, suc, Bool, true, false, if◌then◌else◌, List, [], ◌∷◌, length, map, slice_index_or, slice_set, Some, Result, Ok, refl, sym, ap, ap₂, subst, arith}
 use Rattle.std.specs.Prelude.{option_and_then}
 use Rattle.std.specs.Result.{result_ok}
 use Rattle.std.specs.List.{AllByRecursion}
@@ -163,6 +163,20 @@ bytes_count zero bytes [] = refl
 bytes_count (suc f) bytes [] = refl
 bytes_count zero bytes (file ∷ files) = refl
 bytes_count (suc f) bytes (file ∷ files) = ap suc (bytes_count f bytes files)
+
+-- the bytes set in a list of files
+pub bytes_set : (f : ℕ) (bytes : List ℕ) (named : NamedFile) (files : List NamedFile) → f < length files → named ≡ slice_index_or files f named
+    → slice_set files f (record { name = named.name; bytes = bytes }) ≡ with_bytes f bytes files
+bytes_set f bytes named [] within is = absurd (omega (arith, within))
+bytes_set zero bytes named (file ∷ files) within is = ap (λ (n : NamedFile). record { name = n.name; bytes = bytes } ∷ files) is
+bytes_set (suc f) bytes named (file ∷ files) within is = ap (λ (more : List NamedFile). file ∷ more) (bytes_set f bytes named files (omega (arith, within)) is)
+
+-- no file has the number
+pub bytes_past : (f : ℕ) (bytes : List ℕ) (files : List NamedFile) → length files ≤ f → with_bytes f bytes files ≡ files
+bytes_past zero bytes [] past = refl
+bytes_past (suc f) bytes [] past = refl
+bytes_past zero bytes (file ∷ files) past = absurd (omega (arith, past))
+bytes_past (suc f) bytes (file ∷ files) past = ap (λ (more : List NamedFile). file ∷ more) (bytes_past f bytes files (omega (arith, past)))
 
 -- WHERE THEY LAND
 
