@@ -3,3 +3,4 @@ pub mod LandLemmas
 pub mod PlanLemmas
 pub mod LineLemmas
 pub mod MoveLemmas
+pub mod EndLemmas

@@ -10,4 +10,5 @@ pub mod Drafts
 pub mod Elsewhere
 pub mod FileLeading
 pub mod LeadingInFile
+pub mod LastLineInFile
 pub mod MadeInFiles

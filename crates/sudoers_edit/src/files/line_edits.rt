@@ -6,16 +6,22 @@ ghost use Rattle.sudoers_text.specs.Whole.{IsLogicalLine};
 ghost use Rattle.sudoers_edit.specs.OneLine.{is_one_line, IsAlone};
 ghost use Rattle.sudoers_edit.specs.LineEdits.{moved};
 ghost use Rattle.sudoers_edit.specs.internal.FileLeading.{Plans};
+ghost use Rattle.sudoers_edit.specs.internal.LastLineInFile.{EndsStayCut};
 ghost use Rattle.sudoers_edit.specs.internal.LeadingInFile.{move_changes as the_move_changes, texts_of};
 
 use crate::fault::EditFault;
-use crate::files::plan::{file_is_sound, one_file_leads, put, take};
+use crate::files::plan::{file_is_sound, one_file_leads, put, refusal, swap, take};
 use crate::plan::Plan;
 use std::alloc::{AllocError, Global};
 use sudoers_edit_script::{Edit, Edits, Text};
-use sudoers_text::laws::{line_alone_is_whole, lines_stand_alone, whole_line_is};
-use sudoers_text::{TextFault, cut, ends_in_lf};
-use sudoers_tree::laws::changed_by_first;
+use sudoers_text::laws::{
+    lf_behind_last_line, lf_from_last_line, line_alone_is_whole, line_alone_size,
+    lines_stand_alone, whole_line_is,
+};
+use sudoers_text::{LINE_LIMIT, TextFault, cut, ends_in_lf};
+use sudoers_tree::laws::{
+    changed_by_first, changed_files_have_lines, loaded_files_are, loaded_files_are_cut,
+};
 use sudoers_tree::{LineChange, Policy};
 
 /// Plans a line put in.
@@ -120,6 +126,68 @@ fn move_changes(
     Ok(changes)
 }
 
+/// Plans LF behind the last line of a file.
+pub fn end_closed(policy: &Policy, file: u32) -> Result<Plan, EditFault>
+    ensures { Plans (Edit.EndLine file) policy.now result }
+{
+    let alloc = policy.allocator();
+    let number = file as usize;
+    if number >= policy.files() {
+        return Err(EditFault::NoFile);
+    }
+    let Some(last) = last_line(policy, number) else {
+        return Err(EditFault::EndAsIs);
+    };
+    if ends_in_lf(last) {
+        return Err(EditFault::EndAsIs);
+    }
+    if last.len() >= LINE_LIMIT {
+        return Err(EditFault::TooLarge);
+    }
+    policy.is_loaded();
+    file_is_sound(policy);
+    ends_stay_cut();
+    let mut text = Vec::from_slice(alloc, last)?;
+    text.push(b'\n')?;
+    if !is_one_line(alloc, text.as_slice())? {
+        let mut whole = policy.text(number)?;
+        whole.push(b'\n')?;
+        return Err(refusal(policy, number, whole));
+    }
+    let inverse = Edits::one(alloc, Edit::OpenEnd { file })?;
+    let at = last_place(policy, number);
+    Ok(swap(alloc, number, at, Text::from_vec(text), inverse)?)
+}
+
+/// Plans that the last line of a file lacks the LF at its end.
+pub fn end_opened(policy: &Policy, file: u32) -> Result<Plan, EditFault>
+    ensures { Plans (Edit.OpenEnd file) policy.now result }
+{
+    let alloc = policy.allocator();
+    let number = file as usize;
+    if number >= policy.files() {
+        return Err(EditFault::NoFile);
+    }
+    let Some(last) = last_line(policy, number) else {
+        return Err(EditFault::EndAsIs);
+    };
+    if last.len() < 2 || !ends_in_lf(last) {
+        return Err(EditFault::EndAsIs);
+    }
+    policy.is_loaded();
+    file_is_sound(policy);
+    ends_stay_cut();
+    let text = Text::from_slice(alloc, &last[..last.len() - 1])?;
+    if !is_one_line(alloc, text.as_slice())? {
+        let mut whole = policy.text(number)?;
+        let _ = whole.pop();
+        return Err(refusal(policy, number, whole));
+    }
+    let inverse = Edits::one(alloc, Edit::EndLine { file })?;
+    let at = last_place(policy, number);
+    Ok(swap(alloc, number, at, text, inverse)?)
+}
+
 /// Returns whether a line without LF would stand before another of a file once the text stands at a place.
 fn leaves_unended(policy: &Policy, file: usize, at: usize, text: &[u8]) -> bool
     requires { at ≤ length (texts_of policy.now file) }
@@ -161,6 +229,35 @@ fn line_text(policy: &Policy, file: usize, at: usize) -> Option<&[u8]>
     ensures { option_copied result ≡ slice_get (texts_of policy.now file) at }
 {
     Some(policy.line(file, at)?.text)
+}
+
+/// Returns the last line of a file, if there is one.
+fn last_line(policy: &Policy, file: usize) -> Option<&[u8]>
+    ensures { option_copied result ≡ slice_get (texts_of policy.now file) (length (texts_of policy.now file) - 1) }
+{
+    line_text(policy, file, last_place(policy, file))
+}
+
+/// Returns the number of the last line of a file.
+fn last_place(policy: &Policy, file: usize) -> usize
+    ensures { result ≡ length (texts_of policy.now file) - 1 }
+{
+    policy.len(file).saturating_sub(1)
+}
+
+/// A law: the lines of a file stay as many where LF is put behind the last or taken from it, if the files load then.
+fn ends_stay_cut()
+    ensures { EndsStayCut }
+{
+    loaded_files_are();
+    loaded_files_are_cut();
+    lines_stand_alone();
+    line_alone_is_whole();
+    whole_line_is();
+    changed_files_have_lines();
+    line_alone_size();
+    lf_behind_last_line();
+    lf_from_last_line();
 }
 
 /// Returns whether a text is exactly one logical line.
