@@ -1,5 +1,5 @@
 -- The last line of a file, with LF and without.
-use Rattle.std.proofs.Common.{◌≡◌, ◌∙◌, ◌≢◌, ℕ, zero, suc, ◌-◌, ◌<◌, ◌≤◌, Bool, true, false, List, [], ◌∷◌, ◌++◌, length, take, Option, Some, None, Result, Ok, Err, inl, inr, refl, sym, ap, subst, arith, append_assoc, append-nil}
+use Rattle.std.proofs.Common.{◌≡◌, ◌∙◌, ◌≢◌, ℕ, ◌-◌, ◌<◌, ◌≤◌, Bool, true, false, List, [], ◌∷◌, ◌++◌, length, take, Option, Some, None, Result, Ok, Err, inl, inr, refl, sym, ap, subst, arith, append_assoc, append-nil}
 use Rattle.std.specs.Prelude.{slice_get}
 use Rattle.std.specs.Option.{option_map}
 use Rattle.std.proofs.lemmas.Option.{slice_get_within}
@@ -157,8 +157,7 @@ IsLast policy f line = slice_get (texts_of policy f) (length (texts_of policy f)
 pub no_end : (policy : Loaded) (f : ℕ) → f < length policy.files → slice_get (texts_of policy f) (length (texts_of policy f) - 1) ≡ None
     → (step (EndLine f) policy ≡ Err EndAsIs) × (step (OpenEnd f) policy ≡ Err EndAsIs)
 no_end policy f here is =
-    let none : texts_of policy f ≡ [] = no_last (texts_of policy f) is in
-    (
+    let none : texts_of policy f ≡ [] = no_last (texts_of policy f) is in (
       closed_not policy f EndAsIs here (ap (λ z. with_ended (with_last with_end z)) none),
       opened_not policy f EndAsIs here (ap (λ z. with_ended (with_last without_lf z)) none),
     )

@@ -9,13 +9,12 @@ use Rattle.sudoers_tree.specs.Files.{FileReading, lines_in, lines_of}
 use Rattle.sudoers_tree.specs.Line.{Line}
 use Rattle.sudoers_tree.specs.Load.{Loaded}
 use Rattle.sudoers_tree.specs.Policy.{texts}
-use Rattle.sudoers_edit_script.specs.declared.edit.Edit.{Edit}
 use Rattle.sudoers_edit_script.specs.declared.edit.Edit.TheVariants.{Insert, Delete, Move}
-use Rattle.sudoers_edit.specs.Landing.{or_refuse, refuse_if}
+use Rattle.sudoers_edit.specs.Landing.{or_refuse}
 use Rattle.sudoers_edit.specs.LineEdits.{moved}
 use Rattle.sudoers_edit.specs.OneLine.{is_one_line}
 use Rattle.sudoers_edit.specs.declared.fault.EditFault.{EditFault}
-use Rattle.sudoers_edit.specs.declared.fault.EditFault.TheVariants.{NoFile, NoLine, NotOneLine, OpenLine}
+use Rattle.sudoers_edit.specs.declared.fault.EditFault.TheVariants.{NoFile, OpenLine}
 use Rattle.sudoers_edit.specs.files.Editing.{in_file, line_at, step}
 use Rattle.sudoers_edit.specs.files.Landing.{Lines, and_then, landed}
 use Rattle.sudoers_edit.specs.files.LineEdits.{with_line, without_line, with_move}

@@ -1,4 +1,4 @@
-use Rattle.std.proofs.Common.{◌≡◌, ◌∙◌, ◌-◌, ◌<◌, ◌≤◌, ◌∷◌, [], List, ℕ, length, take, true, false, Some, None, ap, sym, subst, inr, arith}
+use Rattle.std.proofs.Common.{◌≡◌, ◌∙◌, ◌-◌, ◌<◌, ◌∷◌, [], List, ℕ, length, take, false, ap, sym, subst, inr, arith}
 use Rattle.sudoers_text.specs.Line.{join}
 use Rattle.sudoers_text.specs.Whole.{IsLogicalLine}
 use Rattle.sudoers_tree.specs.Changed.{replaced}

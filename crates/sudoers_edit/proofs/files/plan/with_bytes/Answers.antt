@@ -1,4 +1,4 @@
-use Rattle.std.proofs.Common.{◌≡◌, ◌∙◌, ◌<◌, ◌≤◌, List, length, refl, ap, ap₂, sym, arith, slice_set}
+use Rattle.std.proofs.Common.{◌∙◌, ◌<◌, ◌≤◌, List, length, refl, ap, sym, arith, slice_set}
 use Rattle.sudoers_tree.specs.declared.load.NamedFile.{NamedFile}
 use Rattle.sudoers_edit.specs.files.Landing.{with_bytes}
 use Rattle.sudoers_edit.proofs.files.LandLemmas.{bytes_past, bytes_set}
