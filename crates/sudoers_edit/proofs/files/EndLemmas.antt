@@ -184,7 +184,7 @@ open_lacks policy f line here is h =
     let p = last_parts (texts_of policy f) line is in
     opened_not policy f EndAsIs here (ap (λ z. with_ended (with_last without_lf z)) p.1 ∙ ended_as_is without_lf p.0 line (without_lf_lacks line h))
 
--- the last of the lines after its end is changed, and why they are no policy then
+-- what refuses the files with these bytes refuses the edit that leads to these lines
 pub refused_end : (edit back : Edit) (inverse : List Edit) (policy : Loaded) (f : ℕ) (new : Lines) (text : List ℕ) (fault : EditFault) → LandsIn edit back inverse policy f new
     → text ≡ join new → Refuses fault (policy_or_refusal (with_bytes f text (files_of policy))) → Refuses fault (step edit policy)
 refused_end edit back inverse policy f new text fault to is (inl none) = inl none
@@ -195,7 +195,7 @@ loaded_by : (r : Result Loaded LoadFault) (new : Loaded) → by_load r ≡ Ok ne
 loaded_by (Ok policy) new is = let same : policy ≡ new = cc in ap (λ (p : Loaded). Ok p) same
 loaded_by (Err fault) new is = cc
 
--- the files with other bytes are none, if some line were one then that is not
+-- the files with other bytes are no policy, if a line would be one line then that is not
 pub unloaded : (policy : Loaded) (f : ℕ) (new : Lines) (text line : List ℕ)
     → ((new_policy : Loaded) → load_of (with_bytes f (join new) (files_of policy)) ≡ Ok new_policy → is_one_line line ≡ true)
     → is_one_line line ≡ false → text ≡ join new
