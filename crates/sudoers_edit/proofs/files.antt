@@ -7,3 +7,6 @@ pub mod ReplaceLemmas
 pub mod KnownLemmas
 pub mod DefLemmas
 pub mod MemberLemmas
+pub mod LineLemmas
+pub mod MoveLemmas
+pub mod EndLemmas

@@ -11,4 +11,5 @@ pub mod Elsewhere
 pub mod FileLeading
 pub mod FileSplicing
 pub mod LeadingInFile
+pub mod LastLineInFile
 pub mod MadeInFiles

@@ -98,7 +98,8 @@ impl From<LoadFault> for EditFault {
     fn from(fault: LoadFault) -> EditFault {
         match fault {
             LoadFault::InFile { fault, .. } => EditFault::from(fault),
-            LoadFault::TooManyFiles | LoadFault::SameName { .. } | LoadFault::NoMemory => EditFault::NoMemory,
+            LoadFault::TooManyFiles | LoadFault::SameName { .. } | LoadFault::NoMemory =>
+                EditFault::NoMemory,
         }
     }
 }

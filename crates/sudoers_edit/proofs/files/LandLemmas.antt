@@ -1,11 +1,11 @@
 -- Changes of the lines of one file: the files that they make, and the way back.
-use Rattle.std.proofs.Common.{◌≡◌, ◌∙◌, ◌⊎◌, inl, inr, ◌<◌, ◌≤◌, ◌+◌, ◌==◌, ℕ, zero, suc, Bool, true, false, if◌then◌else◌, List, [], ◌∷◌, length, map, Some, Result, Ok, refl, sym, ap, ap₂, subst, arith}
+use Rattle.std.proofs.Common.{◌≡◌, ◌∙◌, ◌⊎◌, inl, inr, ◌<◌, ◌≤◌, ◌+◌, ◌==◌, ℕ, zero, suc, Bool, true, false, if◌then◌else◌, List, [], ◌∷◌, length, map, slice_index_or, slice_set, Some, Result, Ok, refl, sym, ap, ap₂, subst, arith}
 use Rattle.std.specs.Prelude.{option_and_then}
 use Rattle.std.specs.Result.{result_ok}
 use Rattle.std.specs.List.{AllByRecursion}
 use Rattle.std.proofs.lemmas.Bool.{eq-eqb, ne_eqb, eqb-true}
 use Rattle.std.proofs.lemmas.List.{length-map}
-use Rattle.sudoers_text.specs.Cut.{cut_of}
+use Rattle.sudoers_text.specs.Cut.{cut_of, StandAlone}
 use Rattle.sudoers_text.specs.Ended.{has_unended_inside}
 use Rattle.sudoers_text.specs.Line.{join}
 use Rattle.sudoers_text.specs.Whole.{IsLogicalLine, is_logical_line}
@@ -164,6 +164,20 @@ bytes_count (suc f) bytes [] = refl
 bytes_count zero bytes (file ∷ files) = refl
 bytes_count (suc f) bytes (file ∷ files) = ap suc (bytes_count f bytes files)
 
+-- the bytes set in a list of files
+pub bytes_set : (f : ℕ) (bytes : List ℕ) (named : NamedFile) (files : List NamedFile) → f < length files → named ≡ slice_index_or files f named
+    → slice_set files f (record { name = named.name; bytes = bytes }) ≡ with_bytes f bytes files
+bytes_set f bytes named [] within is = absurd (omega (arith, within))
+bytes_set zero bytes named (file ∷ files) within is = ap (λ (n : NamedFile). record { name = n.name; bytes = bytes } ∷ files) is
+bytes_set (suc f) bytes named (file ∷ files) within is = ap (λ (more : List NamedFile). file ∷ more) (bytes_set f bytes named files (omega (arith, within)) is)
+
+-- no file has the number
+pub bytes_past : (f : ℕ) (bytes : List ℕ) (files : List NamedFile) → length files ≤ f → with_bytes f bytes files ≡ files
+bytes_past zero bytes [] past = refl
+bytes_past (suc f) bytes [] past = refl
+bytes_past zero bytes (file ∷ files) past = absurd (omega (arith, past))
+bytes_past (suc f) bytes (file ∷ files) past = ap (λ (more : List NamedFile). file ∷ more) (bytes_past f bytes files (omega (arith, past)))
+
 -- WHERE THEY LAND
 
 -- lines of which none is open land where their files are loaded
@@ -200,6 +214,27 @@ pub as_many : LandLaws → (policy new : Loaded) (f : ℕ) (bytes : List ℕ) �
 as_many laws policy new f bytes is =
     sym (length-map new.files named_of) ∙ ap length (laws.bytes (with_bytes f bytes (files_of policy)) new is)
     ∙ bytes_count f bytes (files_of policy) ∙ length-map policy.files named_of
+
+first_bytes : (f : ℕ) (bytes : List ℕ) (news olds : List FileReading) → map named_of news ≡ with_bytes f bytes (map named_of olds) → f < length olds
+    → join (texts (lines_of news f)) ≡ bytes
+first_bytes f bytes news [] same here = absurd (omega (arith, here))
+first_bytes zero bytes [] (old ∷ olds) same here = absurd cc
+first_bytes (suc f) bytes [] (old ∷ olds) same here = absurd cc
+first_bytes zero bytes (new ∷ news) (old ∷ olds) same here =
+    let is : named_of new ≡ record { name = old.name; bytes = bytes } = cc in
+    ap (λ (file : NamedFile). file.bytes) is
+first_bytes (suc f) bytes (new ∷ news) (old ∷ olds) same here =
+    let rest : map named_of news ≡ with_bytes f bytes (map named_of olds) = cc in
+    first_bytes f bytes news olds rest (omega (arith, here))
+
+-- the lines of a file that is loaded with other bytes are those of the bytes
+pub cut_with : LandLaws → (policy new : Loaded) (f : ℕ) (bytes : List ℕ) → f < length policy.files → load_of (with_bytes f bytes (files_of policy)) ≡ Ok new
+    → (cut_of bytes ≡ Ok (texts_of new f)) × StandAlone (texts_of new f)
+cut_with laws policy new f bytes here is =
+    let files : List NamedFile = with_bytes f bytes (files_of policy) in
+    let cut : cut_of (join (texts_of new f)) ≡ Ok (texts_of new f) = laws.cut files new is f in
+    let whole : join (texts_of new f) ≡ bytes = first_bytes f bytes new.files policy.files (laws.bytes files new is) here in
+    (ap cut_of (sym whole) ∙ cut, (laws.alone (join (texts_of new f)) (texts_of new f) cut).0)
 
 -- an edit of one file whose inverse is one edit
 pub one_file_leads : LandLaws → (edit back : Edit) (inverse : List Edit) (policy : Loaded) (f : ℕ) (changes : List LineChange) → load_of (files_of policy) ≡ Ok policy

@@ -1,11 +1,13 @@
 //! Plans of edits of the files of a policy: what changes of their lines an edit is, and the edits that take it back.
-ghost use Rattle.std.specs.Prelude.{◌≡◌, ◌≤◌, ◌<◌, ◌∷◌, [], List, ℕ, length, insert, remove, Ok, IfOk, OnOk, OnErr};
+ghost use Rattle.std.specs.Prelude.{◌≡◌, ◌≤◌, ◌<◌, ◌∷◌, [], List, ℕ, length, insert, remove, Ok, IfOk, OnOk, OnErr, MatchResult};
 ghost use Rattle.sudoers_text.specs.Whole.{IsLogicalLine};
 ghost use Rattle.sudoers_tree.specs.Changed.{changed, replaced};
 ghost use Rattle.sudoers_tree.specs.ChangedFiles.{CanBeMade, files_changed};
 ghost use Rattle.sudoers_tree.specs.Load.{Loaded, files_of, load_of};
 ghost use Rattle.sudoers_tree.specs.declared.line_change.LineChange.{LineChange as LineChangeOf};
 ghost use Rattle.sudoers_edit_script.specs.declared.edit.Edit.{Edit as AnEdit};
+ghost use Rattle.sudoers_edit.specs.Editing.{Refuses};
+ghost use Rattle.sudoers_edit.specs.files.Landing.{policy_or_refusal, with_bytes as the_files_with};
 ghost use Rattle.sudoers_edit.specs.internal.FileLeading.{Leads};
 ghost use Rattle.sudoers_edit.specs.internal.LeadingInFile.{AreFileLines, FitIn, LandsIn, texts_of};
 ghost use Rattle.sudoers_edit.specs.internal.MadeInFiles.{Makes};
@@ -18,7 +20,7 @@ use sudoers_text::laws::{line_alone_is_whole, lines_stand_alone, whole_line_is};
 use sudoers_tree::laws::{
     changed_files_have_lines, loaded_files_are, loaded_files_are_cut, one_change,
 };
-use sudoers_tree::{LineChange, Policy};
+use sudoers_tree::{LineChange, NamedFile, Policy};
 
 /// Returns the plan of one change.
 fn one(alloc: Global, change: LineChange, inverse: Edits) -> Result<Plan, AllocError>
@@ -82,6 +84,37 @@ pub fn carry_out(plan: Plan, policy: &mut Policy) -> Result<Edits, EditFault>
     match policy.changed(plan.changes.as_slice()) {
         Ok(()) => Ok(plan.inverse),
         Err(fault) => Err(EditFault::from(fault)),
+    }
+}
+
+/// Returns the files of a policy with other bytes of one.
+fn with_bytes(policy: &Policy, file: usize, bytes: Vec<u8>) -> Result<Vec<NamedFile>, AllocError>
+    ensures { IfOk result (λ files. files.items ≡ the_files_with file bytes.items (files_of policy.now)) }
+{
+    let mut files = policy.named_files()?;
+    if let Some(named) = files.get_mut(file) {
+        named.bytes = Text::from_vec(bytes);
+    }
+    Ok(files)
+}
+
+/// Returns the policy that the files of a policy are with other bytes of one.
+fn load_with(policy: &Policy, file: usize, bytes: Vec<u8>) -> Result<Policy, EditFault>
+    ensures { MatchResult result (λ new. policy_or_refusal (the_files_with file bytes.items (files_of policy.now)) ≡ Ok new)
+        (λ fault. Refuses fault (policy_or_refusal (the_files_with file bytes.items (files_of policy.now)))) }
+{
+    let files = with_bytes(policy, file, bytes)?;
+    Ok(Policy::load(policy.allocator(), files.as_slice())?)
+}
+
+/// Returns why the files of a policy are none with other bytes of one.
+pub fn refusal(policy: &Policy, file: usize, bytes: Vec<u8>) -> EditFault
+    requires { (new : Loaded) → policy_or_refusal (the_files_with file bytes.items (files_of policy.now)) ≡ Ok new → ⊥ }
+    ensures { Refuses result (policy_or_refusal (the_files_with file bytes.items (files_of policy.now))) }
+{
+    match load_with(policy, file, bytes) {
+        Ok(_) => unreachable!(),
+        Err(fault) => fault,
     }
 }
 
