@@ -1,3 +1,4 @@
+pub mod over
 mod AlikeLemmas
 mod ChangedLemmas
 mod BackLemmas

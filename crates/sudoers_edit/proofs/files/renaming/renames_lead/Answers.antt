@@ -1,0 +1,6 @@
+use Rattle.sudoers_edit.proofs.over.RenameCovers.{lines_on_walk}
+use Rattle.sudoers_edit.proofs.over.RenameSwaps.{lines_after}
+use Rattle.sudoers_edit.proofs.files.renaming.renames_lead.Goals as goal
+
+pub returns : goal.returns
+returns c = ?
