@@ -1,3 +1,5 @@
 -- Lemmas of edits over the files of a policy.
 pub mod RenameCovers
 pub mod RenameSwaps
+pub mod RenameLaws
+pub mod RenameLines
