@@ -3,3 +3,5 @@ pub mod RenameCovers
 pub mod RenameSwaps
 pub mod RenameLaws
 pub mod RenameLines
+pub mod RenameFiles
+pub mod RenameLeads
