@@ -5,3 +5,4 @@ pub mod RenameLaws
 pub mod RenameLines
 pub mod RenameFiles
 pub mod RenameLeads
+pub mod RenameLong
