@@ -1,5 +1,5 @@
 -- Where a rename over the files of a policy leads, and that one rename leads back.
-use Rattle.std.proofs.Common.{◌≡◌, ◌∙◌, ℕ, Bool, true, false, not, ◌||◌, List, [], ◌∷◌, ◌++◌, Some, Ok, refl, sym, ap, ap₂, subst}
+use Rattle.std.proofs.Common.{◌≡◌, ◌∙◌, ℕ, Bool, true, false, not, ◌||◌, List, [], ◌∷◌, ◌++◌, Some, Ok, Err, refl, sym, ap, ap₂, subst}
 use Rattle.std.specs.List.{AllByRecursion, list_any}
 use Rattle.std.specs.Prelude.{Option, Result, option_and_then}
 use Rattle.std.specs.Result.{result_ok}
@@ -16,6 +16,7 @@ use Rattle.sudoers_tree.specs.declared.line_change.LineChange.{LineChange}
 use Rattle.sudoers_edit_script.specs.declared.edit.Edit.{Edit}
 use Rattle.sudoers_edit_script.specs.declared.edit.Edit.TheVariants.{Rename}
 use Rattle.sudoers_edit.specs.declared.fault.EditFault.{EditFault}
+use Rattle.sudoers_edit.specs.declared.fault.EditFault.TheVariants.{NoAlias, BadName, NameTaken, TooLarge}
 use Rattle.sudoers_edit.specs.Landing.{is_too_long}
 use Rattle.sudoers_edit.specs.Renamed.{renamed_lines}
 use Rattle.sudoers_edit.specs.Renaming.{is_taken, renamed}
@@ -76,3 +77,29 @@ rename_leads l k name fresh policy changes f short are =
       inverse_is = refl;
       back = λ new told. run_one (Rename k fresh name) new policy (back_is l k name fresh policy new f told);
     })
+
+-- ---- refusals
+
+pub no_alias : (k : Kind) (name fresh : List ℕ) (policy : Loaded) → is_some (place_of k name policy.walk.lines) ≡ false → rename k name fresh policy ≡ Err NoAlias
+unfolding rename
+no_alias k name fresh policy none = rw none refl
+
+pub bad_name : (k : Kind) (name fresh : List ℕ) (policy : Loaded) → is_some (place_of k name policy.walk.lines) ≡ true
+    → (not (is_name fresh) || is_reserved fresh) ≡ true → rename k name fresh policy ≡ Err BadName
+unfolding rename
+bad_name k name fresh policy some bad = rw (some, bad) refl
+
+pub name_taken : (k : Kind) (name fresh : List ℕ) (policy : Loaded) → is_some (place_of k name policy.walk.lines) ≡ true
+    → (not (is_name fresh) || is_reserved fresh) ≡ false → is_taken k fresh policy.walk.lines ≡ true → rename k name fresh policy ≡ Err NameTaken
+unfolding rename
+name_taken k name fresh policy some free taken = rw (some, free, taken) refl
+
+pub too_long : (k : Kind) (name fresh : List ℕ) (policy : Loaded) → is_some (place_of k name policy.walk.lines) ≡ true
+    → (not (is_name fresh) || is_reserved fresh) ≡ false → is_taken k fresh policy.walk.lines ≡ false
+    → list_any is_too_long (renamed k name fresh policy.walk.lines) ≡ true → rename k name fresh policy ≡ Err TooLarge
+unfolding rename
+too_long k name fresh policy some free untaken long = rw (some, free, untaken, long) refl
+
+pub definable : (a b : Bool) → (not a || b) ≡ false → (a ≡ true) × (b ≡ false)
+definable true b h = (refl, h)
+definable false b h = absurd cc

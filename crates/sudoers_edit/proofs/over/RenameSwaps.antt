@@ -1,5 +1,5 @@
 -- The changes that give an alias another name in the files on a walk: those of each file, and what they make of its lines.
-use Rattle.std.proofs.Common.{◌≡◌, ◌∙◌, ℕ, zero, suc, ◌+◌, ◌-◌, ◌≤◌, ◌<◌, ◌==◌, Bool, true, false, List, [], ◌∷◌, ◌++◌, length, take, drop, refl, sym, ap, ap₂, subst, arith, append-nil, if◌then◌else◌}
+use Rattle.std.proofs.Common.{◌≡◌, ◌∙◌, ℕ, zero, suc, ◌+◌, ◌-◌, ◌≤◌, ◌<◌, ◌==◌, Bool, true, false, List, [], ◌∷◌, ◌++◌, length, take, drop, refl, sym, ap, ap₂, subst, arith, append-nil, append_assoc, if◌then◌else◌}
 use Rattle.std.proofs.lemmas.Bool.{eq-eqb}
 use Rattle.std.proofs.lemmas.Bool.Decides.{nat_tests}
 use Rattle.std.specs.Prelude.{option_to_list}
@@ -228,3 +228,32 @@ order_after f k name fresh w files =
     by : (on : Bool) → AreInOrder 0 (if_on on f k name fresh (lines_of files f)) (length (lines_of files f))
     by true = order_in f 0 0 (length (lines_of files f)) k name fresh (lines_of files f) (omega arith) (omega arith)
     by false = omega arith
+
+-- ONE FILE AFTER ANOTHER
+
+-- the file with this number, and those behind it
+record HasFile (files : List FileReading) (f : ℕ) : Type 0 where
+  file : FileReading
+  is : drop f files ≡ file ∷ drop (f + 1) files
+  lines : lines_of files f ≡ file.lines
+
+file_at : (files : List FileReading) (f : ℕ) → f < length files → HasFile files f
+file_at [] f less = absurd (omega (arith, less))
+file_at (file ∷ files) zero less = record { file = file; is = refl; lines = refl }
+file_at (file ∷ files) (suc f) less =
+    let at : HasFile files f = file_at files f (omega (arith, less)) in
+    let next : suc (f + 1) ≡ suc f + 1 = omega arith in
+    record { file = at.file; is = at.is ∙ ap (λ n. at.file ∷ drop n (file ∷ files)) next; lines = at.lines }
+
+-- what is there, the changes of a file, and those of the files behind it
+pub swaps_next : (changes more : List LineChange) (f : ℕ) (k : Kind) (name fresh : List ℕ) (w : Walked) (files : List FileReading) → f < length files
+    → more ≡ changes ++ (if is_on w f then swaps_of_file f 0 k name fresh (lines_of files f) else [])
+    → more ++ swaps_from (f + 1) k name fresh w (drop (f + 1) files) ≡ changes ++ swaps_from f k name fresh w (drop f files)
+swaps_next changes more f k name fresh w files less is =
+    let at : HasFile files f = file_at files f less in
+    let here : List LineChange = if_on (is_on w f) f k name fresh (lines_of files f) in
+    let behind : List LineChange = swaps_from (f + 1) k name fresh w (drop (f + 1) files) in
+    ap (λ cs. cs ++ behind) is
+    ∙ append_assoc changes here behind
+    ∙ ap (λ ls. changes ++ (if_on (is_on w f) f k name fresh ls ++ behind)) at.lines
+    ∙ ap (λ fs. changes ++ swaps_from f k name fresh w fs) (sym at.is)
