@@ -6,3 +6,4 @@ pub mod RenameLines
 pub mod RenameFiles
 pub mod RenameLeads
 pub mod RenameLong
+pub mod RenameReadings

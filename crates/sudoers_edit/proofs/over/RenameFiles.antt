@@ -144,13 +144,13 @@ make_mapped l k name fresh old new policy sound = record {
 }
 
 -- The files with the new name are a policy.
-pub record IsRenamed (k : Kind) (name fresh : List ℕ) (policy new : Loaded) : Type 0 where
+pub record LoadsRenamed (k : Kind) (name fresh : List ℕ) (policy new : Loaded) : Type 0 where
   pub loaded : load_of (files_of policy) ≡ Ok policy
   pub is : load_of (files_changed (swaps k name fresh policy) policy.files) ≡ Ok new
   pub old_name : IsDefinableName name
   pub new_name : IsDefinableName fresh
 
-pub walk_is : Laws → (k : Kind) (name fresh : List ℕ) (policy new : Loaded) → IsRenamed k name fresh policy new
+pub walk_is : Laws → (k : Kind) (name fresh : List ℕ) (policy new : Loaded) → LoadsRenamed k name fresh policy new
     → (new.walk.lines ≡ renamed_lines k name fresh policy.walk.lines) × (new.walk.on ≡ policy.walk.on)
 walk_is l k name fresh policy new r =
     let sound : AreSound policy.files = sound_of l policy r.loaded in
@@ -185,7 +185,7 @@ back_from m k name fresh w (old ∷ olds) (new ∷ news) names back =
     by false same is = named new.name (texts new.lines) same is
 
 -- the lines of a file, with the old name given back if the file is on the walk, are those before
-back_in_file : Laws → (k : Kind) (name fresh : List ℕ) (policy new : Loaded) → IsRenamed k name fresh policy new
+back_in_file : Laws → (k : Kind) (name fresh : List ℕ) (policy new : Loaded) → LoadsRenamed k name fresh policy new
     → AllByRecursion (IsWithout k fresh) policy.walk.lines → (f : ℕ) → (on : Bool) → is_on policy.walk f ≡ on
     → (if on then renamed k fresh name (lines_of new.files f) else texts (lines_of new.files f)) ≡ texts (lines_of policy.files f)
 back_in_file l k name fresh policy new r without f true on =
@@ -204,7 +204,7 @@ back_in_file l k name fresh policy new r without f false off =
     can_be_made l k name fresh r.old_name r.new_name policy (sound_of l policy r.loaded) in
     l.after (swaps k name fresh policy) policy new r.loaded can r.is f ∙ off_walk l k name fresh policy f off
 
-pub files_back : Laws → (k : Kind) (name fresh : List ℕ) (policy new : Loaded) → IsRenamed k name fresh policy new
+pub files_back : Laws → (k : Kind) (name fresh : List ℕ) (policy new : Loaded) → LoadsRenamed k name fresh policy new
     → AllByRecursion (IsWithout k fresh) policy.walk.lines → renamed_files k fresh name new ≡ files_of policy
 files_back l k name fresh policy new r without =
     back_from 0 k name fresh new.walk policy.files new.files (l.names (swaps k name fresh policy) policy new r.is) (λ i f is.

@@ -25,7 +25,7 @@ use Rattle.sudoers_edit.specs.files.Landing.{by_load, policy_or_refusal}
 use Rattle.sudoers_edit.specs.files.Renaming.{rename, renamed_files}
 use Rattle.sudoers_edit.specs.internal.FileLeading.{Leads, swaps_from}
 use Rattle.sudoers_edit.proofs.RenamedPolicy.{walk_definable}
-use Rattle.sudoers_edit.proofs.over.RenameFiles.{IsRenamed, can_be_made, files_are, files_back, swaps, walk_is}
+use Rattle.sudoers_edit.proofs.over.RenameFiles.{LoadsRenamed, can_be_made, files_are, files_back, swaps, walk_is}
 use Rattle.sudoers_edit.proofs.over.RenameLaws.{Laws, sound_of, walk_short}
 use Rattle.sudoers_edit.proofs.over.RenameLines.{Back, Fresh, back_in}
 
@@ -56,7 +56,7 @@ back_is l k name fresh policy new f told =
     let lines : List Line = policy.walk.lines in
     let b : Back k name fresh lines (renamed_lines k name fresh lines) =
     back_in l.lines k name fresh lines (record { walk = l.walk (files_of policy) policy f.loaded; some = f.some; new = f.new; free = f.free }) in
-    let r : IsRenamed k name fresh policy new = record { loaded = f.loaded; is = told; old_name = b.old; new_name = f.new } in
+    let r : LoadsRenamed k name fresh policy new = record { loaded = f.loaded; is = told; old_name = b.old; new_name = f.new } in
     let now : new.walk.lines ≡ renamed_lines k name fresh lines = (walk_is l k name fresh policy new r).0 in
     let short : list_any is_too_long (texts lines) ≡ false =
     walk_short l.lines policy.files (sound_of l policy f.loaded) policy.walk.spots lines (l.stand (files_of policy) policy f.loaded) in

@@ -125,7 +125,7 @@ files_unchanged none f (file ∷ files) =
     ap₂ (λ (ls : List (List ℕ)) (rest : List NamedFile). (let first : NamedFile = record { name = file.name; bytes = join ls } in first) ∷ rest)
     (none 0 (texts file.lines)) (files_unchanged none (f + 1) files)
 
-walk_kept : Laws → (policy : Loaded) → load_of (files_of policy) ≡ Ok policy
+pub walk_kept : Laws → (policy : Loaded) → load_of (files_of policy) ≡ Ok policy
     → policy.walk.lines ≡ mapped_at (keep_on policy.walk) policy.walk.spots policy.walk.lines
 walk_kept l policy loaded =
     let sound : AreSound policy.files = sound_of l policy loaded in
@@ -156,7 +156,7 @@ all_at P (first ∷ lines) zero line all at =
 all_at P (first ∷ lines) (suc n) line all at = all_at P lines n line all.1 at
 
 -- what is so of all lines of the files on the walk is so of all lines of the walk
-all_of_walk : (P : Line → Type 0) (files : List FileReading) (w : Walked) → ((f : ℕ) → is_on w f ≡ true → AllByRecursion P (lines_of files f))
+pub all_of_walk : (P : Line → Type 0) (files : List FileReading) (w : Walked) → ((f : ℕ) → is_on w f ≡ true → AllByRecursion P (lines_of files f))
     → (spots : List Spot) (lines : List Line) → StandAt files spots lines → length lines ≤ length (mapped_at (keep_on w) spots lines) → AllByRecursion P lines
 all_of_walk P files w each [] [] stand full = tt
 all_of_walk P files w each [] (line ∷ lines) stand full = absurd stand
@@ -172,17 +172,17 @@ all_of_walk P files w each (at ∷ spots) (line ∷ lines) stand full =
 
 -- BOTH
 
-abbrev IsShort : Kind → List ℕ → List ℕ → Line → Type 0
+abbrev pub IsShort : Kind → List ℕ → List ℕ → Line → Type 0
 IsShort k name fresh line = is_too_long (renamed_line k name fresh line) ≡ false
 
-all_short : (k : Kind) (name fresh : List ℕ) (lines : List Line) → list_any is_too_long (renamed k name fresh lines) ≡ false
+pub all_short : (k : Kind) (name fresh : List ℕ) (lines : List Line) → list_any is_too_long (renamed k name fresh lines) ≡ false
     → AllByRecursion (IsShort k name fresh) lines
 all_short k name fresh [] short = tt
 all_short k name fresh (line ∷ lines) short =
     let p = or_false (is_too_long (renamed_line k name fresh line)) (list_any is_too_long (renamed k name fresh lines)) short in
     (p.0, all_short k name fresh lines p.1)
 
-none_long : (k : Kind) (name fresh : List ℕ) (lines : List Line) → AllByRecursion (IsShort k name fresh) lines
+pub none_long : (k : Kind) (name fresh : List ℕ) (lines : List Line) → AllByRecursion (IsShort k name fresh) lines
     → list_any is_too_long (renamed k name fresh lines) ≡ false
 none_long k name fresh [] all = refl
 none_long k name fresh (line ∷ lines) all = ap₂ (λ (a b : Bool). a || b) all.0 (none_long k name fresh lines all.1)
