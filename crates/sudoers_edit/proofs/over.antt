@@ -7,3 +7,4 @@ pub mod RenameFiles
 pub mod RenameLeads
 pub mod RenameLong
 pub mod RenameReadings
+pub mod RenameSizes
