@@ -8,3 +8,4 @@ pub mod RenameLeads
 pub mod RenameLong
 pub mod RenameReadings
 pub mod RenameSizes
+pub mod RenameOutcomes
