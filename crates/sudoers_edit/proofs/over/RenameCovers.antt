@@ -1,6 +1,6 @@
 -- The lines of the files on a walk are lines of the walk: what is so of all these is so of those.
-use Rattle.std.proofs.Common.{◌≡◌, ◌∙◌, ◌⊎◌, inl, inr, ℕ, ◌+◌, nat_eq, Bool, true, false, ◌||◌, List, [], ◌∷◌, ◌++◌, length, Option, Some, None, Result, Ok, Err, refl, sym, ap, subst}
-use Rattle.std.specs.List.{AllByRecursion, list_any}
+use Rattle.std.proofs.Common.{◌≡◌, ◌∙◌, ◌⊎◌, inl, inr, ℕ, nat_eq, Bool, true, false, ◌||◌, List, [], ◌∷◌, ◌++◌, length, Option, Some, None, Result, Ok, Err, refl, sym, subst}
+use Rattle.std.specs.List.{AllByRecursion}
 use Rattle.std.proofs.lemmas.Bool.{eqb-true}
 use Rattle.std.proofs.lemmas.List.Folds.{list_any-append}
 use Rattle.sudoers_tree.specs.declared.fault.ReadFault.{ReadFault}
@@ -10,7 +10,7 @@ use Rattle.sudoers_tree.specs.Line.{Line}
 use Rattle.sudoers_tree.specs.Definition.{definitions, definitions_in}
 use Rattle.sudoers_tree.specs.Reading.{first_name_fault}
 use Rattle.sudoers_tree.specs.Files.{FileReading, lines_of, name_of}
-use Rattle.sudoers_tree.specs.Walk.{Site, Walked, depth_limit, enter, is_on, nothing, spot_of, taken, unless_in, walk_of}
+use Rattle.sudoers_tree.specs.Walk.{Site, Walked, enter, is_on, nothing, spot_of, taken, unless_in, walk_of}
 use Rattle.sudoers_tree.specs.Goes.{Goes, Enters, IsWalkOf, end, broken, wrong, shut, stops, onward, none, again, deep, inside, more}
 
 -- Where all lines of the walk `now` have the property, so have those of the walk w, and those of each file that is on `now` and not on w.

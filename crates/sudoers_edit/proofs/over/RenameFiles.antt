@@ -1,5 +1,5 @@
 -- The files of a policy in which an alias has another name: the walk over them, and the name given back.
-use Rattle.std.proofs.Common.{◌≡◌, ◌∙◌, ℕ, zero, suc, ◌+◌, nat_eq, Bool, true, false, List, [], ◌∷◌, ◌++◌, length, map, Ok, refl, sym, ap, ap₂, subst, arith, if◌then◌else◌}
+use Rattle.std.proofs.Common.{◌≡◌, ◌∙◌, ℕ, suc, ◌+◌, nat_eq, Bool, true, false, List, [], ◌∷◌, length, map, Ok, refl, sym, ap, ap₂, subst, arith, if◌then◌else◌}
 use Rattle.std.specs.List.{AllByRecursion, list_any}
 use Rattle.sudoers_text.specs.Ended.{has_unended_inside}
 use Rattle.sudoers_text.specs.Line.{join}
@@ -28,9 +28,9 @@ use Rattle.sudoers_edit.proofs.NameFree.{IsWithout}
 use Rattle.sudoers_edit.proofs.RenamedPolicy.{says_renamed}
 use Rattle.sudoers_edit.proofs.RenamedTexts.{renamed_texts}
 use Rattle.sudoers_edit.proofs.over.RenameCovers.{lines_on_walk}
-use Rattle.sudoers_edit.proofs.over.RenameLaws.{Laws, LineLaws, AreSound, sound_of}
+use Rattle.sudoers_edit.proofs.over.RenameLaws.{Laws, AreSound, sound_of}
 use Rattle.sudoers_edit.proofs.over.RenameLines.{bring_from, ended_renamed, given_back}
-use Rattle.sudoers_edit.proofs.over.RenameSwaps.{NoneLaw, FirstLaw, go_by_files, lines_after, order_after}
+use Rattle.sudoers_edit.proofs.over.RenameSwaps.{go_by_files, lines_after, order_after}
 
 -- THE CHANGES
 

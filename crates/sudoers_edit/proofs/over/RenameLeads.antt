@@ -1,7 +1,7 @@
 -- Where a rename over the files of a policy leads, and that one rename leads back.
-use Rattle.std.proofs.Common.{◌≡◌, ◌∙◌, ℕ, Bool, true, false, not, ◌||◌, List, [], ◌∷◌, ◌++◌, Some, Ok, Err, refl, sym, ap, ap₂, subst}
-use Rattle.std.specs.List.{AllByRecursion, list_any}
-use Rattle.std.specs.Prelude.{Option, Result, option_and_then}
+use Rattle.std.proofs.Common.{◌≡◌, ◌∙◌, ℕ, Bool, true, false, not, ◌||◌, List, [], ◌∷◌, Some, Ok, Err, refl, sym, ap, ap₂, subst}
+use Rattle.std.specs.List.{list_any}
+use Rattle.std.specs.Prelude.{Result, option_and_then}
 use Rattle.std.specs.Result.{result_ok}
 use Rattle.sudoers_text.specs.Renamed.{IsDefinableName}
 use Rattle.sudoers_text.specs.Word.{is_name, is_reserved}
@@ -27,7 +27,7 @@ use Rattle.sudoers_edit.specs.internal.FileLeading.{Leads, swaps_from}
 use Rattle.sudoers_edit.proofs.RenamedPolicy.{walk_definable}
 use Rattle.sudoers_edit.proofs.over.RenameFiles.{LoadsRenamed, can_be_made, files_are, files_back, swaps, walk_is}
 use Rattle.sudoers_edit.proofs.over.RenameLaws.{Laws, sound_of, walk_short}
-use Rattle.sudoers_edit.proofs.over.RenameLines.{Back, Fresh, back_in}
+use Rattle.sudoers_edit.proofs.over.RenameLines.{Back, back_in}
 
 -- The alias is defined on the walk of a policy, and the new name is free there.
 pub record IsFresh (k : Kind) (name fresh : List ℕ) (policy : Loaded) : Type 0 where

@@ -8,7 +8,7 @@ use Rattle.sudoers_text.specs.Ended.{has_unended_inside}
 use Rattle.sudoers_text.specs.Fault.{line_limit}
 use Rattle.sudoers_text.specs.Line.{join}
 use Rattle.sudoers_line.specs.declared.node.Kind.{Kind}
-use Rattle.sudoers_tree.specs.Changed.{brought, changed}
+use Rattle.sudoers_tree.specs.Changed.{brought}
 use Rattle.sudoers_tree.specs.ChangedFiles.{files_changed_from}
 use Rattle.sudoers_tree.specs.Files.{FileReading, lines_of, name_of}
 use Rattle.sudoers_tree.specs.Line.{Line}

@@ -6,9 +6,8 @@ use Rattle.sudoers_line.specs.declared.node.Kind.{Kind}
 use Rattle.sudoers_tree.specs.Files.{FileReading, fault_of, lines_of}
 use Rattle.sudoers_tree.specs.Load.{file_of}
 use Rattle.sudoers_tree.specs.Mapped.{file_names}
-use Rattle.sudoers_tree.specs.Policy.{SaysSo, texts}
+use Rattle.sudoers_tree.specs.Policy.{SaysSo}
 use Rattle.sudoers_tree.specs.Walk.{Walked, is_on}
-use Rattle.sudoers_tree.specs.declared.fault.SyntaxFault.{SyntaxFault}
 use Rattle.sudoers_tree.specs.declared.load.NamedFile.{NamedFile}
 use Rattle.sudoers_edit.specs.Renamed.{renamed_lines}
 use Rattle.sudoers_edit.specs.Renaming.{renamed}

@@ -1,5 +1,5 @@
 -- The files to which a rename leads are a policy, unless one is too large.
-use Rattle.std.proofs.Common.{◌≡◌, ◌∙◌, ◌⊎◌, inl, inr, ℕ, zero, suc, ◌+◌, ◌≤◌, Bool, true, false, List, [], ◌∷◌, ◌++◌, length, map, nat_lt, Option, Some, None, Result, Ok, Err, refl, sym, ap, subst, arith, if◌then◌else◌}
+use Rattle.std.proofs.Common.{◌≡◌, ◌∙◌, ◌⊎◌, inl, inr, ℕ, zero, suc, ◌+◌, ◌≤◌, Bool, true, false, List, [], ◌∷◌, ◌++◌, length, map, nat_lt, None, Result, Ok, Err, refl, sym, ap, subst, arith, if◌then◌else◌}
 use Rattle.std.proofs.lemmas.Bool.{ltb-false, or_parts as or_false}
 use Rattle.std.specs.List.{AllByRecursion, list_any}
 use Rattle.sudoers_text.specs.Cut.{StandAlone, cut_of}
@@ -29,12 +29,12 @@ use Rattle.sudoers_tree.proofs.SameNames.{same_count, same_repeated}
 use Rattle.sudoers_edit.specs.Landing.{is_too_long}
 use Rattle.sudoers_edit.specs.Renamed.{alias_of, renamed_line, renamed_lines}
 use Rattle.sudoers_edit.specs.Renaming.{renamed}
-use Rattle.sudoers_edit.specs.files.Renamed.{IsRenamed, readings_from, renamed_readings}
+use Rattle.sudoers_edit.specs.files.Renamed.{IsRenamed, renamed_readings}
 use Rattle.sudoers_edit.specs.files.Renaming.{renamed_files, renamed_from}
-use Rattle.sudoers_edit.proofs.RenamedPolicy.{says_renamed, walk_renamed}
+use Rattle.sudoers_edit.proofs.RenamedPolicy.{says_renamed}
 use Rattle.sudoers_edit.proofs.RenamedTexts.{renamed_texts}
 use Rattle.sudoers_edit.proofs.over.RenameFiles.{keep_leads, mapped_in, mapped_walk, mapping}
-use Rattle.sudoers_edit.proofs.over.RenameLaws.{AreSound, Laws, LineLaws, sound_of}
+use Rattle.sudoers_edit.proofs.over.RenameLaws.{AreSound, Laws, sound_of}
 use Rattle.sudoers_edit.proofs.over.RenameLines.{ended_renamed}
 use Rattle.sudoers_edit.proofs.over.RenameReadings.{faults_same, files_of_readings, lines_on, names_same, stay_off}
 

@@ -30,8 +30,8 @@ use sudoers_text::laws::{
 use sudoers_text::{LINE_LIMIT, is_name, is_reserved};
 use sudoers_tree::laws::{
     changed_by_first, changed_files_have_lines, changed_walk_is_mapped, loaded_files_are,
-    loaded_files_are_cut, loaded_is_walk, loaded_lines_are_said, loaded_lines_stand, loaded_walk_is,
-    mapped_files_load, texts_tell_lines, walk_is,
+    loaded_files_are_cut, loaded_is_walk, loaded_lines_are_said, loaded_lines_stand,
+    loaded_walk_is, mapped_files_load, texts_tell_lines, walk_is,
 };
 use sudoers_tree::{Kind, Line, LineChange, LineRow, Policy, Rows, Walk};
 
@@ -173,7 +173,10 @@ fn append_swaps_of(
 }
 
 /// Adds a change, if there is one.
-fn append_option(change: Option<LineChange>, changes: &mut Vec<LineChange>) -> Result<(), AllocError>
+fn append_option(
+    change: Option<LineChange>,
+    changes: &mut Vec<LineChange>,
+) -> Result<(), AllocError>
     ensures { OnOk result (changes.new.items ≡ changes.old.items ++ option_to_list change) }
 {
     if let Some(change) = change {
