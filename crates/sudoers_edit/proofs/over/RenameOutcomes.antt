@@ -27,7 +27,7 @@ use Rattle.sudoers_edit.proofs.RenamedPolicy.{walk_definable, walk_renamed}
 use Rattle.sudoers_edit.proofs.RenamedTexts.{renamed_texts}
 use Rattle.sudoers_edit.proofs.over.RenameCovers.{lines_on_walk}
 use Rattle.sudoers_edit.proofs.over.RenameFiles.{files_are}
-use Rattle.sudoers_edit.proofs.over.RenameLaws.{AreSound, sound_of}
+use Rattle.sudoers_edit.proofs.over.RenameLaws.{sound_of}
 use Rattle.sudoers_edit.proofs.over.RenameLeads.{IsFresh, back_is, definable, made, too_long}
 use Rattle.sudoers_edit.proofs.over.RenameLong.{IsShort, all_of_walk, all_short, none_long, walk_kept}
 use Rattle.sudoers_edit.proofs.over.RenameSizes.{CanBeRenamed, IsLarge, Loads, SizeLaws, fit_loads, loads_or_large}
@@ -35,12 +35,16 @@ use Rattle.sudoers_edit.proofs.over.RenameSizes.{CanBeRenamed, IsLarge, Loads, S
 good : (fresh : List ℕ) → IsDefinableName fresh → (not (is_name fresh) || is_reserved fresh) ≡ false
 good fresh new = ap₂ (λ (a b : Bool). not a || b) new.0 new.1
 
-names_stand : SizeLaws → (k : Kind) (name fresh : List ℕ) (policy : Loaded) → IsFresh k name fresh policy → IsWalk (renamed_lines k name fresh policy.walk.lines)
-names_stand l k name fresh policy f =
-    let lines : List Line = policy.walk.lines in
-    let walk : IsWalk lines = l.base.walk (files_of policy) policy f.loaded in
-    walk_renamed l.base.lines.same k name fresh lines walk (walk_definable k name lines walk f.some) f.new
-    (or_false (is_some (place_of k fresh lines)) (nat_lt 0 (length (mentions k fresh lines))) f.free).0
+-- The names of the alias stand in the lines of the walk, where the new one is not defined.
+names_stand : SizeLaws → (k : Kind) (name fresh : List ℕ) (policy : Loaded) → load_of (files_of policy) ≡ Ok policy
+    → is_some (place_of k name policy.walk.lines) ≡ true → IsDefinableName fresh → is_some (place_of k fresh policy.walk.lines) ≡ false
+    → IsWalk (renamed_lines k name fresh policy.walk.lines)
+names_stand l k name fresh policy loaded some new free =
+    let walk : IsWalk policy.walk.lines = l.base.walk (files_of policy) policy loaded in
+    walk_renamed l.base.lines.same k name fresh policy.walk.lines walk (walk_definable k name policy.walk.lines walk some) new free
+
+undefined : (k : Kind) (fresh : List ℕ) (lines : List Line) → is_taken k fresh lines ≡ false → is_some (place_of k fresh lines) ≡ false
+undefined k fresh lines free = (or_false (is_some (place_of k fresh lines)) (nat_lt 0 (length (mentions k fresh lines))) free).0
 
 -- where no line of the walk is too long, none of the files on it is
 can_be_renamed : SizeLaws → (k : Kind) (name fresh : List ℕ) (policy : Loaded) → IsFresh k name fresh policy
@@ -49,7 +53,7 @@ can_be_renamed l k name fresh policy f short = record {
   loaded = f.loaded;
   old = walk_definable k name policy.walk.lines (l.base.walk (files_of policy) policy f.loaded) f.some;
   new = f.new;
-  names = names_stand l k name fresh policy f;
+  names = names_stand l k name fresh policy f.loaded f.some f.new (undefined k fresh policy.walk.lines f.free);
   short = λ n on.
       none_long k name fresh (lines_of policy.files n)
       (lines_on_walk (IsShort k name fresh) policy.files policy.walk (l.base.goes policy.files) (l.base.walked (files_of policy) policy f.loaded)
@@ -94,26 +98,39 @@ short_of : (lines : List (List ℕ)) → AllByRecursion (λ (line : List ℕ). l
 short_of [] all = refl
 short_of (line ∷ lines) all = ap₂ (λ (a b : Bool). a || b) (le-ltb line_limit (length line) all.0) (short_of lines all.1)
 
+files_short : SizeLaws → (k : Kind) (name fresh : List ℕ) (policy : Loaded) → load_of (files_of policy) ≡ Ok policy → FilesAreWithin k name fresh policy
+    → (n : ℕ) → is_on policy.walk n ≡ true → list_any is_too_long (renamed k name fresh (lines_of policy.files n)) ≡ false
+files_short l k name fresh policy loaded within n on =
+    ap (list_any is_too_long) (renamed_texts l.base.lines.ascend k name fresh (lines_of policy.files n) ((sound_of l.base policy loaded).says n))
+    ∙ short_of (texts (renamed_lines k name fresh (lines_of policy.files n))) (within n on).0
+
+-- The files with a name that was not defined before are a policy.
+pub renamed_is_one : SizeLaws → (k : Kind) (name fresh : List ℕ) (policy : Loaded) → load_of (files_of policy) ≡ Ok policy
+    → is_some (place_of k name policy.walk.lines) ≡ true → IsDefinableName fresh → is_some (place_of k fresh policy.walk.lines) ≡ false
+    → FilesAreWithin k name fresh policy → Loads k name fresh policy
+renamed_is_one l k name fresh policy loaded some new free within =
+    fit_loads l k name fresh policy (record {
+      loaded = loaded;
+      old = walk_definable k name policy.walk.lines (l.base.walk (files_of policy) policy loaded) some;
+      new = new;
+      names = names_stand l k name fresh policy loaded some new free;
+      short = files_short l k name fresh policy loaded within;
+    }) (λ i n is on.
+    let same : n ≡ i = omega (arith, is) in
+    (within i (ap (λ (m : ℕ). is_on policy.walk m) (sym same) ∙ on)).1)
+
 pub renames_within : SizeLaws → (k : Kind) (name fresh : List ℕ) (policy : Loaded) → IsFresh k name fresh policy → FilesAreWithin k name fresh policy
     → (new : Loaded) × (rename k name fresh policy ≡ Ok new) × IsRenamed k name fresh policy new
 renames_within l k name fresh policy f within =
     let loads : Loads k name fresh policy =
-    fit_loads l k name fresh policy (can_be_renamed l k name fresh policy f short) (λ i n is on.
-    let same : n ≡ i = omega (arith, is) in
-    (within i (ap (λ (m : ℕ). is_on policy.walk m) (sym same) ∙ on)).1) in
+    renamed_is_one l k name fresh policy f.loaded f.some f.new (undefined k fresh policy.walk.lines f.free) within in
     (loads.new, made k name fresh policy f.some f.new f.free short ∙ ap by_load loads.is, loads.renamed_is)
   where
-    sound : AreSound policy.files
-    sound = sound_of l.base policy f.loaded
-
     short : list_any is_too_long (renamed k name fresh policy.walk.lines) ≡ false
     short =
         none_long k name fresh policy.walk.lines
         (all_of_walk (IsShort k name fresh) policy.files policy.walk
-        (λ n on.
-        all_short k name fresh (lines_of policy.files n)
-        (ap (list_any is_too_long) (renamed_texts l.base.lines.ascend k name fresh (lines_of policy.files n) (sound.says n))
-        ∙ short_of (texts (renamed_lines k name fresh (lines_of policy.files n))) (within n on).0))
+        (λ n on. all_short k name fresh (lines_of policy.files n) (files_short l k name fresh policy f.loaded within n on))
         policy.walk.spots policy.walk.lines (l.base.stand (files_of policy) policy f.loaded)
         (omega (arith, ap (λ (ls : List Line). length ls) (walk_kept l.base policy f.loaded))))
 

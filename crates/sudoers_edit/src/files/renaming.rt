@@ -16,6 +16,7 @@ ghost use Rattle.sudoers_edit.specs.Renaming.{put_at, renamed, starts_in, is_tak
 ghost use Rattle.sudoers_edit.specs.declared.fault.EditFault.{EditFault as AFault};
 ghost use Rattle.sudoers_edit.specs.files.Editing.{step as step_of};
 ghost use Rattle.sudoers_edit.specs.files.Renamed.{FilesAreWithin, IsRenamed};
+ghost use Rattle.sudoers_edit.specs.files.Renaming.{renamed_files};
 ghost use Rattle.sudoers_edit.specs.internal.FileLeading.{Leads, Plans, swap_in, swaps_of_file, swaps_from};
 
 use crate::fault::EditFault;
@@ -258,6 +259,35 @@ fn is_one_too_long(changes: &[LineChange]) -> bool
         }
     }
     false
+}
+
+/// A law: a policy with another name for an alias that it defines is a policy, while lines and files are within the limits. The new name may
+/// define an alias, and defines none of the kind yet.
+pub fn renamed_policy_is_one()
+    ensures { (kind : KindOf) (name fresh : List ℕ) (policy : Loaded) → load_of (files_of policy) ≡ Ok policy
+        → is_some (place_of kind name policy.walk.lines) ≡ true → IsDefinableName fresh → is_some (place_of kind fresh policy.walk.lines) ≡ false
+        → FilesAreWithin kind name fresh policy
+        → (new : Loaded) × (load_of (renamed_files kind name fresh policy) ≡ Ok new) × IsRenamed kind name fresh policy new }
+{
+    loaded_is_walk();
+    loaded_lines_stand();
+    loaded_files_are();
+    loaded_files_are_cut();
+    loaded_lines_are_said();
+    loaded_walk_is();
+    walk_is();
+    texts_tell_lines();
+    changed_files_have_lines();
+    changed_walk_is_mapped();
+    mapped_files_load();
+    changed_by_first();
+    lines_of_join();
+    lines_stand_alone();
+    line_alone_size();
+    line_alone_is_whole();
+    whole_line_is();
+    names_stand();
+    renamed_line();
 }
 
 /// A law: a rename of a defined alias is refused for its size alone: a line of the walk or a file on it would be too long. The new name may
