@@ -1,4 +1,3 @@
-pub mod over
 mod AlikeLemmas
 mod ChangedLemmas
 mod BackLemmas

@@ -1,6 +1,6 @@
-use Rattle.sudoers_edit.proofs.over.RenameLaws.{Laws}
-use Rattle.sudoers_edit.proofs.over.RenameLeads.{rename_leads}
-use Rattle.sudoers_edit.proofs.over.RenameLong.{long_same}
+use Rattle.sudoers_edit.proofs.files.RenameLaws.{Laws}
+use Rattle.sudoers_edit.proofs.files.RenameLeads.{rename_leads}
+use Rattle.sudoers_edit.proofs.files.RenameLong.{long_same}
 use Rattle.sudoers_edit.proofs.files.renaming.renames_lead.Goals as goal
 
 laws : goal.After-renamed_line → Laws

@@ -25,12 +25,12 @@ use Rattle.sudoers_edit.specs.files.Renamed.{FilesAreWithin, IsRenamed}
 use Rattle.sudoers_edit.specs.files.Renaming.{rename, renamed_files}
 use Rattle.sudoers_edit.proofs.RenamedPolicy.{walk_definable, walk_renamed}
 use Rattle.sudoers_edit.proofs.RenamedTexts.{renamed_texts}
-use Rattle.sudoers_edit.proofs.over.RenameCovers.{lines_on_walk}
-use Rattle.sudoers_edit.proofs.over.RenameFiles.{files_are}
-use Rattle.sudoers_edit.proofs.over.RenameLaws.{sound_of}
-use Rattle.sudoers_edit.proofs.over.RenameLeads.{IsFresh, back_is, definable, made, too_long}
-use Rattle.sudoers_edit.proofs.over.RenameLong.{IsShort, all_of_walk, all_short, none_long, walk_kept}
-use Rattle.sudoers_edit.proofs.over.RenameSizes.{CanBeRenamed, IsLarge, Loads, SizeLaws, fit_loads, loads_or_large}
+use Rattle.sudoers_edit.proofs.files.RenameCovers.{lines_on_walk}
+use Rattle.sudoers_edit.proofs.files.RenameFiles.{files_are}
+use Rattle.sudoers_edit.proofs.files.RenameLaws.{sound_of}
+use Rattle.sudoers_edit.proofs.files.RenameLeads.{IsFresh, back_is, definable, made, too_long}
+use Rattle.sudoers_edit.proofs.files.RenameLong.{IsShort, all_of_walk, all_short, none_long, walk_kept}
+use Rattle.sudoers_edit.proofs.files.RenameSizes.{CanBeRenamed, IsLarge, Loads, SizeLaws, fit_loads, loads_or_large}
 
 good : (fresh : List ℕ) → IsDefinableName fresh → (not (is_name fresh) || is_reserved fresh) ≡ false
 good fresh new = ap₂ (λ (a b : Bool). not a || b) new.0 new.1

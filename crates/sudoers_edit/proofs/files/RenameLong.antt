@@ -22,9 +22,9 @@ use Rattle.sudoers_tree.specs.declared.place.Spot.{Spot}
 use Rattle.sudoers_edit.specs.Landing.{is_too_long}
 use Rattle.sudoers_edit.specs.Renaming.{put_at, renamed, renamed_line, starts_in}
 use Rattle.sudoers_edit.specs.internal.FileLeading.{swap_in, swaps_of_file, swaps_from}
-use Rattle.sudoers_edit.proofs.over.RenameCovers.{lines_on_walk}
-use Rattle.sudoers_edit.proofs.over.RenameLaws.{Laws, LineLaws, AreSound, sound_of}
-use Rattle.sudoers_edit.proofs.over.RenameSwaps.{NoneLaw}
+use Rattle.sudoers_edit.proofs.files.RenameCovers.{lines_on_walk}
+use Rattle.sudoers_edit.proofs.files.RenameLaws.{Laws, LineLaws, AreSound, sound_of}
+use Rattle.sudoers_edit.proofs.files.RenameSwaps.{NoneLaw}
 
 -- WHAT THE CHANGES OF FILES BRING
 

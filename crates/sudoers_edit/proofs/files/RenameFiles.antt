@@ -27,10 +27,10 @@ use Rattle.sudoers_edit.specs.internal.FileLeading.{swaps_from}
 use Rattle.sudoers_edit.proofs.NameFree.{IsWithout}
 use Rattle.sudoers_edit.proofs.RenamedPolicy.{says_renamed}
 use Rattle.sudoers_edit.proofs.RenamedTexts.{renamed_texts}
-use Rattle.sudoers_edit.proofs.over.RenameCovers.{lines_on_walk}
-use Rattle.sudoers_edit.proofs.over.RenameLaws.{Laws, AreSound, sound_of}
-use Rattle.sudoers_edit.proofs.over.RenameLines.{bring_from, ended_renamed, given_back}
-use Rattle.sudoers_edit.proofs.over.RenameSwaps.{go_by_files, lines_after, order_after}
+use Rattle.sudoers_edit.proofs.files.RenameCovers.{lines_on_walk}
+use Rattle.sudoers_edit.proofs.files.RenameLaws.{Laws, AreSound, sound_of}
+use Rattle.sudoers_edit.proofs.files.RenameLines.{bring_from, ended_renamed, given_back}
+use Rattle.sudoers_edit.proofs.files.RenameSwaps.{go_by_files, lines_after, order_after}
 
 -- THE CHANGES
 

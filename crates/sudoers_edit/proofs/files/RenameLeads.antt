@@ -25,9 +25,9 @@ use Rattle.sudoers_edit.specs.files.Landing.{by_load, policy_or_refusal}
 use Rattle.sudoers_edit.specs.files.Renaming.{rename, renamed_files}
 use Rattle.sudoers_edit.specs.internal.FileLeading.{Leads, swaps_from}
 use Rattle.sudoers_edit.proofs.RenamedPolicy.{walk_definable}
-use Rattle.sudoers_edit.proofs.over.RenameFiles.{LoadsRenamed, can_be_made, files_are, files_back, swaps, walk_is}
-use Rattle.sudoers_edit.proofs.over.RenameLaws.{Laws, sound_of, walk_short}
-use Rattle.sudoers_edit.proofs.over.RenameLines.{Back, back_in}
+use Rattle.sudoers_edit.proofs.files.RenameFiles.{LoadsRenamed, can_be_made, files_are, files_back, swaps, walk_is}
+use Rattle.sudoers_edit.proofs.files.RenameLaws.{Laws, sound_of, walk_short}
+use Rattle.sudoers_edit.proofs.files.RenameLines.{Back, back_in}
 
 -- The alias is defined on the walk of a policy, and the new name is free there.
 pub record IsFresh (k : Kind) (name fresh : List ℕ) (policy : Loaded) : Type 0 where

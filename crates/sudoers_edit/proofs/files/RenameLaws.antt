@@ -27,7 +27,7 @@ use Rattle.sudoers_tree.specs.declared.load.NamedFile.{NamedFile}
 use Rattle.sudoers_tree.specs.declared.place.Spot.{Spot}
 use Rattle.sudoers_edit.specs.Landing.{is_too_long}
 use Rattle.sudoers_edit.specs.OneLine.{IsAlone}
-use Rattle.sudoers_edit.proofs.over.RenameSwaps.{NoneLaw, FirstLaw}
+use Rattle.sudoers_edit.proofs.files.RenameSwaps.{NoneLaw, FirstLaw}
 
 -- The laws of one line, and those of a line with another name.
 pub record LineLaws : Type 0 where

@@ -14,7 +14,7 @@ use Rattle.sudoers_edit.specs.Renaming.{renamed}
 use Rattle.sudoers_edit.specs.files.Renamed.{readings_from, renamed_reading}
 use Rattle.sudoers_edit.specs.files.Renaming.{renamed_from}
 use Rattle.sudoers_edit.proofs.RenamedTexts.{renamed_texts}
-use Rattle.sudoers_edit.proofs.over.RenameLaws.{LineLaws}
+use Rattle.sudoers_edit.proofs.files.RenameLaws.{LineLaws}
 
 -- a file, with the other name if it is on the walk
 abbrev if_on : Bool → Kind → List ℕ → List ℕ → FileReading → FileReading

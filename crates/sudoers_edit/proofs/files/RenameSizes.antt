@@ -33,10 +33,10 @@ use Rattle.sudoers_edit.specs.files.Renamed.{IsRenamed, renamed_readings}
 use Rattle.sudoers_edit.specs.files.Renaming.{renamed_files, renamed_from}
 use Rattle.sudoers_edit.proofs.RenamedPolicy.{says_renamed}
 use Rattle.sudoers_edit.proofs.RenamedTexts.{renamed_texts}
-use Rattle.sudoers_edit.proofs.over.RenameFiles.{keep_leads, mapped_in, mapped_walk, mapping}
-use Rattle.sudoers_edit.proofs.over.RenameLaws.{AreSound, Laws, sound_of}
-use Rattle.sudoers_edit.proofs.over.RenameLines.{ended_renamed}
-use Rattle.sudoers_edit.proofs.over.RenameReadings.{faults_same, files_of_readings, lines_on, names_same, stay_off}
+use Rattle.sudoers_edit.proofs.files.RenameFiles.{keep_leads, mapped_in, mapped_walk, mapping}
+use Rattle.sudoers_edit.proofs.files.RenameLaws.{AreSound, Laws, sound_of}
+use Rattle.sudoers_edit.proofs.files.RenameLines.{ended_renamed}
+use Rattle.sudoers_edit.proofs.files.RenameReadings.{faults_same, files_of_readings, lines_on, names_same, stay_off}
 
 -- The laws of texts and their sizes, and that of loading files of which lines were changed.
 pub record SizeLaws : Type 0 where

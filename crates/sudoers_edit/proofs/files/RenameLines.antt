@@ -33,7 +33,7 @@ use Rattle.sudoers_edit.proofs.RenamedNames.{AreRenamed, are_renamed}
 use Rattle.sudoers_edit.proofs.RenamedOnce.{lacks, lacked, unlike, fresh_placed, old_gone}
 use Rattle.sudoers_edit.proofs.RenamedPolicy.{says_renamed, walk_definable}
 use Rattle.sudoers_edit.proofs.RenamedTexts.{renamed_texts}
-use Rattle.sudoers_edit.proofs.over.RenameLaws.{LineLaws}
+use Rattle.sudoers_edit.proofs.files.RenameLaws.{LineLaws}
 
 -- ---- the texts
 
