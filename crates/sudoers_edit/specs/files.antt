@@ -3,5 +3,6 @@ pub mod Landing
 pub mod LineEdits
 pub mod SpliceEdits
 pub mod Renaming
+pub mod Renamed
 pub mod Pruning
 pub mod Editing

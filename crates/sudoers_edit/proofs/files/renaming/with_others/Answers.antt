@@ -1,0 +1,20 @@
+use Rattle.std.proofs.Common.{◌≡◌, ◌∙◌, ◌+◌, ◌-◌, ◌++◌, List, ℕ, take, drop, slice_index_or, ap, ap₂, sym, arith}
+use Rattle.std.proofs.lemmas.List.{drop_more}
+use Rattle.sudoers_edit.specs.Renaming.{put_at}
+use Rattle.sudoers_edit.proofs.RenameLemmas.{put_more}
+use Rattle.sudoers_edit.proofs.files.renaming.with_others.Goals as goal
+
+pub loop-start-preserved : goal.loop-start-preserved
+loop-start-preserved c =
+    let line : List ℕ = c.args.line.now in
+    let i : ℕ = c.loop-start.start-index in
+    let start : ℕ = slice_index_or c.args.starts.now i 0 in
+    let kept : c.front.result.now ≡ take (start - c.loop-start.from) (drop c.loop-start.from line) =
+    c.front.ensures ∙ ap₂ take c.saturating_sub.ensures c.behind.ensures in
+    let text : c.extend_from_slice-in-loop-start.new.self.items ≡ (c.loop-start.text.items ++ take (start - c.loop-start.from) (drop c.loop-start.from line)) ++ c.args.others.now =
+    c.in_ok-extend_from_slice-2.ensures.items
+    ∙ ap (λ z. z ++ c.args.others.now) (c.in_ok-extend_from_slice.ensures.items ∙ ap (λ z. c.loop-start.text.items ++ z) kept) in
+    put_more c.loop-start.text.items c.extend_from_slice-in-loop-start.new.self.items c.loop-start.from c.saturating_add-from.result start c.args.size 18446744073709551615
+    c.args.others.now (drop (i + 1) c.args.starts.now) line text c.saturating_add-from.ensures (omega arith)
+    ∙ ap (λ z. c.loop-start.text.items ++ put_at c.loop-start.from c.args.size c.args.others.now z line) (sym (drop_more c.args.starts.now i 0 c.loop-start-test.true))
+    ∙ c.loop-start.invariant
