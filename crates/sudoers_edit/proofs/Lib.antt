@@ -1,3 +1,4 @@
+pub mod files
 mod AlikeLemmas
 mod ChangedLemmas
 mod BackLemmas

@@ -6,13 +6,8 @@ pub mod LineEdits
 pub mod SpliceEdits
 pub mod Renaming
 pub mod Renamed
-pub mod Pruning
-pub mod Memory
 pub mod Editing
-pub mod Undoing
-pub mod Redoing
 pub mod Named
-pub mod WayBack
 pub mod Payload
 pub mod files
 pub mod internal

@@ -3,27 +3,13 @@ use Rattle.std.specs.Prelude.{ℕ, Bool, false, ◌&&◌, ◌==◌, nat_lt, if�
 use Rattle.std.specs.Option.{option_map}
 use Rattle.sudoers_text.specs.Ended.{ends_in_lf}
 use Rattle.sudoers_edit.specs.OneLine.{is_one_line}
-use Rattle.sudoers_edit.specs.Landing.{lines_or_refusal, is_too_long}
+use Rattle.sudoers_edit.specs.Landing.{is_too_long}
 use Rattle.sudoers_edit.specs.declared.fault.EditFault.{EditFault}
 use Rattle.sudoers_edit.specs.declared.fault.EditFault.TheVariants.{NoLine, NotOneLine, EndAsIs, TooLarge}
-
--- the lines with a text of one line before the line at a place
-abbrev pub with_line : ℕ → List ℕ → List (List ℕ) → Result (List (List ℕ)) EditFault
-with_line at text lines =
-    if nat_lt (length lines) at then Err NoLine
-    else (if is_one_line text then lines_or_refusal (insert lines at text) else Err NotOneLine)
-
--- the lines without the one at a place
-abbrev pub without_line : ℕ → List (List ℕ) → Result (List (List ℕ)) EditFault
-without_line at lines = if nat_lt at (length lines) then lines_or_refusal (remove lines at) else Err NoLine
 
 -- the lines with the line `from` taken out and put where it stands at `to`
 abbrev pub moved : ℕ → ℕ → List (List ℕ) → List (List ℕ)
 moved from to lines = insert (remove lines from) to (slice_index_or lines from [])
-
-abbrev pub with_move : ℕ → ℕ → List (List ℕ) → Result (List (List ℕ)) EditFault
-with_move from to lines =
-    if nat_lt from (length lines) && nat_lt to (length lines) then lines_or_refusal (moved from to lines) else Err NoLine
 
 -- the lines with another last line, where there is one and it can be changed
 abbrev pub with_last : (List ℕ → Option (List ℕ)) → List (List ℕ) → Option (List (List ℕ))
@@ -47,8 +33,3 @@ abbrev pub is_last_too_long : List (List ℕ) → Bool
 is_last_too_long [] = false
 is_last_too_long (line ∷ []) = is_too_long line
 is_last_too_long (line ∷ next ∷ lines) = is_last_too_long (next ∷ lines)
-
--- these lines, of which the last was changed, if they can be a policy's; else its end is as it should be
-abbrev pub ended_or_refusal : Option (List (List ℕ)) → Result (List (List ℕ)) EditFault
-ended_or_refusal None = Err EndAsIs
-ended_or_refusal (Some lines) = if is_last_too_long lines then Err TooLarge else lines_or_refusal lines

@@ -12,7 +12,7 @@ use Rattle.sudoers_tree.specs.declared.place.Span.{Span}
 use Rattle.sudoers_tree.specs.Definition.{is_kind, place_of}
 use Rattle.sudoers_tree.specs.Fault.{is_some}
 use Rattle.sudoers_tree.specs.Mention.{members_in, mentions, span_of}
-use Rattle.sudoers_edit.specs.Landing.{refuse_if, is_too_long, lines_or_refusal}
+use Rattle.sudoers_edit.specs.Landing.{is_too_long}
 use Rattle.sudoers_edit.specs.declared.fault.EditFault.{EditFault}
 use Rattle.sudoers_edit.specs.declared.fault.EditFault.TheVariants.{NoAlias, BadName, NameTaken, TooLarge}
 
@@ -59,12 +59,3 @@ renamed k name fresh policy = map (renamed_line k name fresh) policy
 
 abbrev pub is_taken : Kind → List ℕ → List Line → Bool
 is_taken k fresh policy = is_some (place_of k fresh policy) || nat_lt 0 (length (mentions k fresh policy))
-
--- the lines with another name for an alias, if they can be a policy's
-unfoldable pub rename : Kind → List ℕ → List ℕ → List Line → Result (List (List ℕ)) EditFault
-rename k name fresh policy =
-    refuse_if (not (is_some (place_of k name policy))) NoAlias (
-    refuse_if (not (is_name fresh) || is_reserved fresh) BadName (
-    refuse_if (is_taken k fresh policy) NameTaken (
-    refuse_if (list_any is_too_long (renamed k name fresh policy)) TooLarge (
-    lines_or_refusal (renamed k name fresh policy)))))

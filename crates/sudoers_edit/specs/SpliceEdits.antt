@@ -9,7 +9,7 @@ use Rattle.sudoers_tree.specs.declared.place.Place.{Place}
 use Rattle.sudoers_tree.specs.Definition.{place_of}
 use Rattle.sudoers_tree.specs.Policy.{texts}
 use Rattle.sudoers_tree.specs.Single.{said}
-use Rattle.sudoers_edit.specs.Landing.{refuse_if, or_refuse, changed_or_refusal}
+use Rattle.sudoers_edit.specs.Landing.{refuse_if, or_refuse}
 use Rattle.sudoers_edit.specs.Splice.{Extent, member_extents, def_extents, seam, owned_stop, slice, line_without, line_with, is_member_more, is_def_more}
 use Rattle.sudoers_edit.specs.declared.one_more.Among.{Among}
 use Rattle.sudoers_edit.specs.declared.one_more.Among.TheVariants as among
@@ -29,26 +29,10 @@ place_to_drop at extents next =
     refuse_if (nat_le (length extents) at) NoPlace (refuse_if (length extents == 1) OnlyOne (
     or_refuse (seam at extents) BadSplice (λ from. or_refuse (owned_stop at extents) BadSplice (λ to. next from to))))
 
--- the policy's lines with another at this place, if that reads as it should
-abbrev pub if_spliced : Bool → ℕ → List ℕ → List Line → Result Lines EditFault
-if_spliced reads at line policy = refuse_if (not reads) BadSplice (changed_or_refusal at line (texts policy))
-
 -- Of two lines the first reads as the second but for one definition, or one member of a definition, more.
 abbrev pub is_one_more : Among → ℕ → ℕ → ℕ → Option Node → Option Node → Bool
 is_one_more among.Definitions at from to more less = is_def_more at from to more less
 is_one_more (among.Members def) at from to more less = is_member_more def at from to more less
-
--- one more put into the line `n`, at a byte
-abbrev pub put_in : Among → ℕ → ℕ → ℕ → List ℕ → Line → List Line → Result Lines EditFault
-put_in among at from n splice line policy =
-    if_spliced (is_one_more among at from (from + length splice) (said (line_with from splice line.text)) (Some line.node))
-    n (line_with from splice line.text) policy
-
--- one taken out of the line `n`, with these bytes
-abbrev pub cut_out : Among → ℕ → ℕ → ℕ → ℕ → Line → List Line → Result Lines EditFault
-cut_out among at from to n line policy =
-    if_spliced (is_one_more among at from to (Some line.node) (said (line_without from to line.text)))
-    n (line_without from to line.text) policy
 
 -- DEFINITIONS
 
@@ -65,16 +49,6 @@ defs_of (node.Spec users groups) = None
 abbrev pub with_defs : ℕ → List Line → (Line → List Def → Result Lines EditFault) → Result Lines EditFault
 with_defs n policy next = or_refuse (slice_get policy n) NoLine (λ line. or_refuse (defs_of line.node) NoAlias (next line))
 
--- the lines with a definition more in the line `n`
-unfoldable pub add_def : ℕ → ℕ → List ℕ → List Line → Result Lines EditFault
-add_def n at splice policy =
-    with_defs n policy (λ line defs. place_to_add at (def_extents defs) (λ from. put_in among.Definitions at from n splice line policy))
-
--- the lines without a definition of the line `n`
-unfoldable pub drop_def : ℕ → ℕ → List Line → Result Lines EditFault
-drop_def n at policy =
-    with_defs n policy (λ line defs. place_to_drop at (def_extents defs) (λ from to. cut_out among.Definitions at from to n line policy))
-
 -- MEMBERS
 
 -- the line and the definition at a place
@@ -82,18 +56,6 @@ abbrev pub with_def : Option Place → List Line → (Place → Line → Def →
 with_def place policy next =
     or_refuse place NoAlias (λ at. or_refuse (slice_get policy at.line) NoAlias (λ line.
     or_refuse (defs_of line.node) NoAlias (λ defs. or_refuse (slice_get defs at.def) NoAlias (λ d. next at line d))))
-
--- the lines with a member more in the list of an alias
-unfoldable pub add_member : Kind → List ℕ → ℕ → List ℕ → List Line → Result Lines EditFault
-add_member k name at splice policy =
-    with_def (place_of k name policy) policy (λ place line d.
-    place_to_add at (member_extents d.members) (λ from. put_in (among.Members place.def) at from place.line splice line policy))
-
--- the lines without a member of the list of an alias
-unfoldable pub drop_member : Kind → List ℕ → ℕ → List Line → Result Lines EditFault
-drop_member k name at policy =
-    with_def (place_of k name policy) policy (λ place line d.
-    place_to_drop at (member_extents d.members) (λ from to. cut_out (among.Members place.def) at from to place.line line policy))
 
 -- WHAT IS TAKEN OUT
 
@@ -104,9 +66,3 @@ owned at extents line = slice (unwrap_or (seam at extents) 0) (unwrap_or (owned_
 unfoldable pub owned_def : ℕ → ℕ → List Line → List ℕ
 owned_def n at policy =
     unwrap_or (option_and_then (λ (line : Line). option_map (λ defs. owned at (def_extents defs) line.text) (defs_of line.node)) (slice_get policy n)) []
-
-unfoldable pub owned_member : Kind → List ℕ → ℕ → List Line → List ℕ
-owned_member k name at policy =
-    unwrap_or (option_and_then (λ (place : Place). option_and_then (λ (line : Line). option_and_then (λ defs.
-    option_map (λ (d : Def). owned at (member_extents d.members) line.text) (slice_get defs place.def)) (defs_of line.node))
-    (slice_get policy place.line)) (place_of k name policy)) []

@@ -6,3 +6,7 @@ pub mod Renaming
 pub mod Renamed
 pub mod Pruning
 pub mod Editing
+pub mod Memory
+pub mod Undoing
+pub mod Redoing
+pub mod WayBack

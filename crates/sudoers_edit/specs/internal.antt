@@ -1,13 +1,7 @@
 -- Devices of the proofs. No contract of an exported function cites them.
-pub mod LastLine
 pub mod Leading
-pub mod Moving
-pub mod PruneOrder
-pub mod ReadFaults
-pub mod Swaps
-pub mod Undone
-pub mod Drafts
-pub mod Elsewhere
+pub mod UndoneLines
+pub mod FileUndone
 pub mod FileLeading
 pub mod FileSplicing
 pub mod LeadingInFile

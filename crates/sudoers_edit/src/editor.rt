@@ -1,7 +1,7 @@
 //! The editor: a policy, a journal of its edits, and the edits that were undone.
 ghost use Rattle.std.specs.Prelude.{◌≡◌, ◌⊎◌, ◌<◌, ◌∷◌, [], ◌++◌, length, reverse, Some, None, Ok, Err, IfOk, IfErr, OnOk, OnErr, MatchResult, true, false, List, ℕ, take};
 ghost use Rattle.std.specs.List.{flat_map};
-ghost use Rattle.sudoers_tree.specs.Policy.{texts};
+ghost use Rattle.sudoers_tree.specs.Load.{Loaded, load_of, files_of};
 
 use crate::fault::EditFault;
 use crate::making::make;
@@ -9,8 +9,7 @@ use crate::way_back::{Back, take_back};
 use std::alloc::{AllocError, Global};
 use std::marker::Model;
 use sudoers_edit_script::{Edit, Edits};
-use sudoers_tree::laws::read_is;
-use sudoers_tree::{Items, LineChange, OneFile};
+use sudoers_tree::{Items, LineChange, Policy};
 
 /// An accepted edit, with the edits that take it back.
 #[derive(Debug, Drop)]
@@ -30,7 +29,7 @@ struct Step {
 /// policy that it began with is kept nowhere: the journal leads back to it.
 #[derive(Drop)]
 pub struct Editor {
-    policy: OneFile,
+    policy: Policy,
     journal: Vec<Step>,
     undone: Vec<Edit>,
 }
@@ -53,28 +52,28 @@ impl Step {
 
 impl Model for Editor {
     ghost use Rattle.std.specs.Prelude.{reverse};
-    ghost use Rattle.sudoers_tree.specs.Policy.{texts};
-    ghost use Rattle.sudoers_edit.specs.Editing.{Desk, IsUndoable, IsRedoable};
-    ghost use Rattle.sudoers_edit.specs.internal.Undone.{AreBacks, entries_of};
+    ghost use Rattle.sudoers_edit.specs.files.Editing.{Desk, IsUndoable, IsRedoable};
+    ghost use Rattle.sudoers_edit.specs.internal.FileUndone.{AreBacks, entries_of};
 
     ghost Value = { Desk };
 
-    ghost view = { λ editor. record { lines = texts editor.policy; journal = entries_of editor.journal.items; undone = reverse editor.undone.items } };
+    ghost view = { λ editor. record { policy = editor.policy; journal = entries_of editor.journal.items; undone = reverse editor.undone.items } };
 
-    ghost invariant = { λ editor. IsUndoable (reverse (entries_of editor.journal.items)) (texts editor.policy)
-        × AreBacks (reverse editor.journal.items) (texts editor.policy)
-        × IsRedoable (reverse editor.undone.items) (texts editor.policy) };
+    ghost invariant = { λ editor. IsUndoable (reverse (entries_of editor.journal.items)) editor.policy
+        × AreBacks (reverse editor.journal.items) editor.policy
+        × IsRedoable (reverse editor.undone.items) editor.policy };
 }
 
 impl Editor {
-    ghost use Rattle.sudoers_edit.specs.Editing.{Desk, step, inv, run, run_all, inv_run, first_of, edits_of, Refuses, StopsAt};
-    ghost use Rattle.sudoers_edit.specs.Memory.{TellsMemoryAlone};
-    ghost use Rattle.sudoers_edit.specs.Undoing.{TakesLast};
-    ghost use Rattle.sudoers_edit.specs.Redoing.{MakesAgain, undone_behind};
+    ghost use Rattle.sudoers_edit.specs.Editing.{Refuses, edits_of};
+    ghost use Rattle.sudoers_edit.specs.files.Editing.{Desk, step, inv, run, run_all, inv_run, first_of, StopsAt};
+    ghost use Rattle.sudoers_edit.specs.files.Memory.{TellsMemoryAlone};
+    ghost use Rattle.sudoers_edit.specs.files.Undoing.{TakesLast};
+    ghost use Rattle.sudoers_edit.specs.files.Redoing.{MakesAgain, undone_behind};
 
     /// Returns an editor of `policy` with an empty journal, and with nothing to make again.
-    pub fn new(policy: OneFile) -> Editor
-        ensures lines { result.lines ≡ texts policy }
+    pub fn new(policy: Policy) -> Editor
+        ensures policy { result.policy ≡ policy }
         ensures journal { result.journal ≡ [] }
         ensures undone { result.undone ≡ [] }
     {
@@ -88,10 +87,10 @@ impl Editor {
 
     /// The policy as it stands: the edits of the journal, made one after another, lead to it from the lines that the editor
     /// began with.
-    pub fn policy(&self) -> &OneFile
-        ensures lines { texts result.now ≡ self.now.lines }
-        ensures forth { run (edits_of self.now.journal) (first_of self.now) ≡ Some (texts result.now) }
-        ensures accepted { run_all 0 (edits_of self.now.journal) (first_of self.now) ≡ Ok (texts result.now) }
+    pub fn policy(&self) -> &Policy
+        ensures policy { result.now ≡ self.now.policy }
+        ensures forth { run (edits_of self.now.journal) (first_of self.now) ≡ Some result.now }
+        ensures accepted { run_all 0 (edits_of self.now.journal) (first_of self.now) ≡ Ok result.now }
     {
         &self.policy
     }
@@ -117,23 +116,22 @@ impl Editor {
     /// The first cause of [`EditFault`]; the editor is then as it was.
     pub fn apply(&mut self, edit: &Edit) -> Result<(), EditFault>
         // The lines are those of the definition.
-        ensures step { OnOk result (step edit.now self.old.lines ≡ Ok self.new.lines) }
+        ensures step { OnOk result (step edit.now self.old.policy ≡ Ok self.new.policy) }
         // The journal grows by the edit with what takes it back.
         ensures journal { OnOk result (self.new.journal
-            ≡ self.old.journal ++ record { edit = edit.now; inverse = inv edit.now self.old.lines } ∷ []) }
+            ≡ self.old.journal ++ record { edit = edit.now; inverse = inv edit.now self.old.policy } ∷ []) }
         // That is exactly what leads back to the lines before.
-        ensures back { OnOk result (run (inv edit.now self.old.lines) self.new.lines ≡ Some self.old.lines) }
+        ensures back { OnOk result (run (inv edit.now self.old.policy) self.new.policy ≡ Some self.old.policy) }
         // It still leads back to the same lines.
         ensures begun { first_of self.new ≡ first_of self.old }
         // No edit that was undone before can be made again.
         ensures undone { OnOk result (self.new.undone ≡ []) }
         // A refusal is the definition's, or want of memory. It changes neither lines, journal nor undone edits.
-        ensures refused { IfErr result (λ fault. Refuses fault (step edit.now self.old.lines)) }
+        ensures refused { IfErr result (λ fault. Refuses fault (step edit.now self.old.policy)) }
         ensures unchanged { OnErr result (self.new ≡ self.old) }
         // Want of memory is `NoMemory` alone: no other fault holds it.
         ensures memory { IfErr result TellsMemoryAlone }
     {
-        read_is();
         let copy = edit.copied(self.policy.allocator())?;
         self.journal.reserve(1)?;
         let back = make(&mut self.policy, edit)?;
@@ -203,13 +201,13 @@ impl Editor {
     /// The place of the first refused edit, from 0, and why; the edits before it stay.
     pub fn apply_all(&mut self, edits: &[Edit]) -> Result<(), (usize, EditFault)>
         // Each text on the way is the definition's: the lines are those of the edits made so far.
-        ensures lines { MatchResult result (λ _. run edits.now self.old.lines ≡ Some self.new.lines)
-            (λ refused. run (take refused.0 edits.now) self.old.lines ≡ Some self.new.lines) }
+        ensures policy { MatchResult result (λ _. run edits.now self.old.policy ≡ Some self.new.policy)
+            (λ refused. run (take refused.0 edits.now) self.old.policy ≡ Some self.new.policy) }
         ensures journal { MatchResult result (λ _. edits_of self.new.journal ≡ edits_of self.old.journal ++ edits.now)
             (λ refused. edits_of self.new.journal ≡ edits_of self.old.journal ++ take refused.0 edits.now) }
         // It stops exactly where the definition does.
-        ensures accepted { OnOk result (run_all 0 edits.now self.old.lines ≡ Ok self.new.lines) }
-        ensures refused { IfErr result (λ refused. StopsAt refused.0 refused.1 edits.now self.old.lines) }
+        ensures accepted { OnOk result (run_all 0 edits.now self.old.policy ≡ Ok self.new.policy) }
+        ensures refused { IfErr result (λ refused. StopsAt refused.0 refused.1 edits.now self.old.policy) }
         ensures place { IfErr result (λ refused. refused.0 < length edits.now) }
         // Want of memory is `NoMemory` alone: no other fault holds it.
         ensures memory { IfErr result (λ refused. TellsMemoryAlone refused.1) }
@@ -236,8 +234,8 @@ impl Editor {
         ensures exact { IfOk result (λ edits. edits
             ≡ inv_run (edits_of self.now.journal) (first_of self.now)) }
         // The inverse edits lead back, byte for byte, and none of them is refused.
-        ensures restores { IfOk result (λ edits. run edits self.now.lines ≡ Some (first_of self.now)) }
-        ensures accepted { IfOk result (λ edits. run_all 0 edits self.now.lines ≡ Ok (first_of self.now)) }
+        ensures restores { IfOk result (λ edits. run edits self.now.policy ≡ Some (first_of self.now)) }
+        ensures accepted { IfOk result (λ edits. run_all 0 edits self.now.policy ≡ Ok (first_of self.now)) }
     {
         inverses_of(self.policy.allocator(), self.journal.as_slice())
     }

@@ -46,7 +46,7 @@ pub enum EditFault {
     TooLarge,
     /// The result would be no policy.
     #[error("NotPolicy: {0}")]
-    NotPolicy(ReadFault),
+    NotPolicy(LoadFault),
     /// A growth of memory was refused.
     #[error("NoMemory")]
     NoMemory,
@@ -74,21 +74,6 @@ impl<T: Drop> From<AllocFailed<T>> for EditFault {
     }
 }
 
-impl From<ReadFault> for EditFault {
-    ghost use Rattle.std.specs.Prelude.{◌≡◌};
-    ghost use Rattle.sudoers_edit.specs.internal.ReadFaults.{edit_of_read};
-
-    ghost from_gives = { λ fault e. e ≡ edit_of_read fault };
-
-    fn from(fault: ReadFault) -> EditFault {
-        match fault {
-            ReadFault::NoMemory => EditFault::NoMemory,
-            ReadFault::Text(TextFault::TooLarge) => EditFault::TooLarge,
-            fault => EditFault::NotPolicy(fault),
-        }
-    }
-}
-
 impl From<LoadFault> for EditFault {
     ghost use Rattle.std.specs.Prelude.{◌≡◌};
     ghost use Rattle.sudoers_edit.specs.files.Landing.{edit_of_load};
@@ -97,9 +82,12 @@ impl From<LoadFault> for EditFault {
 
     fn from(fault: LoadFault) -> EditFault {
         match fault {
-            LoadFault::InFile { fault, .. } => EditFault::from(fault),
-            LoadFault::TooManyFiles | LoadFault::SameName { .. } | LoadFault::NoMemory =>
-                EditFault::NoMemory,
+            LoadFault::NoMemory => EditFault::NoMemory,
+            LoadFault::InFile {
+                fault: ReadFault::Text(TextFault::TooLarge),
+                ..
+            } => EditFault::TooLarge,
+            fault => EditFault::NotPolicy(fault),
         }
     }
 }

@@ -4,7 +4,6 @@
 mod alike;
 mod editor;
 mod fault;
-mod files;
 pub mod laws;
 mod line_edits;
 mod making;

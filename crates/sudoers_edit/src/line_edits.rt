@@ -1,17 +1,17 @@
-//! Edits of whole lines, and of the end of the last.
-ghost use Rattle.std.specs.Prelude.{◌≡◌, ◌-◌, ◌<◌, ◌≤◌, length, insert, slice_get, true, List, ℕ, IfOk};
+//! Edits of whole lines of a file of a policy, and of the end of its last line.
+ghost use Rattle.std.specs.Prelude.{◌≡◌, ◌-◌, ◌<◌, ◌≤◌, length, insert, slice_get, true, IfOk};
 ghost use Rattle.std.specs.Option.{option_copied};
 ghost use Rattle.sudoers_text.specs.Ended.{has_unended_inside};
 ghost use Rattle.sudoers_text.specs.Whole.{IsLogicalLine};
-ghost use Rattle.sudoers_tree.specs.Policy.{texts};
 ghost use Rattle.sudoers_edit.specs.OneLine.{is_one_line, IsAlone};
 ghost use Rattle.sudoers_edit.specs.LineEdits.{moved};
-ghost use Rattle.sudoers_edit.specs.internal.LastLine.{StaysCut};
-ghost use Rattle.sudoers_edit.specs.internal.Moving.{move_changes as the_move_changes};
-ghost use Rattle.sudoers_edit.specs.internal.Leading.{Plans};
+ghost use Rattle.sudoers_edit.specs.internal.FileLeading.{Plans};
+ghost use Rattle.sudoers_edit.specs.internal.LastLineInFile.{EndsStayCut};
+ghost use Rattle.sudoers_edit.specs.internal.LeadingInFile.{move_changes as the_move_changes, texts_of};
 
 use crate::fault::EditFault;
-use crate::plan::{Plan, is_sound, refusal};
+use crate::plan::{file_is_sound, one_file_leads, put, refusal, swap, take};
+use crate::plan::Plan;
 use std::alloc::{AllocError, Global};
 use sudoers_edit_script::{Edit, Edits, Text};
 use sudoers_text::laws::{
@@ -19,109 +19,123 @@ use sudoers_text::laws::{
     lines_stand_alone, whole_line_is,
 };
 use sudoers_text::{LINE_LIMIT, TextFault, cut, ends_in_lf};
-use sudoers_tree::laws::{changed_by_first, lines_are_whole, policy_is_cut};
-use sudoers_tree::{LineChange, OneFile};
+use sudoers_tree::laws::{
+    changed_by_first, changed_files_have_lines, loaded_files_are, loaded_files_are_cut,
+};
+use sudoers_tree::{LineChange, Policy};
 
 /// Plans a line put in.
-pub fn line_inserted(policy: &OneFile, at: u32, text: &[u8]) -> Result<Plan, EditFault>
-    ensures { Plans (Edit.Insert 0 at text.now) (texts policy.now) result }
+pub fn line_inserted(policy: &Policy, file: u32, at: u32, text: &[u8]) -> Result<Plan, EditFault>
+    ensures { Plans (Edit.Insert file at text.now) policy.now result }
 {
     let alloc = policy.allocator();
-    let place = at as usize;
-    if place > policy.len() {
+    let (number, place) = (file as usize, at as usize);
+    if number >= policy.files() {
+        return Err(EditFault::NoFile);
+    }
+    if place > policy.len(number) {
         return Err(EditFault::NoLine);
     }
     if !is_one_line(alloc, text)? {
         return Err(EditFault::NotOneLine);
     }
-    if leaves_unended(policy, place, text) {
+    if leaves_unended(policy, number, place, text) {
         return Err(EditFault::OpenLine);
     }
     let text = Text::from_slice(alloc, text)?;
-    let inverse = Edits::one(alloc, Edit::Delete { file: 0, at })?;
-    is_sound(policy);
-    Ok(Plan::put(alloc, place, text, inverse)?)
+    let inverse = Edits::one(alloc, Edit::Delete { file, at })?;
+    policy.is_loaded();
+    Ok(put(alloc, number, place, text, inverse)?)
 }
 
 /// Plans a line taken out.
-pub fn line_deleted(policy: &OneFile, at: u32) -> Result<Plan, EditFault>
-    ensures { Plans (Edit.Delete 0 at) (texts policy.now) result }
+pub fn line_deleted(policy: &Policy, file: u32, at: u32) -> Result<Plan, EditFault>
+    ensures { Plans (Edit.Delete file at) policy.now result }
 {
     let alloc = policy.allocator();
-    let place = at as usize;
-    let Some(line) = policy.line(place) else {
+    let (number, place) = (file as usize, at as usize);
+    if number >= policy.files() {
+        return Err(EditFault::NoFile);
+    }
+    let Some(line) = line_text(policy, number, place) else {
         return Err(EditFault::NoLine);
     };
     let text = Text::from_slice(alloc, line)?;
-    let inverse = Edits::one(alloc, Edit::Insert { file: 0, at, text })?;
-    is_sound(policy);
-    Ok(Plan::take(alloc, place, inverse)?)
+    let inverse = Edits::one(alloc, Edit::Insert { file, at, text })?;
+    policy.is_loaded();
+    file_is_sound(policy);
+    Ok(take(alloc, number, place, inverse)?)
 }
 
 /// Plans a line that stands elsewhere.
-pub fn line_moved(policy: &OneFile, from: u32, to: u32) -> Result<Plan, EditFault>
-    ensures { Plans (Edit.Move 0 from to) (texts policy.now) result }
+pub fn line_moved(policy: &Policy, file: u32, from: u32, to: u32) -> Result<Plan, EditFault>
+    ensures { Plans (Edit.Move file from to) policy.now result }
 {
     let alloc = policy.allocator();
-    let (place, target) = (from as usize, to as usize);
-    let Some(line) = policy.line(place) else {
+    let (number, place, target) = (file as usize, from as usize, to as usize);
+    if number >= policy.files() {
+        return Err(EditFault::NoFile);
+    }
+    let Some(line) = line_text(policy, number, place) else {
         return Err(EditFault::NoLine);
     };
-    if target >= policy.len() {
+    if target >= policy.len(number) {
         return Err(EditFault::NoLine);
     }
-    if move_leaves_unended(policy, place, target) {
+    if move_leaves_unended(policy, number, place, target) {
         return Err(EditFault::OpenLine);
     }
     let text = Text::from_slice(alloc, line)?;
-    let changes = move_changes(alloc, from, to, text)?;
+    let changes = move_changes(alloc, file, from, to, text)?;
     let back = Edit::Move {
-        file: 0,
+        file,
         from: to,
         to: from,
     };
     let inverse = Edits::one(alloc, back)?;
-    is_sound(policy);
-    lines_are_whole(policy);
+    policy.is_loaded();
+    file_is_sound(policy);
     changed_by_first();
+    one_file_leads();
     Ok(Plan { changes, inverse })
 }
 
-/// Returns the changes that take out the line `from`, which is `text`, and put it where it stands at `to`.
+/// Returns the changes that take out the line `from` of a file, which is `text`, and put it where it stands at `to`.
 fn move_changes(
     alloc: Global,
+    file: u32,
     from: u32,
     to: u32,
     text: Text,
 ) -> Result<Vec<LineChange>, AllocError>
-    ensures { IfOk result (λ changes. changes.items ≡ the_move_changes from to text) }
+    ensures { IfOk result (λ changes. changes.items ≡ the_move_changes file from to text) }
 {
-    let (from, to) = (from as usize, to as usize);
+    let (file, from, to) = (file as usize, from as usize, to as usize);
     let mut changes = Vec::with_capacity(alloc, 2)?;
     if from < to {
-        changes.push(LineChange::Take { file: 0, at: from })?;
+        changes.push(LineChange::Take { file, at: from })?;
         changes.push(LineChange::Put {
-            file: 0,
+            file,
             at: to + 1,
             text,
         })?;
     } else if to < from {
-        changes.push(LineChange::Put {
-            file: 0,
-            at: to,
-            text,
-        })?;
-        changes.push(LineChange::Take { file: 0, at: from })?;
+        changes.push(LineChange::Put { file, at: to, text })?;
+        changes.push(LineChange::Take { file, at: from })?;
     }
     Ok(changes)
 }
 
-/// Plans LF behind the last line.
-pub fn end_closed(policy: &OneFile) -> Result<Plan, EditFault>
-    ensures { Plans (Edit.EndLine 0) (texts policy.now) result }
+/// Plans LF behind the last line of a file.
+pub fn end_closed(policy: &Policy, file: u32) -> Result<Plan, EditFault>
+    ensures { Plans (Edit.EndLine file) policy.now result }
 {
     let alloc = policy.allocator();
-    let Some(last) = last_line(policy) else {
+    let number = file as usize;
+    if number >= policy.files() {
+        return Err(EditFault::NoFile);
+    }
+    let Some(last) = last_line(policy, number) else {
         return Err(EditFault::EndAsIs);
     };
     if ends_in_lf(last) {
@@ -130,52 +144,60 @@ pub fn end_closed(policy: &OneFile) -> Result<Plan, EditFault>
     if last.len() >= LINE_LIMIT {
         return Err(EditFault::TooLarge);
     }
-    is_sound(policy);
-    stays_cut();
+    policy.is_loaded();
+    file_is_sound(policy);
+    ends_stay_cut();
     let mut text = Vec::from_slice(alloc, last)?;
     text.push(b'\n')?;
     if !is_one_line(alloc, text.as_slice())? {
-        let mut whole = policy.text()?;
+        let mut whole = policy.text(number)?;
         whole.push(b'\n')?;
-        return Err(refusal(alloc, whole.as_slice()));
+        return Err(refusal(policy, number, whole));
     }
-    let inverse = Edits::one(alloc, Edit::OpenEnd { file: 0 })?;
-    Ok(Plan::swap(alloc, last_place(policy), Text::from_vec(text), inverse)?)
+    let inverse = Edits::one(alloc, Edit::OpenEnd { file })?;
+    let at = last_place(policy, number);
+    Ok(swap(alloc, number, at, Text::from_vec(text), inverse)?)
 }
 
-/// Plans that the last line lacks the LF at its end.
-pub fn end_opened(policy: &OneFile) -> Result<Plan, EditFault>
-    ensures { Plans (Edit.OpenEnd 0) (texts policy.now) result }
+/// Plans that the last line of a file lacks the LF at its end.
+pub fn end_opened(policy: &Policy, file: u32) -> Result<Plan, EditFault>
+    ensures { Plans (Edit.OpenEnd file) policy.now result }
 {
     let alloc = policy.allocator();
-    let Some(last) = last_line(policy) else {
+    let number = file as usize;
+    if number >= policy.files() {
+        return Err(EditFault::NoFile);
+    }
+    let Some(last) = last_line(policy, number) else {
         return Err(EditFault::EndAsIs);
     };
     if last.len() < 2 || !ends_in_lf(last) {
         return Err(EditFault::EndAsIs);
     }
-    is_sound(policy);
-    stays_cut();
+    policy.is_loaded();
+    file_is_sound(policy);
+    ends_stay_cut();
     let text = Text::from_slice(alloc, &last[..last.len() - 1])?;
     if !is_one_line(alloc, text.as_slice())? {
-        let mut whole = policy.text()?;
+        let mut whole = policy.text(number)?;
         let _ = whole.pop();
-        return Err(refusal(alloc, whole.as_slice()));
+        return Err(refusal(policy, number, whole));
     }
-    let inverse = Edits::one(alloc, Edit::EndLine { file: 0 })?;
-    Ok(Plan::swap(alloc, last_place(policy), text, inverse)?)
+    let inverse = Edits::one(alloc, Edit::EndLine { file })?;
+    let at = last_place(policy, number);
+    Ok(swap(alloc, number, at, text, inverse)?)
 }
 
-/// Returns whether a line without LF would stand before another once the text stands at a place.
-fn leaves_unended(policy: &OneFile, at: usize, text: &[u8]) -> bool
-    requires { at ≤ length policy.now }
-    ensures { result ≡ has_unended_inside (insert (texts policy.now) at text.now) }
+/// Returns whether a line without LF would stand before another of a file once the text stands at a place.
+fn leaves_unended(policy: &Policy, file: usize, at: usize, text: &[u8]) -> bool
+    requires { at ≤ length (texts_of policy.now file) }
+    ensures { result ≡ has_unended_inside (insert (texts_of policy.now file) at text.now) }
 {
-    is_sound(policy);
-    if at < policy.len() {
+    file_is_sound(policy);
+    if at < policy.len(file) {
         !ends_in_lf(text)
     } else if at > 0 {
-        match policy.line(at - 1) {
+        match line_text(policy, file, at - 1) {
             Some(last) => !ends_in_lf(last),
             None => false,
         }
@@ -184,44 +206,55 @@ fn leaves_unended(policy: &OneFile, at: usize, text: &[u8]) -> bool
     }
 }
 
-/// Returns whether a line without LF would stand before another once the line `from` stands at `to`.
-fn move_leaves_unended(policy: &OneFile, from: usize, to: usize) -> bool
-    requires from { from < length policy.now }
-    requires to { to < length policy.now }
-    ensures { result ≡ has_unended_inside (moved from to (texts policy.now)) }
+/// Returns whether a line without LF would stand before another of a file once the line `from` stands at `to`.
+fn move_leaves_unended(policy: &Policy, file: usize, from: usize, to: usize) -> bool
+    requires from { from < length (texts_of policy.now file) }
+    requires to { to < length (texts_of policy.now file) }
+    ensures { result ≡ has_unended_inside (moved from to (texts_of policy.now file)) }
 {
-    is_sound(policy);
+    file_is_sound(policy);
     if from == to {
         return false;
     }
-    let last = policy.len() - 1;
+    let last = policy.len(file) - 1;
     let before = if to < last { from } else { last };
-    match policy.line(before) {
+    match line_text(policy, file, before) {
         Some(line) => !ends_in_lf(line),
         None => false,
     }
 }
 
-/// Returns the last line, if there is one.
-fn last_line(policy: &OneFile) -> Option<&[u8]>
-    ensures { option_copied result ≡ slice_get (texts policy.now) (length (texts policy.now) - 1) }
+/// Returns the text of a line of a file, if there is one.
+fn line_text(policy: &Policy, file: usize, at: usize) -> Option<&[u8]>
+    ensures { option_copied result ≡ slice_get (texts_of policy.now file) at }
 {
-    policy.line(last_place(policy))
+    Some(policy.line(file, at)?.text)
 }
 
-/// Returns the number of the last line.
-fn last_place(policy: &OneFile) -> usize
-    ensures { result ≡ length (texts policy.now) - 1 }
+/// Returns the last line of a file, if there is one.
+fn last_line(policy: &Policy, file: usize) -> Option<&[u8]>
+    ensures { option_copied result ≡ slice_get (texts_of policy.now file) (length (texts_of policy.now file) - 1) }
 {
-    policy.len().saturating_sub(1)
+    line_text(policy, file, last_place(policy, file))
 }
 
-/// A law: the lines of a policy stay its lines where LF is put behind the last or taken from it, if that is a policy.
-pub fn stays_cut()
-    ensures { StaysCut }
+/// Returns the number of the last line of a file.
+fn last_place(policy: &Policy, file: usize) -> usize
+    ensures { result ≡ length (texts_of policy.now file) - 1 }
 {
-    policy_is_cut();
+    policy.len(file).saturating_sub(1)
+}
+
+/// A law: the lines of a file stay as many where LF is put behind the last or taken from it, if the files load then.
+fn ends_stay_cut()
+    ensures { EndsStayCut }
+{
+    loaded_files_are();
+    loaded_files_are_cut();
     lines_stand_alone();
+    line_alone_is_whole();
+    whole_line_is();
+    changed_files_have_lines();
     line_alone_size();
     lf_behind_last_line();
     lf_from_last_line();

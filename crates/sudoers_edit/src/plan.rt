@@ -1,24 +1,25 @@
-//! Plans of edits: what changes of the lines an edit is, and the edits that take it back.
-ghost use Rattle.std.specs.Prelude.{◌≡◌, ◌≤◌, ◌<◌, ◌∷◌, [], false, length, List, ℕ, insert, remove, Ok, IfOk, OnOk, OnErr, MatchResult};
-ghost use Rattle.sudoers_text.specs.Line.{join};
-ghost use Rattle.sudoers_text.specs.Ended.{has_unended_inside};
-ghost use Rattle.sudoers_text.specs.Cut.{StandAlone};
+//! Plans of edits of the files of a policy: what changes of their lines an edit is, and the edits that take it back.
+ghost use Rattle.std.specs.Prelude.{◌≡◌, ◌≤◌, ◌<◌, ◌∷◌, [], List, ℕ, length, insert, remove, Ok, IfOk, OnOk, OnErr, MatchResult};
 ghost use Rattle.sudoers_text.specs.Whole.{IsLogicalLine};
-ghost use Rattle.sudoers_tree.specs.Line.{Line as LineOf};
-ghost use Rattle.sudoers_tree.specs.Changed.{replaced, changed};
-ghost use Rattle.sudoers_tree.specs.Policy.{texts};
+ghost use Rattle.sudoers_tree.specs.Changed.{changed, replaced};
+ghost use Rattle.sudoers_tree.specs.ChangedFiles.{CanBeMade, files_changed};
+ghost use Rattle.sudoers_tree.specs.Load.{Loaded, files_of, load_of};
+ghost use Rattle.sudoers_tree.specs.declared.line_change.LineChange.{LineChange as LineChangeOf};
 ghost use Rattle.sudoers_edit_script.specs.declared.edit.Edit.{Edit as AnEdit};
 ghost use Rattle.sudoers_edit.specs.Editing.{Refuses};
-ghost use Rattle.sudoers_edit.specs.Landing.{policy_or_refusal};
-ghost use Rattle.sudoers_edit.specs.internal.Leading.{LeadsTo, Leads, Fits, Plans, Makes};
-ghost use Rattle.sudoers_edit.specs.OneLine.{IsSound};
+ghost use Rattle.sudoers_edit.specs.files.Landing.{policy_or_refusal, with_bytes as the_files_with};
+ghost use Rattle.sudoers_edit.specs.internal.FileLeading.{Leads};
+ghost use Rattle.sudoers_edit.specs.internal.LeadingInFile.{AreFileLines, FitIn, LandsIn, texts_of};
+ghost use Rattle.sudoers_edit.specs.internal.MadeInFiles.{Makes};
 
 use crate::fault::EditFault;
 use std::alloc::{AllocError, Global};
 use sudoers_edit_script::{Edits, Text};
-use sudoers_text::laws::{lines_of_join, lines_stand_alone};
-use sudoers_tree::laws::{one_change, policy_is_cut};
-use sudoers_tree::{LineChange, OneFile};
+use sudoers_text::laws::{line_alone_is_whole, lines_stand_alone, whole_line_is};
+use sudoers_tree::laws::{
+    changed_files_have_lines, loaded_files_are, loaded_files_are_cut, one_change,
+};
+use sudoers_tree::{LineChange, NamedFile, Policy};
 
 /// What an edit changes, and the edits that take it back.
 #[derive(Drop)]
@@ -27,50 +28,63 @@ pub struct Plan {
     pub inverse: Edits,
 }
 
-impl Plan {
-    /// Returns the plan of one change.
-    fn one(alloc: Global, change: LineChange, inverse: Edits) -> Result<Plan, AllocError>
-        ensures changes { IfOk result (λ plan. plan.changes.items ≡ change ∷ []) }
-        ensures inverse { IfOk result (λ plan. plan.inverse ≡ inverse) }
-    {
-        let mut changes = Vec::with_capacity(alloc, 1)?;
-        changes.push(change)?;
-        Ok(Plan { changes, inverse })
-    }
+/// Returns the plan of one change.
+fn one(alloc: Global, change: LineChange, inverse: Edits) -> Result<Plan, AllocError>
+    ensures changes { IfOk result (λ plan. plan.changes.items ≡ change ∷ []) }
+    ensures inverse { IfOk result (λ plan. plan.inverse ≡ inverse) }
+{
+    let mut changes = Vec::with_capacity(alloc, 1)?;
+    changes.push(change)?;
+    Ok(Plan { changes, inverse })
+}
 
-    /// Plans that the line `text` is put before the line `at`.
-    pub fn put(alloc: Global, at: usize, text: Text, inverse: Edits) -> Result<Plan, AllocError>
-        ensures { (edit : AnEdit) (lines : List (List ℕ)) → at ≤ length lines → IsLogicalLine text
-            → LeadsTo edit inverse lines (insert lines at text) → IfOk result (λ plan. Leads edit plan.inverse lines plan.changes.items) }
-    {
-        one_change();
-        Plan::one(alloc, LineChange::Put { file: 0, at, text }, inverse)
-    }
+/// Plans that the line `text` is put before the line `at` of a file.
+pub fn put(
+    alloc: Global,
+    file: usize,
+    at: usize,
+    text: Text,
+    inverse: Edits,
+) -> Result<Plan, AllocError>
+    ensures { (edit back : AnEdit) (policy : Loaded) → load_of (files_of policy) ≡ Ok policy → at ≤ length (texts_of policy file) → IsLogicalLine text
+        → LandsIn edit back inverse policy file (insert (texts_of policy file) at text) → IfOk result (λ plan. Leads edit plan.inverse policy plan.changes.items) }
+{
+    one_change();
+    one_file_leads();
+    one(alloc, LineChange::Put { file, at, text }, inverse)
+}
 
-    /// Plans that the line `at` is taken out.
-    pub fn take(alloc: Global, at: usize, inverse: Edits) -> Result<Plan, AllocError>
-        ensures { (edit : AnEdit) (lines : List (List ℕ)) → at < length lines
-            → LeadsTo edit inverse lines (remove lines at) → IfOk result (λ plan. Leads edit plan.inverse lines plan.changes.items) }
-    {
-        one_change();
-        Plan::one(alloc, LineChange::Take { file: 0, at }, inverse)
-    }
+/// Plans that the line `at` of a file is taken out.
+pub fn take(alloc: Global, file: usize, at: usize, inverse: Edits) -> Result<Plan, AllocError>
+    ensures { (edit back : AnEdit) (policy : Loaded) → load_of (files_of policy) ≡ Ok policy → at < length (texts_of policy file)
+        → LandsIn edit back inverse policy file (remove (texts_of policy file) at) → IfOk result (λ plan. Leads edit plan.inverse policy plan.changes.items) }
+{
+    one_change();
+    one_file_leads();
+    one(alloc, LineChange::Take { file, at }, inverse)
+}
 
-    /// Plans that the line `text` stands in the place of the line `at`.
-    pub fn swap(alloc: Global, at: usize, text: Text, inverse: Edits) -> Result<Plan, AllocError>
-        ensures { (edit : AnEdit) (lines : List (List ℕ)) → at < length lines → IsLogicalLine text
-            → LeadsTo edit inverse lines (replaced at text lines) → IfOk result (λ plan. Leads edit plan.inverse lines plan.changes.items) }
-    {
-        one_change();
-        Plan::one(alloc, LineChange::Swap { file: 0, at, text }, inverse)
-    }
+/// Plans that the line `text` stands in the place of the line `at` of a file.
+pub fn swap(
+    alloc: Global,
+    file: usize,
+    at: usize,
+    text: Text,
+    inverse: Edits,
+) -> Result<Plan, AllocError>
+    ensures { (edit back : AnEdit) (policy : Loaded) → load_of (files_of policy) ≡ Ok policy → at < length (texts_of policy file) → IsLogicalLine text
+        → LandsIn edit back inverse policy file (replaced at text (texts_of policy file)) → IfOk result (λ plan. Leads edit plan.inverse policy plan.changes.items) }
+{
+    one_change();
+    one_file_leads();
+    one(alloc, LineChange::Swap { file, at, text }, inverse)
 }
 
 /// Makes the changes of a plan, and returns the edits that take them back.
-pub fn carry_out(plan: Plan, policy: &mut OneFile) -> Result<Edits, EditFault>
-    requires { Fits plan.changes.items (texts policy.old) }
-    ensures made { (edit : AnEdit) → Leads edit plan.inverse (texts policy.old) plan.changes.items
-        → (Makes edit (texts policy.old) (texts policy.new) result) × (OnOk result (texts policy.new ≡ changed plan.changes.items (texts policy.old))) }
+pub fn carry_out(plan: Plan, policy: &mut Policy) -> Result<Edits, EditFault>
+    requires { CanBeMade plan.changes.items policy.old.files }
+    ensures made { (edit : AnEdit) → Leads edit plan.inverse policy.old plan.changes.items → Makes edit policy.old policy.new result }
+    ensures loaded { OnOk result (load_of (files_changed plan.changes.items policy.old.files) ≡ Ok policy.new) }
     ensures unchanged { OnErr result (policy.new ≡ policy.old) }
 {
     match policy.changed(plan.changes.as_slice()) {
@@ -79,39 +93,60 @@ pub fn carry_out(plan: Plan, policy: &mut OneFile) -> Result<Edits, EditFault>
     }
 }
 
-/// Returns the policy that a text is.
-fn read_policy(alloc: Global, text: &[u8]) -> Result<OneFile, EditFault>
-    ensures { MatchResult result (λ policy. policy_or_refusal text.now ≡ Ok policy)
-        (λ fault. Refuses fault (policy_or_refusal text.now)) }
+/// Returns the files of a policy with other bytes of one.
+fn with_bytes(policy: &Policy, file: usize, bytes: Vec<u8>) -> Result<Vec<NamedFile>, AllocError>
+    ensures { IfOk result (λ files. files.items ≡ the_files_with file bytes.items (files_of policy.now)) }
 {
-    Ok(OneFile::read(alloc, text)?)
+    let mut files = policy.named_files()?;
+    if let Some(named) = files.get_mut(file) {
+        named.bytes = Text::from_vec(bytes);
+    }
+    Ok(files)
 }
 
-/// Returns why a text is no policy.
-pub fn refusal(alloc: Global, text: &[u8]) -> EditFault
-    requires { (policy : List LineOf) → policy_or_refusal text.now ≡ Ok policy → ⊥ }
-    ensures { Refuses result (policy_or_refusal text.now) }
+/// Returns the policy that the files of a policy are with other bytes of one.
+fn load_with(policy: &Policy, file: usize, bytes: Vec<u8>) -> Result<Policy, EditFault>
+    ensures { MatchResult result (λ new. policy_or_refusal (the_files_with file bytes.items (files_of policy.now)) ≡ Ok new)
+        (λ fault. Refuses fault (policy_or_refusal (the_files_with file bytes.items (files_of policy.now)))) }
 {
-    match read_policy(alloc, text) {
+    let files = with_bytes(policy, file, bytes)?;
+    Ok(Policy::load(policy.allocator(), files.as_slice())?)
+}
+
+/// Returns why the files of a policy are none with other bytes of one.
+pub fn refusal(policy: &Policy, file: usize, bytes: Vec<u8>) -> EditFault
+    requires { (new : Loaded) → policy_or_refusal (the_files_with file bytes.items (files_of policy.now)) ≡ Ok new → ⊥ }
+    ensures { Refuses result (policy_or_refusal (the_files_with file bytes.items (files_of policy.now))) }
+{
+    match load_with(policy, file, bytes) {
         Ok(_) => unreachable!(),
         Err(fault) => fault,
     }
 }
 
-/// A law: what the lines of a policy are.
-pub fn is_sound(policy: &OneFile)
-    ensures { IsSound (texts policy.now) }
+/// A law: what the lines of each file of a policy are.
+pub fn file_is_sound(policy: &Policy)
+    ensures { (file : ℕ) → AreFileLines (texts_of policy.now file) }
 {
-    policy.is_policy();
-    policy_is_cut();
+    policy.is_loaded();
+    loaded_files_are();
+    loaded_files_are_cut();
     lines_stand_alone();
+    line_alone_is_whole();
+    whole_line_is();
+    changed_files_have_lines();
 }
 
-/// A law: lines that are each the one line of a text, all but the last ending in LF, are those of the policy that their join is.
-pub fn reads_lines()
-    ensures { (lines : List (List ℕ)) (policy : List LineOf) → StandAlone lines → has_unended_inside lines ≡ false
-        → policy_or_refusal (join lines) ≡ Ok policy → texts policy ≡ lines }
+/// A law: changes of one file of a policy make the files to which the edit leads, and one edit leads back.
+pub fn one_file_leads()
+    ensures { (edit back : AnEdit) (inverse : List AnEdit) (policy : Loaded) (file : ℕ) (changes : List LineChangeOf)
+        → load_of (files_of policy) ≡ Ok policy → FitIn file changes (texts_of policy file)
+        → LandsIn edit back inverse policy file (changed changes (texts_of policy file)) → Leads edit inverse policy changes }
 {
-    policy_is_cut();
-    lines_of_join();
+    loaded_files_are();
+    loaded_files_are_cut();
+    lines_stand_alone();
+    line_alone_is_whole();
+    whole_line_is();
+    changed_files_have_lines();
 }

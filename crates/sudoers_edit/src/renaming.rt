@@ -1,61 +1,68 @@
-//! An alias given another name, where it is defined and where it is mentioned.
-ghost use Rattle.std.specs.Prelude.{◌≡◌, ◌∷◌, ◌++◌, [], List, ℕ, take, drop, true, false, Ok, IfOk, OnOk};
+//! An alias given another name in the files of a policy, where it is defined and where it is mentioned.
+ghost use Rattle.std.specs.Prelude.{◌≡◌, ◌∷◌, ◌++◌, [], List, ℕ, length, take, drop, option_to_list, true, false, if◌then◌else◌, Ok, Err, IfOk, OnOk};
 ghost use Rattle.std.specs.List.{list_any};
-ghost use Rattle.sudoers_text.specs.Line.{join};
 ghost use Rattle.sudoers_text.specs.Renamed.{IsDefinableName};
 ghost use Rattle.sudoers_line.specs.declared.node.Kind.{Kind as KindOf};
 ghost use Rattle.sudoers_tree.specs.Changed.{brought};
 ghost use Rattle.sudoers_tree.specs.Definition.{place_of};
 ghost use Rattle.sudoers_tree.specs.Fault.{is_some};
-ghost use Rattle.sudoers_tree.specs.Line.{line_shown};
-ghost use Rattle.sudoers_tree.specs.Policy.{texts};
-ghost use Rattle.sudoers_tree.specs.Reading.{read_of};
+ghost use Rattle.sudoers_tree.specs.Files.{lines_of};
+ghost use Rattle.sudoers_tree.specs.Line.{line_shown, lines_shown};
+ghost use Rattle.sudoers_tree.specs.Load.{Loaded, files_of, load_of};
+ghost use Rattle.sudoers_tree.specs.Walk.{is_on};
 ghost use Rattle.sudoers_tree.specs.declared.line_change.LineChange.{LineChange as LineChangeOf};
 ghost use Rattle.sudoers_edit.specs.Landing.{is_too_long};
-ghost use Rattle.sudoers_edit.specs.OneLine.{IsSound};
-ghost use Rattle.sudoers_edit.specs.internal.Leading.{Leads, Plans};
-ghost use Rattle.sudoers_edit.specs.internal.Swaps.{swap_of, swaps_from};
-ghost use Rattle.sudoers_edit.specs.Renaming.{put_at, renamed, is_taken as taken};
+ghost use Rattle.sudoers_edit.specs.Renaming.{put_at, renamed, starts_in, is_taken as taken};
+ghost use Rattle.sudoers_edit.specs.declared.fault.EditFault.{EditFault as AFault};
+ghost use Rattle.sudoers_edit.specs.files.Editing.{step as step_of};
+ghost use Rattle.sudoers_edit.specs.files.Renamed.{FilesAreWithin, IsRenamed};
+ghost use Rattle.sudoers_edit.specs.files.Renaming.{renamed_files};
+ghost use Rattle.sudoers_edit.specs.internal.FileLeading.{Leads, Plans, swap_in, swaps_of_file, swaps_from};
 
 use crate::fault::EditFault;
 use crate::name_places::name_starts;
-use crate::plan::{Plan, is_sound};
+use crate::plan::Plan;
 use std::alloc::{AllocError, Global};
 use sudoers_edit_script::{Edit, Edits, Text};
-use sudoers_line::laws::{definitions_ascend, names_stand, renamed_line};
-use sudoers_line_reader::laws::outcome_is;
+use sudoers_line::laws::{names_stand, renamed_line};
 use sudoers_text::laws::{
-    cut_is, line_alone_is_whole, line_alone_size, lines_of_join, lines_stand_alone, whole_line_is,
+    line_alone_is_whole, line_alone_size, lines_of_join, lines_stand_alone, whole_line_is,
 };
 use sudoers_text::{LINE_LIMIT, is_name, is_reserved};
-use sudoers_tree::laws::{changed_by_first, one_outcome, policy_is_cut, read_is};
-use sudoers_tree::{Kind, Line, LineChange, OneFile};
+use sudoers_tree::laws::{
+    changed_by_first, changed_files_have_lines, changed_walk_is_mapped, loaded_files_are,
+    loaded_files_are_cut, loaded_is_walk, loaded_lines_are_said, loaded_lines_stand,
+    loaded_walk_is, mapped_files_load, texts_tell_lines, walk_is,
+};
+use sudoers_tree::{Kind, Line, LineChange, LineRow, Policy, Rows, Walk};
 
 /// Plans another name for an alias.
 pub fn alias_renamed(
-    policy: &OneFile,
+    policy: &Policy,
     kind: Kind,
     name: &[u8],
     fresh: &[u8],
 ) -> Result<Plan, EditFault>
-    ensures { Plans (Edit.Rename kind name.now fresh.now) (texts policy.now) result }
+    ensures { Plans (Edit.Rename kind name.now fresh.now) policy.now result }
 {
-    renames_lead(policy);
-    line_alone_size();
-    if policy.definition(kind, name).is_none() {
+    policy.is_loaded();
+    renames_lead();
+    let walk = policy.walk();
+    if walk.definition(kind, name).is_none() {
         return Err(EditFault::NoAlias);
     }
     if !is_name(fresh) || is_reserved(fresh) {
         return Err(EditFault::BadName);
     }
-    if is_taken(policy, kind, fresh)? {
+    let alloc = policy.allocator();
+    if is_taken(alloc, &walk, kind, fresh)? {
         return Err(EditFault::NameTaken);
     }
     let changes = swaps(policy, kind, name, fresh)?;
     if is_one_too_long(changes.as_slice()) {
         return Err(EditFault::TooLarge);
     }
-    let inverse = rename_back(policy.allocator(), kind, name, fresh)?;
+    let inverse = rename_back(alloc, kind, name, fresh)?;
     Ok(Plan { changes, inverse })
 }
 
@@ -71,85 +78,136 @@ fn rename_back(alloc: Global, kind: Kind, name: &[u8], fresh: &[u8]) -> Result<E
     Edits::one(alloc, back)
 }
 
-/// A law: a rename of a defined alias to a free name, all of whose lines are within the limit, leads to the lines with that name. One
-/// rename leads back.
-fn renames_lead(policy: &OneFile)
-    ensures read { read_of (join (texts policy.now)) ≡ Ok policy.now }
-    ensures sound { IsSound (texts policy.now) }
-    ensures leads { (kind : KindOf) (name fresh : List ℕ) (changes : List LineChangeOf) → is_some (place_of kind name policy.now) ≡ true
-        → IsDefinableName fresh → taken kind fresh policy.now ≡ false → list_any is_too_long (renamed kind name fresh policy.now) ≡ false
-        → changes ≡ swaps_from 0 kind name fresh policy.now
-        → Leads (Edit.Rename kind name fresh) (Edit.Rename kind fresh name ∷ []) (texts policy.now) changes }
+/// A law: a rename of a defined alias to a free name, all of whose lines on the walk are within the limit, leads to the files with that
+/// name. One rename leads back. A line of the walk is past the limit exactly if one that the changes bring is.
+fn renames_lead()
+    ensures leads { (kind : KindOf) (name fresh : List ℕ) (policy : Loaded) (changes : List LineChangeOf) → load_of (files_of policy) ≡ Ok policy
+        → is_some (place_of kind name policy.walk.lines) ≡ true → IsDefinableName fresh → taken kind fresh policy.walk.lines ≡ false
+        → list_any is_too_long (renamed kind name fresh policy.walk.lines) ≡ false
+        → changes ≡ swaps_from 0 kind name fresh policy.walk policy.files
+        → Leads (Edit.Rename kind name fresh) (Edit.Rename kind fresh name ∷ []) policy changes }
+    ensures long { (kind : KindOf) (name fresh : List ℕ) (policy : Loaded) → load_of (files_of policy) ≡ Ok policy
+        → list_any is_too_long (brought (swaps_from 0 kind name fresh policy.walk policy.files))
+        ≡ list_any is_too_long (renamed kind name fresh policy.walk.lines) }
 {
-    is_sound(policy);
-    policy.is_policy();
+    loaded_is_walk();
+    loaded_lines_stand();
+    loaded_files_are_cut();
+    loaded_lines_are_said();
+    loaded_walk_is();
+    walk_is();
+    texts_tell_lines();
+    changed_files_have_lines();
+    changed_walk_is_mapped();
     changed_by_first();
-    cut_is();
-    lines_of_join();
     lines_stand_alone();
     line_alone_size();
     line_alone_is_whole();
     whole_line_is();
-    outcome_is();
-    definitions_ascend();
     names_stand();
     renamed_line();
-    read_is();
-    one_outcome();
-    policy_is_cut();
 }
 
 /// Returns whether the name is defined or mentioned in the kind.
-fn is_taken(policy: &OneFile, kind: Kind, fresh: &[u8]) -> Result<bool, AllocError>
-    ensures { IfOk result (λ is. is ≡ taken kind fresh.now policy.now) }
+fn is_taken(alloc: Global, walk: &Walk<'_>, kind: Kind, fresh: &[u8]) -> Result<bool, AllocError>
+    ensures { IfOk result (λ is. is ≡ taken kind fresh.now walk.now) }
 {
-    if policy.definition(kind, fresh).is_some() {
+    if walk.definition(kind, fresh).is_some() {
         return Ok(true);
     }
-    Ok(!policy.mentions(kind, fresh)?.is_empty())
+    Ok(!walk.mentions(alloc, kind, fresh)?.is_empty())
 }
 
-/// Returns the changes of the lines in which the name stands, in their order. Each puts another name in its place.
+/// Returns the changes of the lines in which the name stands, file by file, in their order. Each puts another name in its place.
 fn swaps(
-    policy: &OneFile,
+    policy: &Policy,
     kind: Kind,
     name: &[u8],
     fresh: &[u8],
 ) -> Result<Vec<LineChange>, AllocError>
-    ensures { IfOk result (λ changes. changes.items ≡ swaps_from 0 kind name.now fresh.now policy.now) }
+    ensures { IfOk result (λ changes. changes.items ≡ swaps_from 0 kind name.now fresh.now policy.now.walk policy.now.files) }
 {
-    let alloc = policy.allocator();
-    let lines = policy.lines();
-    let mut changes = Vec::new(alloc);
-    for (at, row) in lines.rows.iter().enumerate() {
-        let line = Line::of(lines.tables, row);
-        append_swap(alloc, at, &line, kind, name, fresh, &mut changes)?;
+    let mut changes = Vec::new(policy.allocator());
+    for file in 0..policy.files() {
+        append_swaps(policy, file, kind, name, fresh, &mut changes)?;
     }
     Ok(changes)
 }
 
-/// Adds the change of a line, if the name stands in it.
-fn append_swap(
-    alloc: Global,
-    at: usize,
-    line: &Line<'_>,
+/// Adds the changes of a file, if it is on the walk.
+fn append_swaps(
+    policy: &Policy,
+    file: usize,
     kind: Kind,
     name: &[u8],
     fresh: &[u8],
     changes: &mut Vec<LineChange>,
 ) -> Result<(), AllocError>
-    ensures { OnOk result (changes.new.items ≡ changes.old.items ++ swap_of at kind name.now fresh.now (line_shown line.now)) }
+    ensures { OnOk result (changes.new.items ≡ changes.old.items
+        ++ (if is_on policy.now.walk file then swaps_of_file file 0 kind name.now fresh.now (lines_of policy.now.files file) else [])) }
 {
-    let starts = name_starts(alloc, kind, name, &line.node)?;
-    if !starts.is_empty() {
-        let text = with_others(alloc, line.text, starts.as_slice(), name.len(), fresh)?;
-        changes.push(LineChange::Swap {
-            file: 0,
-            at,
-            text: Text::from_vec(text),
-        })?;
+    if policy.on_walk().contains(&file) {
+        let lines = policy.file_lines(file);
+        append_swaps_of(policy.allocator(), file, &lines, kind, name, fresh, changes)?;
     }
     Ok(())
+}
+
+/// Adds the changes of the lines of a file.
+fn append_swaps_of(
+    alloc: Global,
+    file: usize,
+    lines: &Rows<'_, LineRow>,
+    kind: Kind,
+    name: &[u8],
+    fresh: &[u8],
+    changes: &mut Vec<LineChange>,
+) -> Result<(), AllocError>
+    ensures { OnOk result (changes.new.items ≡ changes.old.items ++ swaps_of_file file 0 kind name.now fresh.now (lines_shown lines.now)) }
+{
+    for (at, row) in lines.rows.iter().enumerate() {
+        let line = Line::of(lines.tables, row);
+        let swap = swap_of(alloc, file, at, &line, kind, name, fresh)?;
+        append_option(swap, changes)?;
+    }
+    Ok(())
+}
+
+/// Adds a change, if there is one.
+fn append_option(
+    change: Option<LineChange>,
+    changes: &mut Vec<LineChange>,
+) -> Result<(), AllocError>
+    ensures { OnOk result (changes.new.items ≡ changes.old.items ++ option_to_list change) }
+{
+    if let Some(change) = change {
+        changes.push(change)?;
+    }
+    Ok(())
+}
+
+/// Returns the change of a line, if the name stands in it.
+fn swap_of(
+    alloc: Global,
+    file: usize,
+    at: usize,
+    line: &Line<'_>,
+    kind: Kind,
+    name: &[u8],
+    fresh: &[u8],
+) -> Result<Option<LineChange>, AllocError>
+    ensures { IfOk result (λ swap. option_to_list swap ≡ swap_in file at (length name.now) fresh.now (starts_in kind name.now (line_shown line.now).node) (line_shown line.now).text) }
+{
+    let starts = name_starts(alloc, kind, name, &line.node)?;
+    if starts.is_empty() {
+        return Ok(None);
+    }
+    let text = with_others(alloc, line.text, starts.as_slice(), name.len(), fresh)?;
+    Ok(Some(LineChange::Swap {
+        file,
+        at,
+        text: Text::from_vec(text),
+    }))
 }
 
 /// Returns the line with other bytes where at these places so many stand.
@@ -201,4 +259,94 @@ fn is_one_too_long(changes: &[LineChange]) -> bool
         }
     }
     false
+}
+
+/// A law: a policy with another name for an alias that it defines is a policy, while lines and files are within the limits. The new name may
+/// define an alias, and defines none of the kind yet.
+pub fn renamed_policy_is_one()
+    ensures { (kind : KindOf) (name fresh : List ℕ) (policy : Loaded) → load_of (files_of policy) ≡ Ok policy
+        → is_some (place_of kind name policy.walk.lines) ≡ true → IsDefinableName fresh → is_some (place_of kind fresh policy.walk.lines) ≡ false
+        → FilesAreWithin kind name fresh policy
+        → (new : Loaded) × (load_of (renamed_files kind name fresh policy) ≡ Ok new) × IsRenamed kind name fresh policy new }
+{
+    loaded_is_walk();
+    loaded_lines_stand();
+    loaded_files_are();
+    loaded_files_are_cut();
+    loaded_lines_are_said();
+    loaded_walk_is();
+    walk_is();
+    texts_tell_lines();
+    changed_files_have_lines();
+    changed_walk_is_mapped();
+    mapped_files_load();
+    changed_by_first();
+    lines_of_join();
+    lines_stand_alone();
+    line_alone_size();
+    line_alone_is_whole();
+    whole_line_is();
+    names_stand();
+    renamed_line();
+}
+
+/// A law: a rename of a defined alias is refused for its size alone: a line of the walk or a file on it would be too long. The new name may
+/// define an alias, and is neither defined nor mentioned in the kind.
+pub fn rename_is_refused_for_its_size_alone()
+    ensures { (kind : KindOf) (name fresh : List ℕ) (policy : Loaded) (fault : AFault) → load_of (files_of policy) ≡ Ok policy
+        → is_some (place_of kind name policy.walk.lines) ≡ true → IsDefinableName fresh → taken kind fresh policy.walk.lines ≡ false
+        → step_of (Edit.Rename kind name fresh) policy ≡ Err fault → fault ≡ EditFault.TooLarge }
+{
+    loaded_is_walk();
+    loaded_lines_stand();
+    loaded_files_are();
+    loaded_files_are_cut();
+    loaded_lines_are_said();
+    loaded_walk_is();
+    walk_is();
+    texts_tell_lines();
+    changed_files_have_lines();
+    changed_walk_is_mapped();
+    mapped_files_load();
+    changed_by_first();
+    lines_of_join();
+    lines_stand_alone();
+    line_alone_size();
+    line_alone_is_whole();
+    whole_line_is();
+    names_stand();
+    renamed_line();
+}
+
+/// A law: within the limits such a rename leads to the policy with the new name, and any rename that is made does. One rename takes it back:
+/// the old name, given again, leads to the policy before.
+pub fn rename_is_taken_back()
+    ensures forth { (kind : KindOf) (name fresh : List ℕ) (policy : Loaded) → load_of (files_of policy) ≡ Ok policy
+        → is_some (place_of kind name policy.walk.lines) ≡ true → IsDefinableName fresh → taken kind fresh policy.walk.lines ≡ false
+        → FilesAreWithin kind name fresh policy
+        → (new : Loaded) × (step_of (Edit.Rename kind name fresh) policy ≡ Ok new) × IsRenamed kind name fresh policy new }
+    ensures are { (kind : KindOf) (name fresh : List ℕ) (policy new : Loaded) → load_of (files_of policy) ≡ Ok policy
+        → step_of (Edit.Rename kind name fresh) policy ≡ Ok new → IsRenamed kind name fresh policy new }
+    ensures back { (kind : KindOf) (name fresh : List ℕ) (policy new : Loaded) → load_of (files_of policy) ≡ Ok policy
+        → step_of (Edit.Rename kind name fresh) policy ≡ Ok new → step_of (Edit.Rename kind fresh name) new ≡ Ok policy }
+{
+    loaded_is_walk();
+    loaded_lines_stand();
+    loaded_files_are();
+    loaded_files_are_cut();
+    loaded_lines_are_said();
+    loaded_walk_is();
+    walk_is();
+    texts_tell_lines();
+    changed_files_have_lines();
+    changed_walk_is_mapped();
+    mapped_files_load();
+    changed_by_first();
+    lines_of_join();
+    lines_stand_alone();
+    line_alone_size();
+    line_alone_is_whole();
+    whole_line_is();
+    names_stand();
+    renamed_line();
 }

@@ -1,39 +1,62 @@
 //! Members and definitions put in and taken out.
-ghost use Rattle.std.specs.Prelude.{◌≡◌, ◌≤◌, ◌<◌, ◌∷◌, [], length, option_map, slice_get, Some, Result, Err, List, ℕ, IfOk, MatchResult};
+ghost use Rattle.std.specs.Prelude.{◌≡◌, ◌≤◌, ◌<◌, ◌∷◌, [], length, option_map, slice_get, Some, Result, Ok, Err, List, ℕ, IfErr, IfOk, MatchResult};
 ghost use Rattle.sudoers_text.specs.Ended.{has_unended_inside};
-ghost use Rattle.sudoers_tree.specs.Policy.{texts};
-ghost use Rattle.sudoers_edit_script.specs.declared.edit.Edit.{Edit as AnEdit};
-ghost use Rattle.sudoers_edit.specs.Editing.{Refuses};
-ghost use Rattle.sudoers_edit.specs.Landing.{changed_or_refusal};
-ghost use Rattle.sudoers_tree.specs.Changed.{replaced};
-ghost use Rattle.sudoers_edit.specs.internal.Leading.{Plans, Replaces, PutIn, CutOut, IsKnown, IsDefAt};
-ghost use Rattle.sudoers_edit.specs.SpliceEdits.{Lines, put_in as with_more, cut_out as with_less, with_defs, with_def, defs_of};
-ghost use Rattle.sudoers_line_rows.specs.View.{def_shown, defs_shown, node_shown};
-ghost use Rattle.sudoers_tree.specs.Line.{Line as LineOf, line_shown};
 ghost use Rattle.sudoers_line.specs.Node.{Def as DefOf};
+ghost use Rattle.sudoers_line_rows.specs.View.{def_shown, defs_shown, node_shown};
+ghost use Rattle.sudoers_tree.specs.Changed.{replaced};
+ghost use Rattle.sudoers_tree.specs.Files.{lines_of};
+ghost use Rattle.sudoers_tree.specs.Line.{Line as LineOf, line_shown, lines_shown};
+ghost use Rattle.sudoers_tree.specs.Load.{Loaded, load_of};
+ghost use Rattle.sudoers_tree.specs.Policy.{texts};
+ghost use Rattle.sudoers_tree.specs.declared.load.NamedFile.{NamedFile as NamedFileOf};
 ghost use Rattle.sudoers_tree.specs.declared.place.Place.{Place as PlaceOf};
-ghost use Rattle.sudoers_tree.specs.Definition.{place_of};
+ghost use Rattle.sudoers_edit.specs.Editing.{Refuses};
+ghost use Rattle.sudoers_edit.specs.SpliceEdits.{defs_of, with_def, with_defs};
 ghost use Rattle.sudoers_edit.specs.declared.fault.EditFault.{EditFault as Refusal};
+ghost use Rattle.sudoers_edit.specs.files.Editing.{at_alias};
+ghost use Rattle.sudoers_edit.specs.files.Landing.{Lines};
+ghost use Rattle.sudoers_edit.specs.files.SpliceEdits.{cut_out as with_less, put_in as with_more, with_changed};
+ghost use Rattle.sudoers_edit.specs.internal.FileLeading.{Plans};
+ghost use Rattle.sudoers_edit.specs.internal.FileSplicing.{AreKnown, IsDefIn, ReplacesIn};
+ghost use Rattle.sudoers_edit.specs.internal.Leading.{CutOut, PutIn};
+ghost use Rattle.sudoers_edit.specs.internal.LeadingInFile.{texts_of};
+ghost use Rattle.sudoers_edit_script.specs.declared.edit.Edit.{Edit as AnEdit};
 
 use crate::fault::EditFault;
+use crate::plan::{file_is_sound, swap};
 use crate::one_more::{Among, OneMore};
-use crate::plan::{Plan, is_sound, reads_lines};
+use crate::plan::Plan;
 use crate::splice::{line_with, line_without, place_to_add, place_to_drop};
 use std::alloc::{AllocError, Global};
 use sudoers_edit_script::{Edit, Edits, Text};
-use sudoers_line::laws::definitions_ascend;
-use sudoers_text::laws::{line_alone_is_whole, line_alone_size, whole_line_is};
+use sudoers_line::laws::{definitions_ascend, no_fault};
+use sudoers_line_reader::laws::{one_reading, outcome_is};
+use sudoers_text::laws::{line_alone_is_whole, line_alone_size, lines_stand_alone, whole_line_is};
 use sudoers_text::{LINE_LIMIT, ends_in_lf};
-use sudoers_tree::laws::lines_are_said;
-use sudoers_tree::{Def, DefRow, Kind, Line, Node, OneFile, Place, Rows, read_line};
+use sudoers_tree::laws::{
+    loaded_files_are, loaded_files_are_cut, loaded_lines_are_said, loaded_lines_stand,
+    loaded_walk_is,
+};
+use sudoers_tree::{Def, DefRow, FilePlace, Kind, Line, LineRow, Node, Policy, Rows, read_line};
 
-/// Plans a definition put into a line.
-pub fn def_added(policy: &OneFile, line: u32, at: u32, splice: &[u8]) -> Result<Plan, EditFault>
-    ensures { Plans (Edit.AddDef 0 line at splice.now) (texts policy.now) result }
+/// Plans a definition put into a line of a file.
+pub fn def_added(
+    policy: &Policy,
+    file: u32,
+    line: u32,
+    at: u32,
+    splice: &[u8],
+) -> Result<Plan, EditFault>
+    ensures { Plans (Edit.AddDef file line at splice.now) policy.now result }
 {
-    is_known(policy);
+    policy.is_loaded();
+    lines_are_known();
+    if file as usize >= policy.files() {
+        return Err(EditFault::NoFile);
+    }
     let alloc = policy.allocator();
-    let (old, defs) = match defs_at(policy, line as usize) {
+    let lines = policy.file_lines(file as usize);
+    let (old, defs) = match defs_at(&lines, line as usize) {
         Ok(found) => found,
         Err(fault) => return Err(fault),
     };
@@ -45,17 +68,22 @@ pub fn def_added(policy: &OneFile, line: u32, at: u32, splice: &[u8]) -> Result<
         Ok(text) => text,
         Err(fault) => return Err(fault),
     };
-    let inverse = Edits::one(alloc, Edit::DropDef { file: 0, line, at })?;
-    line_replaced(policy, line as usize, text, inverse)
+    let inverse = Edits::one(alloc, Edit::DropDef { file, line, at })?;
+    line_replaced(policy, file as usize, line as usize, text, inverse)
 }
 
-/// Plans a definition taken out of a line.
-pub fn def_dropped(policy: &OneFile, line: u32, at: u32) -> Result<Plan, EditFault>
-    ensures { Plans (Edit.DropDef 0 line at) (texts policy.now) result }
+/// Plans a definition taken out of a line of a file.
+pub fn def_dropped(policy: &Policy, file: u32, line: u32, at: u32) -> Result<Plan, EditFault>
+    ensures { Plans (Edit.DropDef file line at) policy.now result }
 {
-    is_known(policy);
+    policy.is_loaded();
+    lines_are_known();
+    if file as usize >= policy.files() {
+        return Err(EditFault::NoFile);
+    }
     let alloc = policy.allocator();
-    let (old, defs) = match defs_at(policy, line as usize) {
+    let lines = policy.file_lines(file as usize);
+    let (old, defs) = match defs_at(&lines, line as usize) {
         Ok(found) => found,
         Err(fault) => return Err(fault),
     };
@@ -63,42 +91,38 @@ pub fn def_dropped(policy: &OneFile, line: u32, at: u32) -> Result<Plan, EditFau
         Ok(bytes) => bytes,
         Err(fault) => return Err(fault),
     };
-    let text = match cut_out(
-        alloc,
-        Among::Definitions,
-        at as usize,
-        from,
-        to,
-        old.text,
-        &old.node,
-    ) {
+    let among = Among::Definitions;
+    let text = match cut_out(alloc, among, at as usize, from, to, old.text, &old.node) {
         Ok(text) => text,
         Err(fault) => return Err(fault),
     };
     let splice = Text::from_slice(alloc, &old.text[from..to])?;
-    let inverse = Edits::one(
-        alloc,
-        Edit::AddDef {
-            file: 0,
-            line,
-            at,
-            splice,
-        },
-    )?;
-    line_replaced(policy, line as usize, text, inverse)
+    let back = Edit::AddDef {
+        file,
+        line,
+        at,
+        splice,
+    };
+    let inverse = Edits::one(alloc, back)?;
+    line_replaced(policy, file as usize, line as usize, text, inverse)
 }
 
 /// Plans a member put into the list of an alias.
 pub fn member_added(
-    policy: &OneFile,
+    policy: &Policy,
     kind: Kind,
     name: &[u8],
     at: u32,
     splice: &[u8],
 ) -> Result<Plan, EditFault>
-    ensures { Plans (Edit.AddMember kind name.now at splice.now) (texts policy.now) result }
+    ensures { Plans (Edit.AddMember kind name.now at splice.now) policy.now result }
 {
-    is_known(policy);
+    policy.is_loaded();
+    lines_are_known();
+    loaded_files_are();
+    loaded_files_are_cut();
+    loaded_walk_is();
+    loaded_lines_stand();
     let alloc = policy.allocator();
     let (place, old, def) = match def_at(policy, kind, name) {
         Ok(found) => found,
@@ -115,14 +139,19 @@ pub fn member_added(
     };
     let name = Text::from_slice(alloc, name)?;
     let inverse = Edits::one(alloc, Edit::DropMember { kind, name, at })?;
-    line_replaced(policy, place.line, text, inverse)
+    line_replaced(policy, place.file, place.line, text, inverse)
 }
 
 /// Plans a member taken out of the list of an alias.
-pub fn member_dropped(policy: &OneFile, kind: Kind, name: &[u8], at: u32) -> Result<Plan, EditFault>
-    ensures { Plans (Edit.DropMember kind name.now at) (texts policy.now) result }
+pub fn member_dropped(policy: &Policy, kind: Kind, name: &[u8], at: u32) -> Result<Plan, EditFault>
+    ensures { Plans (Edit.DropMember kind name.now at) policy.now result }
 {
-    is_known(policy);
+    policy.is_loaded();
+    lines_are_known();
+    loaded_files_are();
+    loaded_files_are_cut();
+    loaded_walk_is();
+    loaded_lines_stand();
     let alloc = policy.allocator();
     let (place, old, def) = match def_at(policy, kind, name) {
         Ok(found) => found,
@@ -138,7 +167,7 @@ pub fn member_dropped(policy: &OneFile, kind: Kind, name: &[u8], at: u32) -> Res
         Err(fault) => return Err(fault),
     };
     let inverse = member_again(alloc, kind, name, at, &old.text[from..to])?;
-    line_replaced(policy, place.line, text, inverse)
+    line_replaced(policy, place.file, place.line, text, inverse)
 }
 
 /// Returns the edit that puts a member in again.
@@ -153,43 +182,29 @@ fn member_again(
 {
     let name = Text::from_slice(alloc, name)?;
     let splice = Text::from_slice(alloc, splice)?;
-    Edits::one(
-        alloc,
-        Edit::AddMember {
-            kind,
-            name,
-            at,
-            splice,
-        },
-    )
+    let back = Edit::AddMember {
+        kind,
+        name,
+        at,
+        splice,
+    };
+    Edits::one(alloc, back)
 }
 
-/// Returns the line at a place.
-fn line_at(policy: &OneFile, number: usize) -> Option<Line<'_>>
-    ensures { option_map line_shown result ≡ slice_get policy.now number }
-{
-    let lines = policy.lines();
-    match lines.rows.get(number) {
-        Some(row) => Some(Line::of(lines.tables, row)),
-        None => None,
-    }
-}
-
-/// Returns where an alias is defined: the place, the line and the definition.
+/// Returns where an alias is defined on the walk: its place in a file, its line and its definition.
 fn def_at<'a>(
-    policy: &'a OneFile,
+    policy: &'a Policy,
     kind: Kind,
     name: &[u8],
-) -> Result<(Place, Line<'a>, Def<'a>), EditFault>
-    ensures outcome { (next : PlaceOf → LineOf → DefOf → Result Lines Refusal) → MatchResult result
-        (λ found. with_def (place_of kind name.now policy.now) policy.now next ≡ next found.0 (line_shown found.1) (def_shown found.2))
-        (λ fault. with_def (place_of kind name.now policy.now) policy.now next ≡ Err fault) }
-    ensures found { IfOk result (λ found. IsDefAt kind name.now policy.now found.0 (line_shown found.1) (def_shown found.2)) }
+) -> Result<(FilePlace, Line<'a>, Def<'a>), EditFault>
+    ensures found { IfOk result (λ found. IsDefIn kind name.now policy.now found.0 (line_shown found.1) (def_shown found.2)) }
+    ensures refused { IfErr result (λ fault. (next : List LineOf → PlaceOf → LineOf → DefOf → Result Lines Refusal)
+        → at_alias kind name.now policy.now (λ place lines. with_def (Some place) lines (next lines)) ≡ Err fault) }
 {
     let Some(place) = policy.definition(kind, name) else {
         return Err(EditFault::NoAlias);
     };
-    let Some(line) = line_at(policy, place.line) else {
+    let Some(line) = policy.line(place.file, place.line) else {
         return Err(EditFault::NoAlias);
     };
     let Node::Alias { defs, .. } = line.node else {
@@ -202,19 +217,32 @@ fn def_at<'a>(
 }
 
 /// Returns the line of a number, and its definitions.
-fn defs_at(policy: &OneFile, number: usize) -> Result<(Line<'_>, Rows<'_, DefRow>), EditFault>
+fn defs_at<'a>(
+    lines: &Rows<'a, LineRow>,
+    number: usize,
+) -> Result<(Line<'a>, Rows<'a, DefRow>), EditFault>
     ensures outcome { (next : LineOf → List DefOf → Result Lines Refusal) → MatchResult result
-        (λ found. with_defs number policy.now next ≡ next (line_shown found.0) (defs_shown found.1))
-        (λ fault. with_defs number policy.now next ≡ Err fault) }
-    ensures found { IfOk result (λ found. (slice_get policy.now number ≡ Some (line_shown found.0))
+        (λ found. with_defs number (lines_shown lines.now) next ≡ next (line_shown found.0) (defs_shown found.1))
+        (λ fault. with_defs number (lines_shown lines.now) next ≡ Err fault) }
+    ensures found { IfOk result (λ found. (slice_get (lines_shown lines.now) number ≡ Some (line_shown found.0))
         × (defs_of (line_shown found.0).node ≡ Some (defs_shown found.1))) }
 {
-    let Some(line) = line_at(policy, number) else {
+    let Some(line) = line_in(lines, number) else {
         return Err(EditFault::NoLine);
     };
     match line.node {
         Node::Alias { defs, .. } => Ok((line, defs)),
         _ => Err(EditFault::NoAlias),
+    }
+}
+
+/// Returns the line of a number.
+fn line_in<'a>(lines: &Rows<'a, LineRow>, number: usize) -> Option<Line<'a>>
+    ensures { option_map line_shown result ≡ slice_get (lines_shown lines.now) number }
+{
+    match lines.rows.get(number) {
+        Some(row) => Some(Line::of(lines.tables, row)),
+        None => None,
     }
 }
 
@@ -229,9 +257,9 @@ fn put_in(
 ) -> Result<Vec<u8>, EditFault>
     requires { from ≤ length (line_shown old.now).text }
     ensures put { IfOk result (λ text. PutIn among at from splice.now (line_shown old.now) text.items) }
-    ensures outcome { (n : ℕ) (policy : List LineOf) → MatchResult result
-        (λ text. with_more among at from n splice.now (line_shown old.now) policy ≡ changed_or_refusal n text.items (texts policy))
-        (λ fault. Refuses fault (with_more among at from n splice.now (line_shown old.now) policy)) }
+    ensures outcome { (n : ℕ) (lines : List LineOf) → MatchResult result
+        (λ text. with_more among at from n splice.now (line_shown old.now) lines ≡ with_changed n text.items (texts lines))
+        (λ fault. Refuses fault (with_more among at from n splice.now (line_shown old.now) lines)) }
 {
     let text = line_with(alloc, old.text, from, splice)?;
     let Some(new) = read_line(alloc, text.as_slice())? else {
@@ -257,9 +285,9 @@ pub fn cut_out(
 ) -> Result<Vec<u8>, EditFault>
     requires { (from ≤ to) × (to ≤ length old.now) }
     ensures cut { IfOk result (λ text. CutOut among at from to (record { text = old.now; node = node_shown says.now }) text.items) }
-    ensures outcome { (n : ℕ) (policy : List LineOf) → MatchResult result
-        (λ text. with_less among at from to n (record { text = old.now; node = node_shown says.now }) policy ≡ changed_or_refusal n text.items (texts policy))
-        (λ fault. Refuses fault (with_less among at from to n (record { text = old.now; node = node_shown says.now }) policy)) }
+    ensures outcome { (n : ℕ) (lines : List LineOf) → MatchResult result
+        (λ text. with_less among at from to n (record { text = old.now; node = node_shown says.now }) lines ≡ with_changed n text.items (texts lines))
+        (λ fault. Refuses fault (with_less among at from to n (record { text = old.now; node = node_shown says.now }) lines)) }
 {
     let text = line_without(alloc, old, from, to)?;
     let Some(new) = read_line(alloc, text.as_slice())? else {
@@ -272,50 +300,53 @@ pub fn cut_out(
     Ok(text)
 }
 
-/// Plans a line changed that reads as it should.
+/// Plans a line of a file changed that reads as it should.
 fn line_replaced(
-    policy: &OneFile,
+    policy: &Policy,
+    file: usize,
     at: usize,
     text: Vec<u8>,
     inverse: Edits,
 ) -> Result<Plan, EditFault>
-    requires { at < length policy.now }
-    ensures { (edit : AnEdit) → Replaces edit inverse (texts policy.now) at text.items → Plans edit (texts policy.now) result }
+    requires { at < length (lines_of policy.now.files file) }
+    ensures { (edit back : AnEdit) → ReplacesIn edit back inverse policy.now file at text.items → Plans edit policy.now result }
 {
-    is_sound(policy);
-    reads_lines();
-    line_alone_is_whole();
+    policy.is_loaded();
+    file_is_sound(policy);
     whole_line_is();
     if text.len() > LINE_LIMIT {
         return Err(EditFault::TooLarge);
     }
-    if leaves_open(policy, at, text.as_slice()) {
+    if leaves_open(policy, file, at, text.as_slice()) {
         return Err(EditFault::OpenLine);
     }
     let text = Text::from_vec(text);
-    Ok(Plan::swap(policy.allocator(), at, text, inverse)?)
+    Ok(swap(policy.allocator(), file, at, text, inverse)?)
 }
 
-/// Returns whether a line without LF would stand before another once the text stands in the place of a line.
-fn leaves_open(policy: &OneFile, at: usize, text: &[u8]) -> bool
-    requires { at < length policy.now }
-    ensures { result ≡ has_unended_inside (replaced at text.now (texts policy.now)) }
+/// Returns whether a line without LF would stand before another once the text stands in the place of a line of a file.
+fn leaves_open(policy: &Policy, file: usize, at: usize, text: &[u8]) -> bool
+    requires { at < length (lines_of policy.now.files file) }
+    ensures { result ≡ has_unended_inside (replaced at text.now (texts_of policy.now file)) }
 {
-    is_sound(policy);
+    file_is_sound(policy);
     if ends_in_lf(text) {
         return false;
     }
-    policy.len() - at > 1
+    policy.len(file) - at > 1
 }
 
-/// A law: the lines of a policy are known from what they say.
-#[tactic(auto, using(crate::proofs::WithinLemmas::known_ascend))]
-fn is_known(policy: &OneFile)
-    ensures { IsKnown policy.now }
+/// A law: the lines of loaded files are known from what they say.
+fn lines_are_known()
+    ensures { (files : List NamedFileOf) (policy : Loaded) → load_of files ≡ Ok policy → (file : ℕ) → AreKnown (lines_of policy.files file) }
 {
-    is_sound(policy);
-    policy.is_policy();
-    definitions_ascend();
-    lines_are_said();
+    loaded_lines_are_said();
+    loaded_files_are_cut();
+    lines_stand_alone();
     line_alone_size();
+    line_alone_is_whole();
+    outcome_is();
+    one_reading();
+    no_fault();
+    definitions_ascend();
 }

@@ -1,19 +1,20 @@
 //! What takes an edit back: edits, or the changes that do the same at once.
-ghost use Rattle.std.specs.Prelude.{◌≡◌, ◌<◌, ◌+◌, ◌^◌, List, [], length, slice_index_or, Some, IfOk, IfErr, OnOk, OnErr};
-ghost use Rattle.sudoers_tree.specs.Changed.{AreInOrder, changed, place_of};
-ghost use Rattle.sudoers_tree.specs.declared.line_change.LineChange.{LineChange as LineChangeOf};
+ghost use Rattle.std.specs.Prelude.{◌≡◌, ◌<◌, ◌+◌, ◌^◌, List, [], length, Ok, Some, IfOk, IfErr, OnOk, OnErr, slice_index_or};
+ghost use Rattle.sudoers_tree.specs.Changed.{file_of, place_of};
+ghost use Rattle.sudoers_tree.specs.ChangedFiles.{CanBeMade, files_changed};
+ghost use Rattle.sudoers_tree.specs.Files.{lines_of};
+ghost use Rattle.sudoers_tree.specs.Load.{Loaded, files_of, load_of};
 ghost use Rattle.sudoers_tree.specs.Policy.{texts};
-ghost use Rattle.sudoers_edit.specs.Editing.{Lines, run};
-ghost use Rattle.sudoers_edit.specs.internal.Undone.{undone, one_undone, ChangesBack, LeadsBack};
+ghost use Rattle.sudoers_tree.specs.declared.line_change.LineChange.{LineChange as LineChangeOf};
+ghost use Rattle.sudoers_edit.specs.files.Editing.{line_at as the_line_at, run};
+ghost use Rattle.sudoers_edit.specs.internal.FileUndone.{ChangesBack, LeadsBack, undone};
+ghost use Rattle.sudoers_edit.specs.internal.UndoneLines.{one_undone};
 
 use crate::fault::EditFault;
 use crate::making::make;
-use crate::plan::is_sound;
-use crate::pruning::places_fit;
 use std::alloc::AllocError;
 use sudoers_edit_script::{Edits, Text};
-use sudoers_tree::laws::{changed_by_first, lines_are_whole};
-use sudoers_tree::{Items, LineChange, OneFile};
+use sudoers_tree::{Items, LineChange, Policy};
 
 /// What takes an edit back: its inverse edits, and the changes that do the same at once, if they are more than one edit.
 #[derive(Drop)]
@@ -22,19 +23,22 @@ pub struct Back {
     pub changes: Option<Items<LineChange>>,
 }
 
-/// Returns the changes that take `changes` back, which are made of the lines of `policy`.
+/// Returns the changes that take `changes` back, which are made of the files of `policy`.
 pub fn changes_back(
-    policy: &OneFile,
+    policy: &Policy,
     changes: &[LineChange],
 ) -> Result<Items<LineChange>, AllocError>
-    requires { AreInOrder 0 changes.now (length policy.now) }
-    ensures { IfOk result (λ back. back ≡ undone (texts policy.now) changes.now) }
+    requires { CanBeMade changes.now policy.now.files }
+    ensures { IfOk result (λ back. back ≡ undone policy.now.files changes.now) }
 {
-    places_fit(policy);
     let alloc = policy.allocator();
     let mut back = Vec::with_capacity(alloc, changes.len())?;
-    let (mut put, mut taken) = (0, 0);
+    let (mut last, mut put, mut taken) = (0, 0, 0);
     for change in changes {
+        let file = file_of(change);
+        if file != last {
+            (last, put, taken) = (file, 0, 0);
+        }
         back.push(change_back(policy, change, put, taken)?)?;
         match change {
             LineChange::Put { .. } => put += 1,
@@ -45,25 +49,33 @@ pub fn changes_back(
     Ok(Items::from_vec(back))
 }
 
-/// A law: what takes changes back leads to the lines before them.
-pub fn changes_lead_back(policy: &OneFile)
-    ensures { (changes : List LineChangeOf) (new : Lines) → AreInOrder 0 changes (length policy.now) → new ≡ changed changes (texts policy.now)
-        → ChangesBack (undone (texts policy.now) changes) new (texts policy.now) }
+/// A law: what takes changes back leads to the files before them.
+pub fn changes_lead_back()
+    ensures { (policy new : Loaded) (changes : List LineChangeOf) → load_of (files_of policy) ≡ Ok policy → CanBeMade changes policy.files
+        → load_of (files_changed changes policy.files) ≡ Ok new → ChangesBack (undone policy.files changes) new policy }
 {
-    is_sound(policy);
-    lines_are_whole(policy);
-    changed_by_first();
 }
 
-/// Returns the change that takes `change` back, where `put` lines were put in and `taken` lines taken out before.
+/// Returns the number of the file whose line a change is of.
+fn file_of(change: &LineChange) -> usize
+    ensures { result ≡ file_of change.now }
+{
+    match change {
+        LineChange::Put { file, .. }
+        | LineChange::Swap { file, .. }
+        | LineChange::Take { file, .. } => *file,
+    }
+}
+
+/// Returns the change that takes `change` back, where `put` lines were put into its file and `taken` lines taken out before.
 fn change_back(
-    policy: &OneFile,
+    policy: &Policy,
     change: &LineChange,
     put: usize,
     taken: usize,
 ) -> Result<LineChange, AllocError>
     requires { place_of change.now + put < 2 ^ 64 }
-    ensures { IfOk result (λ back. back ≡ one_undone put taken (texts policy.now) change.now) }
+    ensures { IfOk result (λ back. back ≡ one_undone put taken (texts (lines_of policy.now.files (file_of change.now))) change.now) }
 {
     let alloc = policy.allocator();
     match change {
@@ -74,35 +86,34 @@ fn change_back(
         LineChange::Swap { file, at, .. } => Ok(LineChange::Swap {
             file: *file,
             at: (*at + put).saturating_sub(taken),
-            text: Text::from_slice(alloc, line_at(policy, *at))?,
+            text: Text::from_slice(alloc, line_at(policy, *file, *at))?,
         }),
         LineChange::Take { file, at } => Ok(LineChange::Put {
             file: *file,
             at: (*at + put).saturating_sub(taken),
-            text: Text::from_slice(alloc, line_at(policy, *at))?,
+            text: Text::from_slice(alloc, line_at(policy, *file, *at))?,
         }),
     }
 }
 
-/// Returns the line with the number `at`; no bytes if there is none.
-fn line_at(policy: &OneFile, at: usize) -> &[u8]
-    ensures { result.now ≡ slice_index_or (texts policy.now) at [] }
+/// Returns the line with the number `at` of a file; no bytes if there is none.
+fn line_at(policy: &Policy, file: usize, at: usize) -> &[u8]
+    ensures { result.now ≡ the_line_at file at policy.now }
 {
-    match policy.line(at) {
-        Some(line) => line,
+    match policy.line(file, at) {
+        Some(line) => line.text,
         None => &[],
     }
 }
 
 /// Takes an edit back by its inverse edits, or by the changes that do the same at once.
 pub fn take_back(
-    policy: &mut OneFile,
+    policy: &mut Policy,
     inverse: &Edits,
     changes: &Option<Items<LineChange>>,
 ) -> Result<(), EditFault>
-    requires { (before : Lines) × LeadsBack changes.now inverse.now (texts policy.old) before
-        × (run inverse.now (texts policy.old) ≡ Some before) }
-    ensures made { OnOk result (run inverse.now (texts policy.old) ≡ Some (texts policy.new)) }
+    requires { (before : Loaded) × LeadsBack changes.now inverse.now policy.old before × (run inverse.now policy.old ≡ Some before) }
+    ensures made { OnOk result (run inverse.now policy.old ≡ Some policy.new) }
     ensures refused { IfErr result (λ fault. fault ≡ EditFault.NoMemory) }
     ensures unchanged { OnErr result (policy.new ≡ policy.old) }
 {

@@ -23,8 +23,8 @@ use Rattle.sudoers_edit_script.specs.declared.edit.Edit.TheVariants.{Insert, Del
 use Rattle.sudoers_edit.specs.declared.fault.EditFault.{EditFault}
 use Rattle.sudoers_edit.specs.declared.fault.EditFault.TheVariants.{NoFile, NoAlias, NoMemory}
 use Rattle.sudoers_edit.specs.declared.editor.Entry.{Entry}
-use Rattle.sudoers_edit.specs.declared.files.pruning.Removal.{Removal}
-use Rattle.sudoers_edit.specs.declared.files.pruning.Removal.TheVariants as removal
+use Rattle.sudoers_edit.specs.declared.pruning.Removal.{Removal}
+use Rattle.sudoers_edit.specs.declared.pruning.Removal.TheVariants as removal
 
 -- LINES OF ONE FILE
 

@@ -5,21 +5,34 @@ use Rattle.sudoers_text.specs.Ended.{has_unended_inside}
 use Rattle.sudoers_tree.specs.declared.load.NamedFile.{NamedFile}
 use Rattle.sudoers_tree.specs.declared.load_fault.LoadFault.{LoadFault}
 use Rattle.sudoers_tree.specs.declared.load_fault.LoadFault.TheVariants as load
+use Rattle.sudoers_text.specs.declared.fault.TextFault.TheVariants as text
+use Rattle.sudoers_tree.specs.declared.fault.ReadFault.TheVariants as read
 use Rattle.sudoers_tree.specs.Load.{Loaded, files_of, load_of}
 use Rattle.sudoers_edit.specs.Landing.{refuse_if}
-use Rattle.sudoers_edit.specs.internal.ReadFaults.{edit_of_read}
 use Rattle.sudoers_edit.specs.declared.fault.EditFault.{EditFault}
-use Rattle.sudoers_edit.specs.declared.fault.EditFault.TheVariants.{OpenLine, NoMemory}
+use Rattle.sudoers_edit.specs.declared.fault.EditFault.TheVariants.{OpenLine, TooLarge, NotPolicy, NoMemory}
 
 abbrev pub Lines : Type 0
 Lines = List (List ℕ)
 
--- a fault of loading as the refusal of an edit; the names of files do not change, so that no edit meets the faults of names
+-- A fault of loading as the refusal of an edit. A text past its limit is one fault, in whichever file, and so is want of memory.
 abbrev pub edit_of_load : LoadFault → EditFault
-edit_of_load (load.InFile name fault) = edit_of_read fault
-edit_of_load load.TooManyFiles = NoMemory
-edit_of_load (load.SameName name) = NoMemory
 edit_of_load load.NoMemory = NoMemory
+edit_of_load load.TooManyFiles = NotPolicy load.TooManyFiles
+edit_of_load (load.SameName name) = NotPolicy (load.SameName name)
+edit_of_load (load.InFile name (read.Text text.TooLarge)) = TooLarge
+edit_of_load (load.InFile name (read.Text (text.LineTooLong line))) = NotPolicy (load.InFile name (read.Text (text.LineTooLong line)))
+edit_of_load (load.InFile name (read.Text (text.Nul at))) = NotPolicy (load.InFile name (read.Text (text.Nul at)))
+edit_of_load (load.InFile name (read.Text text.OpenContinuation)) = NotPolicy (load.InFile name (read.Text text.OpenContinuation))
+edit_of_load (load.InFile name (read.Text text.NoMemory)) = NotPolicy (load.InFile name (read.Text text.NoMemory))
+edit_of_load (load.InFile name (read.Syntax line col why)) = NotPolicy (load.InFile name (read.Syntax line col why))
+edit_of_load (load.InFile name (read.Reserved kind alias)) = NotPolicy (load.InFile name (read.Reserved kind alias))
+edit_of_load (load.InFile name (read.Duplicate kind alias)) = NotPolicy (load.InFile name (read.Duplicate kind alias))
+edit_of_load (load.InFile name (read.TooMany kind)) = NotPolicy (load.InFile name (read.TooMany kind))
+edit_of_load (load.InFile name (read.NotLoaded line other)) = NotPolicy (load.InFile name (read.NotLoaded line other))
+edit_of_load (load.InFile name (read.Twice line other)) = NotPolicy (load.InFile name (read.Twice line other))
+edit_of_load (load.InFile name (read.TooDeep line)) = NotPolicy (load.InFile name (read.TooDeep line))
+edit_of_load (load.InFile name read.NoMemory) = NotPolicy (load.InFile name read.NoMemory)
 
 -- what follows for what there is, or its refusal
 abbrev pub and_then : {A B : Type 0} → Result A EditFault → (A → Result B EditFault) → Result B EditFault

@@ -6,8 +6,8 @@ use Rattle.sudoers_tree.specs.Definition.{Definition, definitions_in}
 use Rattle.sudoers_tree.specs.Walk.{Walked, spot_at}
 use Rattle.sudoers_tree.specs.declared.place.Spot.{Spot}
 use Rattle.sudoers_check.specs.Led.{is_unused}
-use Rattle.sudoers_edit.specs.declared.files.pruning.Removal.{Removal}
-use Rattle.sudoers_edit.specs.declared.files.pruning.Removal.TheVariants as removal
+use Rattle.sudoers_edit.specs.declared.pruning.Removal.{Removal}
+use Rattle.sudoers_edit.specs.declared.pruning.Removal.TheVariants as removal
 use Rattle.sudoers_edit_script.specs.declared.edit.Edit.{Edit}
 use Rattle.sudoers_edit_script.specs.declared.edit.Edit.TheVariants.{Delete, DropDef}
 

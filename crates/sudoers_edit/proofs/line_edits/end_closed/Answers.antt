@@ -1,72 +1,83 @@
-use Rattle.std.proofs.Common.{◌≡◌, ◌∙◌, ◌-◌, ◌<◌, ◌∷◌, ◌++◌, [], List, ℕ, length, true, false, Some, None, ap, sym, subst, inr}
-use Rattle.std.specs.Prelude.{slice_get}
+use Rattle.std.proofs.Common.{◌≡◌, ◌∙◌, ◌-◌, ◌<◌, ◌∷◌, ◌++◌, [], List, ℕ, length, false, ap, sym, subst, inr, arith}
 use Rattle.sudoers_text.specs.Line.{join}
-use Rattle.sudoers_text.specs.Ended.{ends_in_lf}
 use Rattle.sudoers_text.specs.Whole.{IsLogicalLine}
 use Rattle.sudoers_tree.specs.Changed.{replaced}
-use Rattle.sudoers_tree.specs.Policy.{texts}
+use Rattle.sudoers_tree.specs.Load.{Loaded}
 use Rattle.sudoers_edit_script.specs.declared.edit.Edit.TheVariants.{EndLine, OpenEnd}
 use Rattle.sudoers_edit.specs.OneLine.{is_one_line}
-use Rattle.sudoers_edit.specs.internal.Leading.{LeadsTo}
-use Rattle.sudoers_edit.proofs.LastLemmas.{no_end, end_as_is, end_too_long, end_leads, text_ended, last_within, unread, unread_refused}
+use Rattle.sudoers_edit.specs.internal.LeadingInFile.{LandsIn, texts_of}
+use Rattle.sudoers_edit.proofs.files.EndLemmas.{LacksEnd, closed_lines, closed_text, end_as_is, end_lands, end_one, end_too_long, last_within, no_end, refused_end, unloaded}
 use Rattle.sudoers_edit.proofs.line_edits.end_closed.Goals as goal
 
 pub returns-in_default : goal.returns-in_default
 returns-in_default c =
-    let ls : List (List ℕ) = texts c.args.policy.now in
-    let none : slice_get ls (length ls - 1) ≡ None = sym c.in_default.ensures in
-    inr ((no_end ls none).0)
+    inr (no_end c.args.policy.now c.args.file (omega (arith, c.if-number-files.false, c.files.ensures)) (sym c.in_default.ensures)).0
 
 pub returns-then-ends_in_lf : goal.returns-then-ends_in_lf
 returns-then-ends_in_lf c =
-    let ls : List (List ℕ) = texts c.args.policy.now in
-    let line : List ℕ = c.in-Some.last.now in
-    let here : slice_get ls (length ls - 1) ≡ Some line = sym c.in-Some.ensures in
-    let has : ends_in_lf line ≡ true = sym c.ends_in_lf.ensures ∙ c.if-ends_in_lf.true in
-    inr (end_as_is ls line here has)
+    inr (end_as_is c.args.policy.now c.args.file c.in-Some.last.now (omega (arith, c.if-number-files.false, c.files.ensures)) (sym c.in-Some.ensures)
+    (sym c.ends_in_lf.ensures ∙ c.if-ends_in_lf.true))
 
 pub returns-then-last-ge-LINE_LIMIT : goal.returns-then-last-ge-LINE_LIMIT
 returns-then-last-ge-LINE_LIMIT c =
-    let ls : List (List ℕ) = texts c.args.policy.now in
-    let line : List ℕ = c.in-Some.last.now in
-    let here : slice_get ls (length ls - 1) ≡ Some line = sym c.in-Some.ensures in
-    let lacks : ends_in_lf line ≡ false = sym c.ends_in_lf.ensures ∙ c.if-ends_in_lf.false in
-    inr (end_too_long ls line here lacks c.if-last-ge-LINE_LIMIT.true)
+    inr (end_too_long c.args.policy.now c.args.file c.in-Some.last.now (omega (arith, c.if-number-files.false, c.files.ensures)) (sym c.in-Some.ensures)
+    (sym c.ends_in_lf.ensures ∙ c.if-ends_in_lf.false) c.if-last-ge-LINE_LIMIT.true)
 
 pub refusal-requires : goal.refusal-requires
 refusal-requires c =
-    let ls : List (List ℕ) = texts c.args.policy.now in
+    let policy : Loaded = c.args.policy.now in
+    let f : ℕ = c.args.file in
     let line : List ℕ = c.in-Some.last.now in
-    let here : slice_get ls (length ls - 1) ≡ Some line = sym c.in-Some.ensures in
-    let leads = end_leads c.stays_cut.ensures ls line c.is_sound.ensures here (sym c.ends_in_lf.ensures ∙ c.if-ends_in_lf.false) c.if-last-ge-LINE_LIMIT.false in
+    let lacks : LacksEnd policy f line = record {
+      here = omega (arith, c.if-number-files.false, c.files.ensures);
+      sound = c.file_is_sound.ensures f;
+      last = sym c.in-Some.ensures;
+      lacks = sym c.ends_in_lf.ensures ∙ c.if-ends_in_lf.false;
+      short = c.if-last-ge-LINE_LIMIT.false;
+    } in
     let new : c.as_slice.result.now ≡ line ++ 10 ∷ [] = c.as_slice.ensures.value ∙ c.in_ok-push.ensures.items ∙ ap (λ (t : List ℕ). t ++ 10 ∷ []) c.in_ok-text.ensures.items in
-    let open_ : is_one_line (line ++ 10 ∷ []) ≡ false = ap is_one_line (sym new) ∙ sym c.in_ok-is_one_line.ensures.is ∙ c.if-not-branch.true in
-    let whole : c.as_slice-then-not-branch.result.now ≡ join ls ++ 10 ∷ [] =
-    c.as_slice-then-not-branch.ensures.value ∙ c.in_ok-push-2.ensures.items ∙ ap (λ (t : List ℕ). t ++ 10 ∷ []) c.in_ok-whole.ensures in
-    unread (EndLine 0) (OpenEnd 0 ∷ []) ls (length ls - 1) (line ++ 10 ∷ []) c.as_slice-then-not-branch.result.now leads (last_within ls line here) open_ (whole ∙ text_ended ls line here)
+    let not_one : is_one_line (line ++ 10 ∷ []) ≡ false = ap is_one_line (sym new) ∙ sym c.in_ok-is_one_line.ensures.is ∙ c.if-not-branch.true in
+    let whole : c.push-then-not-branch.new.self.items ≡ join (texts_of policy f) ++ 10 ∷ [] =
+    c.in_ok-push-2.ensures.items ∙ ap (λ (t : List ℕ). t ++ 10 ∷ []) c.in_ok-whole.ensures in
+    unloaded policy f (closed_lines policy f line) c.push-then-not-branch.new.self.items (line ++ 10 ∷ []) (end_one c.ends_stay_cut.ensures policy f line lacks) not_one
+    (whole ∙ closed_text c.ends_stay_cut.ensures policy f line lacks)
 
 pub returns-then-not-branch : goal.returns-then-not-branch
 returns-then-not-branch c =
-    let ls : List (List ℕ) = texts c.args.policy.now in
+    let policy : Loaded = c.args.policy.now in
+    let f : ℕ = c.args.file in
     let line : List ℕ = c.in-Some.last.now in
-    let here : slice_get ls (length ls - 1) ≡ Some line = sym c.in-Some.ensures in
-    let leads = end_leads c.stays_cut.ensures ls line c.is_sound.ensures here (sym c.ends_in_lf.ensures ∙ c.if-ends_in_lf.false) c.if-last-ge-LINE_LIMIT.false in
-    let whole : c.as_slice-then-not-branch.result.now ≡ join ls ++ 10 ∷ [] =
-    c.as_slice-then-not-branch.ensures.value ∙ c.in_ok-push-2.ensures.items ∙ ap (λ (t : List ℕ). t ++ 10 ∷ []) c.in_ok-whole.ensures in
-    unread_refused (EndLine 0) (OpenEnd 0 ∷ []) ls (replaced (length ls - 1) (line ++ 10 ∷ []) ls) c.as_slice-then-not-branch.result.now c.refusal.result leads
-    (whole ∙ text_ended ls line here) c.refusal.ensures
+    let lacks : LacksEnd policy f line = record {
+      here = omega (arith, c.if-number-files.false, c.files.ensures);
+      sound = c.file_is_sound.ensures f;
+      last = sym c.in-Some.ensures;
+      lacks = sym c.ends_in_lf.ensures ∙ c.if-ends_in_lf.false;
+      short = c.if-last-ge-LINE_LIMIT.false;
+    } in
+    let whole : c.push-then-not-branch.new.self.items ≡ join (texts_of policy f) ++ 10 ∷ [] =
+    c.in_ok-push-2.ensures.items ∙ ap (λ (t : List ℕ). t ++ 10 ∷ []) c.in_ok-whole.ensures in
+    refused_end (EndLine f) (OpenEnd f) (OpenEnd f ∷ []) policy f (closed_lines policy f line) c.push-then-not-branch.new.self.items c.refusal.result
+    (end_lands c.ends_stay_cut.ensures policy f line lacks) (whole ∙ closed_text c.ends_stay_cut.ensures policy f line lacks) c.refusal.ensures
 
 pub returns : goal.returns
 returns c =
-    let ls : List (List ℕ) = texts c.args.policy.now in
+    let policy : Loaded = c.args.policy.now in
+    let f : ℕ = c.args.file in
     let line : List ℕ = c.in-Some.last.now in
-    let here : slice_get ls (length ls - 1) ≡ Some line = sym c.in-Some.ensures in
-    let leads = end_leads c.stays_cut.ensures ls line c.is_sound.ensures here (sym c.ends_in_lf.ensures ∙ c.if-ends_in_lf.false) c.if-last-ge-LINE_LIMIT.false in
+    let ls : List (List ℕ) = texts_of policy f in
+    let lacks : LacksEnd policy f line = record {
+      here = omega (arith, c.if-number-files.false, c.files.ensures);
+      sound = c.file_is_sound.ensures f;
+      last = sym c.in-Some.ensures;
+      lacks = sym c.ends_in_lf.ensures ∙ c.if-ends_in_lf.false;
+      short = c.if-last-ge-LINE_LIMIT.false;
+    } in
     let new : c.as_slice.result.now ≡ line ++ 10 ∷ [] = c.as_slice.ensures.value ∙ c.in_ok-push.ensures.items ∙ ap (λ (t : List ℕ). t ++ 10 ∷ []) c.in_ok-text.ensures.items in
     let put : c.from_vec.result ≡ line ++ 10 ∷ [] = c.from_vec.ensures ∙ sym c.as_slice.ensures.value ∙ new in
     let one : IsLogicalLine c.from_vec.result = subst IsLogicalLine (new ∙ sym put) (c.in_ok-is_one_line.ensures.whole c.if-not-branch.false) in
-    let there : LeadsTo (EndLine 0) c.in_ok-inverse.inverse ls (replaced (length ls - 1) (line ++ 10 ∷ []) ls) =
-    subst (λ i. LeadsTo (EndLine 0) i ls (replaced (length ls - 1) (line ++ 10 ∷ []) ls)) (sym c.in_ok-inverse.ensures) leads in
-    c.in_ok-swap.ensures (EndLine 0) ls (subst (λ n. n < length ls) (sym c.last_place.ensures) (last_within ls line here)) one
-    (subst (λ n. LeadsTo (EndLine 0) c.in_ok-inverse.inverse ls (replaced n c.from_vec.result ls)) (sym c.last_place.ensures)
-    (subst (λ t. LeadsTo (EndLine 0) c.in_ok-inverse.inverse ls (replaced (length ls - 1) t ls)) (sym put) there))
+    let lands : LandsIn (EndLine f) (OpenEnd f) c.in_ok-inverse.inverse policy f (closed_lines policy f line) =
+    subst (λ i. LandsIn (EndLine f) (OpenEnd f) i policy f (closed_lines policy f line)) (sym c.in_ok-inverse.ensures) (end_lands c.ends_stay_cut.ensures policy f line lacks) in
+    c.in_ok-swap.ensures (EndLine f) (OpenEnd f) policy c.is_loaded.ensures
+    (subst (λ n. n < length ls) (sym c.last_place-at.ensures) (last_within policy f line lacks.last)) one
+    (subst (λ n. LandsIn (EndLine f) (OpenEnd f) c.in_ok-inverse.inverse policy f (replaced n c.from_vec.result ls)) (sym c.last_place-at.ensures)
+    (subst (λ t. LandsIn (EndLine f) (OpenEnd f) c.in_ok-inverse.inverse policy f (replaced (length ls - 1) t ls)) (sym put) lands))

@@ -2,18 +2,18 @@ use Rattle.std.proofs.Common.{◌≡◌, ◌∙◌, Bool, true, false, not, ◌|
 use Rattle.std.specs.List.{list_any}
 use Rattle.std.specs.Option.{is_some as is_there}
 use Rattle.sudoers_text.specs.Word.{is_name, is_reserved}
+use Rattle.sudoers_line.specs.declared.node.Kind.{Kind}
+use Rattle.sudoers_tree.specs.Changed.{brought}
 use Rattle.sudoers_tree.specs.declared.place.Place.{Place}
 use Rattle.sudoers_tree.specs.Definition.{place_of}
 use Rattle.sudoers_tree.specs.Fault.{is_some}
-use Rattle.sudoers_tree.specs.Policy.{texts}
+use Rattle.sudoers_tree.specs.Line.{Line}
 use Rattle.sudoers_edit_script.specs.declared.edit.Edit.{Edit}
 use Rattle.sudoers_edit_script.specs.declared.edit.Edit.TheVariants.{Rename}
 use Rattle.sudoers_edit.specs.Landing.{is_too_long}
-use Rattle.sudoers_edit.specs.Renaming.{renamed}
-use Rattle.sudoers_edit.specs.internal.Leading.{Leads}
-use Rattle.sudoers_edit.proofs.RenameLemmas.{no_alias, bad_name, name_taken, too_long, rename_step}
-use Rattle.sudoers_edit.proofs.RenameSteps.{definable}
-use Rattle.sudoers_edit.proofs.SwapLemmas.{long_same}
+use Rattle.sudoers_edit.specs.Renaming.{is_taken, renamed}
+use Rattle.sudoers_edit.specs.internal.FileLeading.{Leads}
+use Rattle.sudoers_edit.proofs.files.RenameLeads.{no_alias, bad_name, name_taken, too_long, definable}
 use Rattle.sudoers_edit.proofs.renaming.alias_renamed.Goals as goal
 use Rattle.sudoers_edit.proofs.renaming.alias_renamed.Goals.{then-not-is_name-via-then-not-is_name, then-not-is_name-via-else-not-is_name+then-is_reserved}
 
@@ -21,8 +21,10 @@ there : (o : Option Place) → is_some o ≡ is_there o
 there None = refl
 there (Some p) = refl
 
-defined : (o p : Option Place) (b : Bool) → o ≡ p → is_there o ≡ b → is_some p ≡ b
-defined o p b same is = ap is_some (sym same) ∙ there o ∙ is
+-- whether the alias is defined, by what the walk says
+defined : (k : Kind) (name : List ℕ) (walk lines : List Line) (o : Option Place) (b : Bool) → walk ≡ lines → o ≡ place_of k name walk → is_there o ≡ b
+    → is_some (place_of k name lines) ≡ b
+defined k name walk lines o b walk_is same is = ap (λ ls. is_some (place_of k name ls)) (sym walk_is) ∙ ap is_some (sym same) ∙ there o ∙ is
 
 no_name : (a b : Bool) → a ≡ false → (not a || b) ≡ true
 no_name a b is = rw is refl
@@ -35,16 +37,17 @@ free a b is not_so = rw (is, not_so) refl
 
 pub returns-then-is_none : goal.returns-then-is_none
 returns-then-is_none c =
-    inr (rename_step c.args.kind c.args.name.now c.args.fresh.now c.args.policy.now c.renames_lead.ensures.read
-    ∙ no_alias c.args.kind c.args.name.now c.args.fresh.now c.args.policy.now
-    (defined c.definition.result (place_of c.args.kind c.args.name.now c.args.policy.now) false c.definition.ensures c.if-is_none.ensures))
+    inr (no_alias c.args.kind c.args.name.now c.args.fresh.now c.args.policy.now
+    (defined c.args.kind c.args.name.now c.walk-walk.result c.args.policy.now.walk.lines c.definition.result false c.walk-walk.ensures c.definition.ensures
+    c.if-is_none.ensures))
 
 pub returns-then-not-is_name : goal.returns-then-not-is_name
 returns-then-not-is_name c =
-    let some = defined c.definition.result (place_of c.args.kind c.args.name.now c.args.policy.now) true c.definition.ensures c.if-is_none.ensures in
     let fresh : List ℕ = c.args.fresh.now in
-    inr (rename_step c.args.kind c.args.name.now fresh c.args.policy.now c.renames_lead.ensures.read
-    ∙ bad_name c.args.kind c.args.name.now fresh c.args.policy.now some (elim c.then-not-is_name.branch [
+    let some =
+    defined c.args.kind c.args.name.now c.walk-walk.result c.args.policy.now.walk.lines c.definition.result true c.walk-walk.ensures c.definition.ensures
+    c.if-is_none.ensures in
+    inr (bad_name c.args.kind c.args.name.now fresh c.args.policy.now some (elim c.then-not-is_name.branch [
       | then-not-is_name-via-then-not-is_name w ↦ no_name (is_name fresh) (is_reserved fresh) (sym c.is_name.ensures ∙ w.if-not-is_name.true)
       | then-not-is_name-via-else-not-is_name+then-is_reserved w ↦
           reserved (is_name fresh) (is_reserved fresh) (sym c.is_name.ensures ∙ w.if-not-is_name.false) (sym w.is_reserved.ensures ∙ w.if-is_reserved.true)
@@ -52,35 +55,42 @@ returns-then-not-is_name c =
 
 pub returns-then-branch : goal.returns-then-branch
 returns-then-branch c =
-    let some = defined c.definition.result (place_of c.args.kind c.args.name.now c.args.policy.now) true c.definition.ensures c.if-is_none.ensures in
     let fresh : List ℕ = c.args.fresh.now in
+    let some =
+    defined c.args.kind c.args.name.now c.walk-walk.result c.args.policy.now.walk.lines c.definition.result true c.walk-walk.ensures c.definition.ensures
+    c.if-is_none.ensures in
     let good = free (is_name fresh) (is_reserved fresh) (sym c.is_name.ensures ∙ c.if-not-is_name.false) (sym c.is_reserved.ensures ∙ c.if-is_reserved.false) in
-    inr (rename_step c.args.kind c.args.name.now fresh c.args.policy.now c.renames_lead.ensures.read
-    ∙ name_taken c.args.kind c.args.name.now fresh c.args.policy.now some good (sym c.in_ok-is_taken.ensures ∙ c.if-branch.true))
+    inr (name_taken c.args.kind c.args.name.now fresh c.args.policy.now some good
+    (ap (is_taken c.args.kind fresh) (sym c.walk-walk.ensures) ∙ sym c.in_ok-is_taken.ensures ∙ c.if-branch.true))
 
 pub returns-then-is_one_too_long : goal.returns-then-is_one_too_long
 returns-then-is_one_too_long c =
-    let some = defined c.definition.result (place_of c.args.kind c.args.name.now c.args.policy.now) true c.definition.ensures c.if-is_none.ensures in
     let name : List ℕ = c.args.name.now in
     let fresh : List ℕ = c.args.fresh.now in
+    let some =
+    defined c.args.kind name c.walk-walk.result c.args.policy.now.walk.lines c.definition.result true c.walk-walk.ensures c.definition.ensures c.if-is_none.ensures in
     let good = free (is_name fresh) (is_reserved fresh) (sym c.is_name.ensures ∙ c.if-not-is_name.false) (sym c.is_reserved.ensures ∙ c.if-is_reserved.false) in
-    let long : list_any is_too_long (renamed c.args.kind name fresh c.args.policy.now) ≡ true =
-    sym (long_same c.line_alone_size.ensures c.as_slice.result.now c.args.kind name fresh c.args.policy.now
-    (record { are = c.as_slice.ensures.value ∙ c.in_ok-changes.ensures; sound = c.renames_lead.ensures.sound }))
-    ∙ sym c.is_one_too_long.ensures ∙ c.if-is_one_too_long.true in
-    inr (rename_step c.args.kind name fresh c.args.policy.now c.renames_lead.ensures.read
-    ∙ too_long c.args.kind name fresh c.args.policy.now some good (sym c.in_ok-is_taken.ensures ∙ c.if-branch.false) long)
+    let untaken = ap (is_taken c.args.kind fresh) (sym c.walk-walk.ensures) ∙ sym c.in_ok-is_taken.ensures ∙ c.if-branch.false in
+    let long : list_any is_too_long (renamed c.args.kind name fresh c.args.policy.now.walk.lines) ≡ true =
+    sym (c.renames_lead.ensures.long c.args.kind name fresh c.args.policy.now c.is_loaded.ensures)
+    ∙ ap (λ changes. list_any is_too_long (brought changes)) (sym (c.as_slice.ensures.value ∙ c.in_ok-changes.ensures))
+    ∙ sym c.is_one_too_long.ensures
+    ∙ c.if-is_one_too_long.true in
+    inr (too_long c.args.kind name fresh c.args.policy.now some good untaken long)
 
 pub returns : goal.returns
 returns c =
-    let some = defined c.definition.result (place_of c.args.kind c.args.name.now c.args.policy.now) true c.definition.ensures c.if-is_none.ensures in
     let name : List ℕ = c.args.name.now in
     let fresh : List ℕ = c.args.fresh.now in
+    let some =
+    defined c.args.kind name c.walk-walk.result c.args.policy.now.walk.lines c.definition.result true c.walk-walk.ensures c.definition.ensures c.if-is_none.ensures in
     let good = free (is_name fresh) (is_reserved fresh) (sym c.is_name.ensures ∙ c.if-not-is_name.false) (sym c.is_reserved.ensures ∙ c.if-is_reserved.false) in
-    let short : list_any is_too_long (renamed c.args.kind name fresh c.args.policy.now) ≡ false =
-    sym (long_same c.line_alone_size.ensures c.as_slice.result.now c.args.kind name fresh c.args.policy.now
-    (record { are = c.as_slice.ensures.value ∙ c.in_ok-changes.ensures; sound = c.renames_lead.ensures.sound }))
-    ∙ sym c.is_one_too_long.ensures ∙ c.if-is_one_too_long.false in
-    subst (λ (inverse : List Edit). Leads (Rename c.args.kind name fresh) inverse (texts c.args.policy.now) c.in_ok-changes.changes.items) (sym c.in_ok-inverse.ensures)
-    (c.renames_lead.ensures.leads c.args.kind name fresh c.in_ok-changes.changes.items some (definable (is_name fresh) (is_reserved fresh) good)
-    (sym c.in_ok-is_taken.ensures ∙ c.if-branch.false) short c.in_ok-changes.ensures)
+    let untaken = ap (is_taken c.args.kind fresh) (sym c.walk-walk.ensures) ∙ sym c.in_ok-is_taken.ensures ∙ c.if-branch.false in
+    let short : list_any is_too_long (renamed c.args.kind name fresh c.args.policy.now.walk.lines) ≡ false =
+    sym (c.renames_lead.ensures.long c.args.kind name fresh c.args.policy.now c.is_loaded.ensures)
+    ∙ ap (λ changes. list_any is_too_long (brought changes)) (sym (c.as_slice.ensures.value ∙ c.in_ok-changes.ensures))
+    ∙ sym c.is_one_too_long.ensures
+    ∙ c.if-is_one_too_long.false in
+    subst (λ (inverse : List Edit). Leads (Rename c.args.kind name fresh) inverse c.args.policy.now c.in_ok-changes.changes.items) (sym c.in_ok-inverse.ensures)
+    (c.renames_lead.ensures.leads c.args.kind name fresh c.args.policy.now c.in_ok-changes.changes.items c.is_loaded.ensures some
+    (definable (is_name fresh) (is_reserved fresh) good) untaken short c.in_ok-changes.ensures)

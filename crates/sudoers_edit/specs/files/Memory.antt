@@ -1,0 +1,25 @@
+-- Where want of memory is told: as the fault `NoMemory`, and nowhere inside another.
+use Rattle.sudoers_text.specs.declared.fault.TextFault.TheVariants as text
+use Rattle.sudoers_tree.specs.declared.fault.ReadFault.{ReadFault}
+use Rattle.sudoers_tree.specs.declared.fault.ReadFault.TheVariants as read
+use Rattle.sudoers_tree.specs.declared.load_fault.LoadFault.{LoadFault}
+use Rattle.sudoers_tree.specs.declared.load_fault.LoadFault.TheVariants as load
+use Rattle.sudoers_edit.specs.declared.fault.EditFault.{EditFault}
+use Rattle.sudoers_edit.specs.declared.fault.EditFault.TheVariants as edit
+
+-- a fault that a text has: want of memory is none
+abbrev pub IsOfText : ReadFault → Type 0
+IsOfText read.NoMemory = ⊥
+IsOfText (read.Text text.NoMemory) = ⊥
+IsOfText fault = Unit {0}
+
+-- a fault that files have
+abbrev pub IsOfFiles : LoadFault → Type 0
+IsOfFiles load.NoMemory = ⊥
+IsOfFiles (load.InFile name fault) = IsOfText fault
+IsOfFiles fault = Unit {0}
+
+-- Want of memory is not told as a fault of the files to which an edit leads.
+abbrev pub TellsMemoryAlone : EditFault → Type 0
+TellsMemoryAlone (edit.NotPolicy fault) = IsOfFiles fault
+TellsMemoryAlone fault = Unit {0}

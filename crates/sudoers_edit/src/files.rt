@@ -1,8 +1,0 @@
-//! Edits over the files of a policy.
-
-mod line_edits;
-mod plan;
-mod prune_plan;
-mod pruning;
-mod renaming;
-mod splice_edits;
