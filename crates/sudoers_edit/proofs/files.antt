@@ -1,12 +1,15 @@
 -- Lemmas of edits over the files of a policy.
 pub mod DefLemmas
 pub mod EndLemmas
+pub mod HistoryLemmas
+pub mod JournalLemmas
 pub mod KnownLemmas
 pub mod LandLemmas
 pub mod LineLemmas
 pub mod MemberLemmas
 pub mod MoveLemmas
 pub mod PlanLemmas
+pub mod RedoLemmas
 pub mod RenameCovers
 pub mod RenameFiles
 pub mod RenameLaws

@@ -1,20 +1,21 @@
 -- Undone edits, and an edit that is taken back and then made again.
 use Rattle.std.proofs.Common.{◌≡◌, List, [], ◌∷◌, ◌++◌, Result, Ok, refl, sym, ap, ◌∙◌}
+use Rattle.sudoers_tree.specs.Load.{Loaded}
 use Rattle.sudoers_edit_script.specs.declared.edit.Edit.{Edit}
 use Rattle.sudoers_edit.specs.declared.editor.Entry.{Entry}
 use Rattle.sudoers_edit.specs.declared.fault.EditFault.{EditFault}
-use Rattle.sudoers_edit.specs.Editing.{Lines, Desk, step, inv}
-use Rattle.sudoers_edit.specs.Undoing.{TakesLast}
-use Rattle.sudoers_edit.specs.Redoing.{MakesAgain, undone_behind}
+use Rattle.sudoers_edit.specs.files.Editing.{Desk, step, inv}
+use Rattle.sudoers_edit.specs.files.Undoing.{TakesLast}
+use Rattle.sudoers_edit.specs.files.Redoing.{MakesAgain, undone_behind}
 
-abbrev desk : Lines → List Entry → List Edit → Desk
-desk lines journal undone = record { lines = lines; journal = journal; undone = undone }
+abbrev desk : Loaded → List Entry → List Edit → Desk
+desk lines journal undone = record { policy = lines; journal = journal; undone = undone }
 
-same_desk : (a b : Desk) → a.lines ≡ b.lines → a.journal ≡ b.journal → a.undone ≡ b.undone → a ≡ b
+same_desk : (a b : Desk) → a.policy ≡ b.policy → a.journal ≡ b.journal → a.undone ≡ b.undone → a ≡ b
 same_desk a b lines journal undone =
-    ap (λ z. desk z a.journal a.undone) lines ∙ ap (λ z. desk b.lines z a.undone) journal ∙ ap (λ z. desk b.lines b.journal z) undone
+    ap (λ z. desk z a.journal a.undone) lines ∙ ap (λ z. desk b.policy z a.undone) journal ∙ ap (λ z. desk b.policy b.journal z) undone
 
-abbrev ok : Lines → Result Lines EditFault
+abbrev ok : Loaded → Result Loaded EditFault
 ok lines = Ok lines
 
 abbrev entry : Edit → List Edit → Entry
@@ -26,10 +27,10 @@ redo_back old mid new taken made =
     let both : made.edit ∷ new.undone ≡ taken.last.edit ∷ old.undone = sym made.undone ∙ taken.undone in
     let edit : made.edit ≡ taken.last.edit = cc in
     let undone : new.undone ≡ old.undone = cc in
-    let leads : ok new.lines ≡ ok old.lines = sym made.forth ∙ ap (λ e. step e mid.lines) edit ∙ taken.forth in
-    let lines : new.lines ≡ old.lines = cc in
-    let last : entry made.edit (inv made.edit mid.lines) ≡ taken.last =
-    ap (λ e. entry e (inv e mid.lines)) edit ∙ ap (entry taken.last.edit) (sym taken.inverse_is) in
+    let leads : ok new.policy ≡ ok old.policy = sym made.forth ∙ ap (λ e. step e mid.policy) edit ∙ taken.forth in
+    let lines : new.policy ≡ old.policy = cc in
+    let last : entry made.edit (inv made.edit mid.policy) ≡ taken.last =
+    ap (λ e. entry e (inv e mid.policy)) edit ∙ ap (entry taken.last.edit) (sym taken.inverse_is) in
     let journal : new.journal ≡ old.journal = made.journal ∙ ap (λ e. mid.journal ++ e ∷ []) last ∙ sym taken.journal in
     same_desk new old lines journal undone
 
