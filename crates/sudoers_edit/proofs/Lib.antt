@@ -64,3 +64,6 @@ pub mod DropDef
 mod DropLaw
 mod ElsewhereLemmas
 mod PayloadLemmas
+mod PruneFileLists
+mod PruneFilePut
+mod PruneFileGoes

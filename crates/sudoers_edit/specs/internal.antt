@@ -9,3 +9,4 @@ pub mod Undone
 pub mod Drafts
 pub mod Elsewhere
 pub mod FileLeading
+pub mod FileDrafts

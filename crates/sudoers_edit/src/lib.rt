@@ -4,6 +4,7 @@
 mod alike;
 mod editor;
 mod fault;
+mod files;
 pub mod laws;
 mod line_edits;
 mod making;

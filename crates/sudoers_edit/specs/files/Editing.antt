@@ -17,12 +17,14 @@ use Rattle.sudoers_edit.specs.files.Landing.{Lines, and_then, landed}
 use Rattle.sudoers_edit.specs.files.LineEdits.{with_line, without_line, with_move, with_ended}
 use Rattle.sudoers_edit.specs.files.SpliceEdits.{add_member, drop_member, add_def, drop_def, owned_member}
 use Rattle.sudoers_edit.specs.files.Renaming.{rename}
-use Rattle.sudoers_edit.specs.files.Pruning.{Removal, removals, edit_of}
+use Rattle.sudoers_edit.specs.files.Pruning.{removals, edit_of}
 use Rattle.sudoers_edit_script.specs.declared.edit.Edit.{Edit}
 use Rattle.sudoers_edit_script.specs.declared.edit.Edit.TheVariants.{Insert, Delete, Move, AddMember, DropMember, AddDef, DropDef, Rename, EndLine, OpenEnd, Prune}
 use Rattle.sudoers_edit.specs.declared.fault.EditFault.{EditFault}
 use Rattle.sudoers_edit.specs.declared.fault.EditFault.TheVariants.{NoFile, NoAlias, NoMemory}
 use Rattle.sudoers_edit.specs.declared.editor.Entry.{Entry}
+use Rattle.sudoers_edit.specs.declared.files.pruning.Removal.{Removal}
+use Rattle.sudoers_edit.specs.declared.files.pruning.Removal.TheVariants as removal
 
 -- LINES OF ONE FILE
 
@@ -54,13 +56,13 @@ owned_by k name at policy =
 
 -- the policy after something is taken out
 abbrev pub removed : Removal → Loaded → Result Loaded EditFault
-removed (Removal.Line f at) policy = in_file f policy (λ lines. without_line at (texts lines))
-removed (Removal.Def f line at) policy = in_file f policy (drop_def line at)
+removed (removal.Line f at) policy = in_file f policy (λ lines. without_line at (texts lines))
+removed (removal.Def f line at) policy = in_file f policy (drop_def line at)
 
 -- the edit that puts it in again
 abbrev pub put_back : Removal → Loaded → Edit
-put_back (Removal.Line f at) policy = Insert f at (line_at f at policy)
-put_back (Removal.Def f line at) policy = AddDef f line at (owned_def line at (lines_of policy.files f))
+put_back (removal.Line f at) policy = Insert f at (line_at f at policy)
+put_back (removal.Def f line at) policy = AddDef f line at (owned_def line at (lines_of policy.files f))
 
 -- the policy after one removal after another, or the first refusal
 abbrev pub removed_all : List Removal → Loaded → Result Loaded EditFault

@@ -6,24 +6,21 @@ use Rattle.sudoers_tree.specs.Definition.{Definition, definitions_in}
 use Rattle.sudoers_tree.specs.Walk.{Walked, spot_at}
 use Rattle.sudoers_tree.specs.declared.place.Spot.{Spot}
 use Rattle.sudoers_check.specs.Led.{is_unused}
+use Rattle.sudoers_edit.specs.declared.files.pruning.Removal.{Removal}
+use Rattle.sudoers_edit.specs.declared.files.pruning.Removal.TheVariants as removal
 use Rattle.sudoers_edit_script.specs.declared.edit.Edit.{Edit}
 use Rattle.sudoers_edit_script.specs.declared.edit.Edit.TheVariants.{Delete, DropDef}
 
--- what a removal takes out of the file with this number: a line, or a definition of a line
-pub data Removal : Type 0 where
-  Line : (file at : ℕ) → Removal
-  Def : (file line at : ℕ) → Removal
-
 abbrev pub edit_of : Removal → Edit
-edit_of (Removal.Line file at) = Delete file at
-edit_of (Removal.Def file line at) = DropDef file line at
+edit_of (removal.Line file at) = Delete file at
+edit_of (removal.Def file line at) = DropDef file line at
 
 -- a line with so many definitions, of which these are unused, goes whole if they are all, and else without them, the last first
 abbrev pub removals_of : Spot → ℕ → List Definition → List Removal
 removals_of at count unused =
     if length unused == 0 then []
-    else (if length unused == count then Removal.Line at.file at.line ∷ []
-    else map (λ (d : Definition). Removal.Def at.file at.line d.place.def) (reverse unused))
+    else (if length unused == count then removal.Line at.file at.line ∷ []
+    else map (λ (d : Definition). removal.Def at.file at.line d.place.def) (reverse unused))
 
 -- those of the lines of the walk that are numbered from this number on, the last line's first
 abbrev pub removals_since : Walked → ℕ → List Line → List Removal
