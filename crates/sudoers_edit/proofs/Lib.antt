@@ -67,3 +67,5 @@ mod PayloadLemmas
 mod PruneFileLists
 mod PruneFilePut
 mod PruneFileGoes
+mod PruneFilePlaces
+mod PruneFileOrder

@@ -10,3 +10,4 @@ pub mod Drafts
 pub mod Elsewhere
 pub mod FileLeading
 pub mod FileDrafts
+pub mod FilePruneOrder
