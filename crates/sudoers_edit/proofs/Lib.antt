@@ -69,3 +69,9 @@ mod PruneFilePut
 mod PruneFileGoes
 mod PruneFilePlaces
 mod PruneFileOrder
+mod PruneFileWalk
+mod PruneFileFalls
+mod PruneFileOut
+mod PruneFileDone
+mod PruneFileCut
+mod PruneFileSort

@@ -372,3 +372,8 @@ def_goes l policy f n at line text splice loaded on here d = record {
         (subst (λ (t : List ℕ). length t ≤ line_limit) (sym again) (l.size line.text k.alone).1)
         ∙ ap (λ (t : List ℕ). Ok (replaced n t (texts (c.front ++ new ∷ c.after)))) again
         ∙ ap (λ (ls : Lines). Ok ls) restored
+
+-- a line of a file says what its bytes say
+pub line_is_said : FileLaws → (policy : Loaded) (f n : ℕ) (line : Line) → load_of (files_of policy) ≡ Ok policy
+    → slice_get (lines_of policy.files f) n ≡ Some line → said line.text ≡ Some line.node
+line_is_said l policy f n line loaded here = (known l policy f n line loaded here).says

@@ -160,7 +160,7 @@ within [] n x is = absurd (cc)
 within (y ∷ xs) zero x is = omega arith
 within (y ∷ xs) (suc n) x is = let more = within xs n x is in omega (arith, more)
 
-file_within : (files : List FileReading) (f n : ℕ) (line : Line) → slice_get (lines_of files f) n ≡ Some line → f < length files
+pub file_within : (files : List FileReading) (f n : ℕ) (line : Line) → slice_get (lines_of files f) n ≡ Some line → f < length files
 file_within [] f n line is = absurd (none f is)
   where
     none : (f : ℕ) → slice_get (lines_of [] f) n ≡ Some line → ⊥
