@@ -64,14 +64,3 @@ pub mod DropDef
 mod DropLaw
 mod ElsewhereLemmas
 mod PayloadLemmas
-mod PruneFileLists
-mod PruneFilePut
-mod PruneFileGoes
-mod PruneFilePlaces
-mod PruneFileOrder
-mod PruneFileWalk
-mod PruneFileFalls
-mod PruneFileOut
-mod PruneFileDone
-mod PruneFileCut
-mod PruneFileSort

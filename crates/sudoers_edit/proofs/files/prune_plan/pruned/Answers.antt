@@ -13,7 +13,7 @@ use Rattle.sudoers_edit.specs.files.Editing.{removed_all, step}
 use Rattle.sudoers_edit.specs.files.Pruning.{removals}
 use Rattle.sudoers_edit.specs.internal.FileDrafts.{AreByFiles, IsPruned, IsTakenOut}
 use Rattle.sudoers_edit.specs.internal.FileLeading.{Leads}
-use Rattle.sudoers_edit.proofs.PruneFileDone.{one_pruned, refuse_more}
+use Rattle.sudoers_edit.proofs.files.PruneDone.{one_pruned, refuse_more}
 use Rattle.sudoers_edit.proofs.files.prune_plan.pruned.Goals as goal
 
 pub loop-removal-init : goal.loop-removal-init

@@ -12,8 +12,8 @@ use Rattle.sudoers_tree.specs.Definition.{Definition, definitions, definitions_i
 use Rattle.sudoers_tree.specs.Policy.{alias_limit}
 use Rattle.sudoers_check.specs.Led.{is_unused, unused_of}
 use Rattle.sudoers_edit.specs.internal.FilePruneOrder.{removals_along}
-use Rattle.sudoers_edit.proofs.PruneFilePlaces.{place_in}
-use Rattle.sudoers_edit.proofs.PruneFileOrder.{along_more, removals_are}
+use Rattle.sudoers_edit.proofs.files.PrunePlaces.{place_in}
+use Rattle.sudoers_edit.proofs.files.PruneOrder.{along_more, removals_are}
 use Rattle.sudoers_tree.specs.Walk.{Walked}
 use Rattle.sudoers_edit.specs.internal.FilePruneOrder.{removals_at}
 use Rattle.sudoers_tree.specs.declared.place.Spot.{Spot}

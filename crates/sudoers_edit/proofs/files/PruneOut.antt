@@ -30,9 +30,9 @@ use Rattle.sudoers_edit.specs.internal.FileDrafts.{CutDef, DefGoes, IsAlias, IsD
 use Rattle.sudoers_edit.proofs.DraftLemmas.{again_replaced, one_replaced, one_taken, one_unchanged, order_weaker, replaced_is}
 use Rattle.sudoers_edit.proofs.PlanLemmas.{NoneLaw, FirstLaw}
 use Rattle.sudoers_edit.proofs.PolicyLemmas.{at_get, count_texts}
-use Rattle.sudoers_edit.proofs.PruneFileGoes.{in_file_is}
-use Rattle.sudoers_edit.proofs.PruneFileLists.{file_with}
-use Rattle.sudoers_edit.proofs.PruneFilePlaces.{file_within}
+use Rattle.sudoers_edit.proofs.files.PruneGoes.{in_file_is}
+use Rattle.sudoers_edit.proofs.files.PruneLists.{file_with}
+use Rattle.sudoers_edit.proofs.files.PrunePlaces.{file_within}
 use Rattle.sudoers_edit.proofs.UndoneLemmas.{within_order}
 
 abbrev pub LineLaw : Type 0

@@ -29,7 +29,7 @@ use Rattle.sudoers_tree.proofs.Joined.{definitions_append}
 use Rattle.sudoers_tree.proofs.OneOutcome.{OneReading, NoFault}
 use Rattle.sudoers_edit.specs.files.Landing.{landed, with_bytes}
 use Rattle.sudoers_edit.proofs.NameParts.{IsPart, part_append, in_part, free_part, once_part, count_part}
-use Rattle.sudoers_edit.proofs.PruneFileLists.{with_lines, lines_here, file_there, names_stay, faults_stay, no_faults, bytes_are, bytes_again, one_mapped, mapped_other, mapped_here, each_both, each_parts, says_both, says_parts, join_size, file_with}
+use Rattle.sudoers_edit.proofs.files.PruneLists.{with_lines, lines_here, file_there, names_stay, faults_stay, no_faults, bytes_are, bytes_again, one_mapped, mapped_other, mapped_here, each_both, each_parts, says_both, says_parts, join_size, file_with}
 use Rattle.sudoers_edit.proofs.Whole.{ended_behind, ended_with, here_at, texts_append}
 
 -- The laws of lines and of loaded files.

@@ -11,7 +11,7 @@ use Rattle.sudoers_tree.specs.Line.{Line}
 use Rattle.sudoers_tree.specs.Reading.{first_name_fault}
 use Rattle.sudoers_tree.specs.Walk.{Site, Visit, Walked, and_then, depth_limit, enter, is_on, leads_to, nothing, opened, site, spot_of, twice, unless_in, visit, visit_each, walk_lines, walk_of}
 use Rattle.sudoers_tree.proofs.MappedLines.{entered_is_on, enter_extends, stays_on, with_line}
-use Rattle.sudoers_edit.proofs.PruneFilePlaces.{all_append, all_weaker}
+use Rattle.sudoers_edit.proofs.files.PrunePlaces.{all_append, all_weaker}
 
 abbrev Outcome : Type 0
 Outcome = Result Walked LoadFault

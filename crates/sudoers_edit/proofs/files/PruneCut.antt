@@ -1,5 +1,5 @@
 -- A definition cut out of a line of a file.
-use Rattle.std.proofs.Common.{◌≡◌, ◌∙◌, ℕ, ◌<◌, ◌≤◌, List, [], length, Option, Some, None, Result, Ok, Err, refl, sym, ap, subst, arith}
+use Rattle.std.proofs.Common.{◌≡◌, ◌∙◌, ℕ, ◌<◌, ◌≤◌, Bool, true, false, List, [], length, Option, Some, None, Result, Ok, Err, refl, sym, ap, subst, arith}
 use Rattle.std.proofs.lemmas.Bool.{eqb-false, leb-false}
 use Rattle.std.specs.Prelude.{slice_get, ◌==◌, nat_le}
 use Rattle.sudoers_line.specs.Ascend.{DefsAscend}
@@ -21,7 +21,6 @@ use Rattle.sudoers_edit.specs.files.SpliceEdits.{cut_out, drop_def, with_changed
 use Rattle.sudoers_edit.specs.internal.FileDrafts.{CutDef}
 use Rattle.sudoers_edit.specs.internal.Leading.{CutOut}
 use Rattle.sudoers_edit.proofs.SpliceLemmas.{owned_in}
-use Rattle.sudoers_edit.proofs.SpliceSteps.{not_refused}
 
 -- the line says what its text says
 pub line_is : (line : Line) (text : List ℕ) (o : Option Node) → said line.text ≡ Some line.node → line.text ≡ text → o ≡ said text → o ≡ Some line.node
@@ -36,6 +35,10 @@ drop_is n at lines line defs here is = rw (here, is) refl
 pub no_defs : (lines : List Line) (n at : ℕ) (line : Line) → slice_get lines n ≡ Some line → defs_of line.node ≡ None → drop_def n at lines ≡ Err NoAlias
 unfolding drop_def
 no_defs lines n at line here none = rw (here, none) refl
+
+not_refused : (b : Bool) (f : EditFault) (r : Result Lines EditFault) (new : Lines) → refuse_if b f r ≡ Ok new → (b ≡ false) × (r ≡ Ok new)
+not_refused true f r new e = absurd (cc)
+not_refused false f r new e = (refl, e)
 
 -- where a definition may be dropped, there are several, and it is one of them
 pub several : (at from to : ℕ) (xs : List Extent) → ((next : ℕ → ℕ → Result Lines EditFault) → place_to_drop at xs next ≡ next from to)

@@ -45,8 +45,8 @@ use Rattle.sudoers_edit.proofs.DropDef.{EndsLaw, Less, less_of, less_part}
 use Rattle.sudoers_edit.proofs.NameParts.{IsPart, part_none}
 use Rattle.sudoers_edit.proofs.OwnedBytes.{owned_within, same_end, shorter}
 use Rattle.sudoers_edit.proofs.PolicyLemmas.{at_get}
-use Rattle.sudoers_edit.proofs.PruneFileLists.{file_here, file_there, file_with, names_stay, each_parts, says_parts}
-use Rattle.sudoers_edit.proofs.PruneFilePut.{FileLaws, FileLines, FitsIn, IsPut, file_lines, put}
+use Rattle.sudoers_edit.proofs.files.PruneLists.{file_here, file_there, file_with, names_stay, each_parts, says_parts}
+use Rattle.sudoers_edit.proofs.files.PrunePut.{FileLaws, FileLines, FitsIn, IsPut, file_lines, put}
 use Rattle.sudoers_edit.proofs.SpliceLemmas.{size_slice, with_without}
 use Rattle.sudoers_edit.proofs.WayBackLemmas.{said_logical}
 use Rattle.sudoers_edit.proofs.Whole.{here_at}

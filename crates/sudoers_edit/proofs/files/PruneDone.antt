@@ -26,7 +26,7 @@ use Rattle.sudoers_edit.specs.internal.FileDrafts.{AreByFiles, Falls, IsPruned, 
 use Rattle.sudoers_edit.specs.internal.FileLeading.{Leads}
 use Rattle.sudoers_edit.proofs.DraftLemmas.{order_weaker}
 use Rattle.sudoers_edit.proofs.PlanLemmas.{NoneLaw}
-use Rattle.sudoers_edit.proofs.PruneFileFalls.{removals_fall}
+use Rattle.sudoers_edit.proofs.files.PruneFalls.{removals_fall}
 
 -- ---- one after another
 

@@ -14,7 +14,7 @@ use Rattle.sudoers_tree.specs.ChangedFiles.{GoByFiles, changes_of}
 use Rattle.sudoers_tree.specs.declared.line_change.LineChange.{LineChange}
 use Rattle.sudoers_tree.specs.declared.line_change.LineChange.TheVariants.{Take}
 use Rattle.sudoers_edit.specs.internal.FileDrafts.{AreByFiles}
-use Rattle.sudoers_edit.proofs.PruneFilePlaces.{all_append}
+use Rattle.sudoers_edit.proofs.files.PrunePlaces.{all_append}
 
 -- ---- numbers
 

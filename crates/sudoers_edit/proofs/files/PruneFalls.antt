@@ -17,8 +17,8 @@ use Rattle.sudoers_edit.specs.declared.files.pruning.Removal.{Removal}
 use Rattle.sudoers_edit.specs.declared.files.pruning.Removal.TheVariants as removal
 use Rattle.sudoers_edit.specs.files.Pruning.{removals_of, removals_since, removals}
 use Rattle.sudoers_edit.specs.internal.FileDrafts.{Falls, IsAlias, cut_after, lowered}
-use Rattle.sudoers_edit.proofs.PruneFilePlaces.{within}
-use Rattle.sudoers_edit.proofs.PruneFileWalk.{Ascend, IsBefore, IsOrdered, walk_ordered}
+use Rattle.sudoers_edit.proofs.files.PrunePlaces.{within}
+use Rattle.sudoers_edit.proofs.files.PruneWalk.{Ascend, IsBefore, IsOrdered, walk_ordered}
 
 -- Each of these spots is of a line below the number of its file.
 abbrev Under : (ℕ → ℕ) → List Spot → Type 0

@@ -15,7 +15,7 @@ use Rattle.sudoers_edit.specs.declared.files.pruning.Removal.{Removal}
 use Rattle.sudoers_edit.specs.declared.files.pruning.Removal.TheVariants as removal
 use Rattle.sudoers_edit.specs.files.Pruning.{removals_of, removals_since, removals}
 use Rattle.sudoers_edit.specs.internal.FilePruneOrder.{front_count, removals_at, removals_along}
-use Rattle.sudoers_edit.proofs.PruneFilePlaces.{place_in, all_map, all_filter, map_reverse, map_map, in_line, since_line, front_all}
+use Rattle.sudoers_edit.proofs.files.PrunePlaces.{place_in, all_map, all_filter, map_reverse, map_map, in_line, since_line, front_all}
 
 at_is : (at : Spot) (count : ℕ) (ds : List Definition) → reverse (removals_at at count (map place_in ds)) ≡ removals_of at count ds
 at_is at count [] = refl
