@@ -51,9 +51,11 @@ each_falls : (policy : Loaded) (earlier : List Spot) (at : Spot) (rest : List Re
 each_falls policy earlier at rest alias before next [] below cut under may = next below cut under
 each_falls policy earlier at rest alias before next (d ∷ ds) below cut under may =
     let same : cut_after (removal.Def at.file at.line d.place.def) at.file at.line ≡ true =
-    rw (eq-eqb at.file at.file refl, eq-eqb at.line at.line refl) refl in
-    ((may, alias), each_falls policy earlier at rest alias before next ds (lowered at.file at.line below) (cut_after (removal.Def at.file at.line d.place.def))
-    (under_lowered at below earlier before under) (inr same))
+    rw (eq-eqb at.file at.file refl, eq-eqb at.line at.line refl) refl in (
+      (may, alias),
+      each_falls policy earlier at rest alias before next ds (lowered at.file at.line below) (cut_after (removal.Def at.file at.line d.place.def))
+          (under_lowered at below earlier before under) (inr same),
+    )
 
 of_line : (policy : Loaded) (earlier : List Spot) (at : Spot) (count : ℕ) (unused : List Definition) (rest : List Removal) → IsAlias policy at.file at.line
     → AllByRecursion (IsBefore at) earlier → Then policy earlier rest → Then policy (earlier ++ at ∷ []) (removals_of at count unused ++ rest)

@@ -1,31 +1,27 @@
--- Where the definitions of lines stand, and how many there are.
-use Rattle.std.proofs.Common.{◌≡◌, ℕ, suc, ◌+◌, ◌<◌, ◌≤◌, Bool, true, false, List, [], ◌∷◌, ◌++◌, length, map, reverse, Ok, refl, sym, ap, ◌∙◌, arith, eq-eqb, ne_eqb, if◌then◌else◌}
-use Rattle.std.proofs.lemmas.List.{map-append, reverse-append, length-append}
+-- Where the definitions and the lines of a walk stand, and how many there are.
+use Rattle.std.proofs.Common.{◌≡◌, ◌∙◌, ℕ, zero, suc, ◌+◌, ◌<◌, ◌≤◌, ◌⊎◌, inl, inr, Bool, true, false, List, [], ◌∷◌, ◌++◌, length, map, reverse, slice_index_or, Some, Ok, refl, sym, ap, arith, eq-eqb, ne_eqb, if◌then◌else◌}
+use Rattle.std.proofs.lemmas.List.{map-append, reverse-append, length-append, length-map}
 use Rattle.std.specs.List.{AllByRecursion, filter}
-use Rattle.std.specs.Prelude.{◌==◌}
-use Rattle.sudoers_text.specs.Line.{join}
+use Rattle.std.specs.Prelude.{◌==◌, ◌^◌, slice_get}
 use Rattle.sudoers_text.specs.Cut.{cut_of, StandAlone}
-use Rattle.sudoers_text.specs.Fault.{line_limit}
+use Rattle.sudoers_text.specs.Ended.{has_unended_inside}
+use Rattle.sudoers_text.specs.Fault.{line_limit, text_limit}
+use Rattle.sudoers_text.specs.Line.{join}
 use Rattle.sudoers_line.specs.Node.{Def, Node}
+use Rattle.sudoers_line.specs.Node as node
 use Rattle.sudoers_line.specs.declared.node.Kind.{Kind}
 use Rattle.sudoers_line.specs.declared.node.Kind.TheVariants.{User, Runas, Host, Cmnd}
-use Rattle.sudoers_line.specs.Node as node
-use Rattle.sudoers_tree.specs.Line.{Line}
-use Rattle.sudoers_tree.specs.declared.place.Place.{Place}
-use Rattle.sudoers_tree.specs.Definition.{Definition, is_kind, definitions_from, definitions_in, definitions_since}
-use Rattle.sudoers_tree.specs.Policy.{texts, count_of}
-use Rattle.sudoers_edit.specs.internal.FilePruneOrder.{front_count}
-use Rattle.std.proofs.Common.{zero, false, ◌⊎◌, inl, inr, Some, slice_index_or}
-use Rattle.std.proofs.lemmas.List.{length-map}
-use Rattle.std.specs.Prelude.{slice_get, ◌^◌}
-use Rattle.sudoers_text.specs.Ended.{has_unended_inside}
-use Rattle.sudoers_text.specs.Fault.{text_limit}
-use Rattle.sudoers_tree.specs.Files.{FileReading, lines_of}
-use Rattle.sudoers_tree.specs.Load.{Loaded, StandAt, file_of, files_of, load_of}
-use Rattle.sudoers_tree.specs.Walk.{spot_at}
 use Rattle.sudoers_tree.specs.declared.load.NamedFile.{NamedFile}
+use Rattle.sudoers_tree.specs.declared.place.Place.{Place}
 use Rattle.sudoers_tree.specs.declared.place.Spot.{Spot}
+use Rattle.sudoers_tree.specs.Definition.{Definition, is_kind, definitions_from, definitions_in, definitions_since}
+use Rattle.sudoers_tree.specs.Files.{FileReading, lines_of}
+use Rattle.sudoers_tree.specs.Line.{Line}
+use Rattle.sudoers_tree.specs.Load.{Loaded, StandAt, file_of, files_of, load_of}
+use Rattle.sudoers_tree.specs.Policy.{texts, count_of}
+use Rattle.sudoers_tree.specs.Walk.{spot_at}
 use Rattle.sudoers_tree.proofs.WalkSound.{loaded_as}
+use Rattle.sudoers_edit.specs.internal.FilePruneOrder.{front_count}
 
 -- LISTS
 
@@ -112,7 +108,8 @@ pub count_append : (k : Kind) (xs ys : List Definition) → count_of k (xs ++ ys
 count_append k [] ys = omega arith
 count_append k (x ∷ xs) ys = counted (is_kind k x.kind) (count_append k xs ys)
   where
-    counted : (b : Bool) → count_of k (xs ++ ys) ≡ count_of k xs + count_of k ys → (if b then 1 + count_of k (xs ++ ys) else count_of k (xs ++ ys)) ≡ (if b then 1 + count_of k xs else count_of k xs) + count_of k ys
+    counted : (b : Bool) → count_of k (xs ++ ys) ≡ count_of k xs + count_of k ys
+        → (if b then 1 + count_of k (xs ++ ys) else count_of k (xs ++ ys)) ≡ (if b then 1 + count_of k xs else count_of k xs) + count_of k ys
     counted true more = omega (arith, more)
     counted false more = more
 

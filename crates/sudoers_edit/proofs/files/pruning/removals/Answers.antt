@@ -8,15 +8,15 @@ use Rattle.sudoers_line_rows.specs.declared.rows.NodeRow.TheVariants as node_row
 use Rattle.sudoers_tree.specs.Line.{Line, line_in, lines_shown}
 use Rattle.sudoers_tree.specs.declared.line.LineRow.{LineRow}
 use Rattle.sudoers_tree.specs.declared.place.Place.{Place}
+use Rattle.sudoers_tree.specs.declared.place.Spot.{Spot}
 use Rattle.sudoers_tree.specs.Definition.{Definition, definitions, definitions_in}
 use Rattle.sudoers_tree.specs.Policy.{alias_limit}
+use Rattle.sudoers_tree.specs.Walk.{Walked, spot_at}
 use Rattle.sudoers_check.specs.Led.{is_unused, unused_of}
-use Rattle.sudoers_edit.specs.internal.FilePruneOrder.{removals_along}
+use Rattle.sudoers_edit.specs.declared.files.pruning.Removal.{Removal}
+use Rattle.sudoers_edit.specs.internal.FilePruneOrder.{removals_along, removals_at}
 use Rattle.sudoers_edit.proofs.files.PrunePlaces.{place_in}
 use Rattle.sudoers_edit.proofs.files.PruneOrder.{along_more, removals_are}
-use Rattle.sudoers_tree.specs.Walk.{Walked}
-use Rattle.sudoers_edit.specs.internal.FilePruneOrder.{removals_at}
-use Rattle.sudoers_tree.specs.declared.place.Spot.{Spot}
 use Rattle.sudoers_edit.proofs.files.pruning.removals.Goals as goal
 
 pub loop-number-init : goal.loop-number-init
@@ -41,10 +41,15 @@ loop-number-preserved c =
     let row : LineRow = slice_index_or items i none in
     let line : Line = says row in
     let rest : List (Kind × Place) = c.loop-number.rest.now in
+    let gone : List Removal = c.loop-number.removals.items in
+    let count : ℕ = c.definitions_of.result in
+    let later : c.append_removals.new.removals.items ≡ gone ++ removals_at (spot_at w i) count c.split_at.result.0.now =
+    c.in_ok-append_removals.ensures ∙ ap (λ (at : Spot). gone ++ removals_at at count c.split_at.result.0.now) c.spot_at.ensures in
+    let many : count ≡ length (definitions_in i line.node) = c.definitions_of.ensures i ∙ ap (λ (says : Node). length (definitions_in i says)) c.node.ensures in
     let whole : map says (drop i items) ≡ line ∷ map says (drop (i + 1) items) = ap (map says) (drop_more items i none c.loop-number-test.true) in (
-      along_more w c.loop-number.removals.items c.append_removals.new.removals.items i c.count_in_front.result c.definitions_of.result line (map says (drop (i + 1) items)) (map says (drop i items))
-          rest c.split_at.result.0.now c.split_at.result.1.now (c.in_ok-append_removals.ensures ∙ ap (λ (at : Spot). c.loop-number.removals.items ++ removals_at at c.definitions_of.result c.split_at.result.0.now) c.spot_at.ensures) c.count_in_front.ensures.is (c.definitions_of.ensures i ∙ ap (λ (says : Node). length (definitions_in i says)) c.node.ensures)
-          c.split_at.ensures.front c.split_at.ensures.back whole ∙ c.loop-number.invariant.0,
+      along_more w gone c.append_removals.new.removals.items i c.count_in_front.result count line (map says (drop (i + 1) items)) (map says (drop i items))
+          rest c.split_at.result.0.now c.split_at.result.1.now later c.count_in_front.ensures.is many c.split_at.ensures.front c.split_at.ensures.back whole
+          ∙ c.loop-number.invariant.0,
       All-same (λ (p : Kind × Place). p.1.def < 2 ^ 32) c.split_at.result.1.now (drop c.count_in_front.result rest) c.split_at.ensures.back
           (All-drop (λ (p : Kind × Place). p.1.def < 2 ^ 32) c.count_in_front.result rest c.loop-number.invariant.1),
     )

@@ -9,5 +9,6 @@ use Rattle.sudoers_edit.proofs.files.pruning.removals.Given as goal
 
 abbrev pub invariant-loop-number : goal.invariant-loop-number
 invariant-loop-number l =
-    (l.removals.items ++ removals_along l.policy.walk l.number (map (line_in l.lines.tables.now) (drop l.number l.row-items)) l.rest ≡ removals_along l.policy.walk 0 (map (line_in l.lines.tables.now) l.row-items) l.initial.rest)
+    (l.removals.items ++ removals_along l.policy.walk l.number (map (line_in l.lines.tables.now) (drop l.number l.row-items)) l.rest
+    ≡ removals_along l.policy.walk 0 (map (line_in l.lines.tables.now) l.row-items) l.initial.rest)
     × All (λ (p : Kind × Place). p.1.def < 2 ^ 32) l.rest
