@@ -10,3 +10,4 @@ pub mod PruneOut
 pub mod PruneCut
 pub mod PruneDone
 pub mod PruneSort
+pub mod PruneRefused

@@ -2,6 +2,7 @@
 
 mod line_edits;
 mod plan;
+mod prune_laws;
 mod prune_plan;
 mod pruning;
 mod renaming;

@@ -26,7 +26,7 @@ use Rattle.sudoers_edit.proofs.SpliceLemmas.{owned_in}
 pub line_is : (line : Line) (text : List ℕ) (o : Option Node) → said line.text ≡ Some line.node → line.text ≡ text → o ≡ said text → o ≡ Some line.node
 line_is line text o says same is = is ∙ ap said (sym same) ∙ says
 
-drop_is : (n at : ℕ) (lines : List Line) (line : Line) (defs : List Def) → slice_get lines n ≡ Some line → defs_of line.node ≡ Some defs
+pub drop_is : (n at : ℕ) (lines : List Line) (line : Line) (defs : List Def) → slice_get lines n ≡ Some line → defs_of line.node ≡ Some defs
     → drop_def n at lines ≡ place_to_drop at (def_extents defs) (λ from to. cut_out among.Definitions at from to n line lines)
 unfolding drop_def
 drop_is n at lines line defs here is = rw (here, is) refl

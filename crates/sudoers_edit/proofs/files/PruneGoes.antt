@@ -112,7 +112,7 @@ is_other policy f front after news lines p is = record {
   names = ap file_names p.files ∙ names_stay f (front ++ (news ++ after)) policy.files;
   here = ap texts p.lines ∙ is;
   there = λ e other. ap (λ fs. lines_of fs e) p.files ∙ ap lines_in (file_there f (front ++ (news ++ after)) policy.files e other);
-  on = p.on;
+  on = p.walk.on;
 }
 
 -- the file is there in both policies
@@ -132,20 +132,22 @@ ended_behind_one line (next ∷ after) is = (or_false _ _ is).1
 alias_leads : (name : List ℕ) (k : Kind) (defs : List Def) (says : Node) → says ≡ node.Alias k defs → lead_of name says ≡ None
 alias_leads name k defs says is = ap (lead_of name) is
 
-none_fits : (line : Line) (after : List Line) (k : Kind) (defs : List Def) → line.node ≡ node.Alias k defs → FitsIn line after []
-none_fits line after k defs makes = record {
+none_fits : (line : Line) (after : List Line) → ((name : List ℕ) → lead_of name line.node ≡ None) → FitsIn line after []
+none_fits line after nowhere = record {
   each = tt;
   says = tt;
   ended = ended_behind_one line after;
   shorter = omega arith;
   part = λ i j. part_none (definitions_in i line.node);
-  leads = λ name. alias_leads name k defs line.node makes;
+  leads = nowhere;
   lead = λ name. tt;
 }
 
-pub line_goes : FileLaws → (policy : Loaded) (f n : ℕ) (line : Line) (k : Kind) (defs : List Def) → load_of (files_of policy) ≡ Ok policy
-    → is_on policy.walk f ≡ true → slice_get (lines_of policy.files f) n ≡ Some line → line.node ≡ node.Alias k defs → LineGoes f n policy
-line_goes l policy f n line k defs loaded on here makes = record {
+-- A line that leads nowhere goes.
+pub line_goes : FileLaws → (policy : Loaded) (f n : ℕ) (line : Line) → load_of (files_of policy) ≡ Ok policy
+    → is_on policy.walk f ≡ true → slice_get (lines_of policy.files f) n ≡ Some line → ((name : List ℕ) → lead_of name line.node ≡ None)
+    → LineGoes f n policy
+line_goes l policy f n line loaded on here nowhere = record {
   next = p.next;
   left = is_other policy f c.front c.after [] (remove lines n) p (sym gone);
   made =
@@ -171,7 +173,7 @@ line_goes l policy f n line k defs loaded on here makes = record {
     c = split (lines_of policy.files f) n line here
 
     p : IsPut policy f c.front c.after []
-    p = put l policy f c.front line c.after [] loaded on c.is (none_fits line c.after k defs makes)
+    p = put l policy f c.front line c.after [] loaded on c.is (none_fits line c.after nowhere)
 
     file : (file : FileReading) × (slice_get policy.files f ≡ Some file)
     file = file_with policy.files f n line here
@@ -245,12 +247,12 @@ ended_then line text (next ∷ after) keeps h =
     rw (keeps (not-false (ends_in_lf line.text) parts.0), parts.1) refl
 
 -- what the line with this number is
-record Known (line : Line) : Type 0 where
-  alone : cut_of line.text ≡ Ok (line.text ∷ [])
-  reads : ReadsLine line.text line.node
-  says : said line.text ≡ Some line.node
+pub record Known (line : Line) : Type 0 where
+  pub alone : cut_of line.text ≡ Ok (line.text ∷ [])
+  pub reads : ReadsLine line.text line.node
+  pub says : said line.text ≡ Some line.node
 
-known : FileLaws → (policy : Loaded) (f n : ℕ) (line : Line) → load_of (files_of policy) ≡ Ok policy → slice_get (lines_of policy.files f) n ≡ Some line → Known line
+pub known : FileLaws → (policy : Loaded) (f n : ℕ) (line : Line) → load_of (files_of policy) ≡ Ok policy → slice_get (lines_of policy.files f) n ≡ Some line → Known line
 known l policy f n line loaded here =
     let lines : FileLines (lines_of policy.files f) = file_lines l policy f loaded in
     let c : Split (lines_of policy.files f) n line = split (lines_of policy.files f) n line here in

@@ -8,12 +8,12 @@ use Rattle.std.specs.Prelude.{slice_get}
 use Rattle.sudoers_text.specs.Whole.{IsLogicalLine}
 use Rattle.sudoers_line.specs.Node.{Def}
 use Rattle.sudoers_line.specs.Node as node
-use Rattle.sudoers_line.specs.declared.node.Kind.{Kind}
 use Rattle.sudoers_tree.specs.Changed.{AreInOrder, brought, changed, file_of, replaced}
 use Rattle.sudoers_tree.specs.ChangedFiles.{changes_of}
 use Rattle.sudoers_tree.specs.declared.line_change.LineChange.{LineChange}
 use Rattle.sudoers_tree.specs.declared.line_change.LineChange.TheVariants.{Put, Swap, Take}
 use Rattle.sudoers_tree.specs.Files.{lines_of}
+use Rattle.sudoers_tree.specs.Lead.{lead_of}
 use Rattle.sudoers_tree.specs.Line.{Line}
 use Rattle.sudoers_tree.specs.Load.{Loaded, files_of, load_of}
 use Rattle.sudoers_tree.specs.Policy.{texts}
@@ -36,8 +36,9 @@ use Rattle.sudoers_edit.proofs.files.PrunePlaces.{file_within}
 use Rattle.sudoers_edit.proofs.UndoneLemmas.{within_order}
 
 abbrev pub LineLaw : Type 0
-LineLaw = (policy : Loaded) (f n : ℕ) (line : Line) (kind : Kind) (defs : List Def) → load_of (files_of policy) ≡ Ok policy
-    → is_on policy.walk f ≡ true → slice_get (lines_of policy.files f) n ≡ Some line → line.node ≡ node.Alias kind defs → LineGoes f n policy
+LineLaw = (policy : Loaded) (f n : ℕ) (line : Line) → load_of (files_of policy) ≡ Ok policy
+    → is_on policy.walk f ≡ true → slice_get (lines_of policy.files f) n ≡ Some line → ((name : List ℕ) → lead_of name line.node ≡ None)
+    → LineGoes f n policy
 
 abbrev pub DefLaw : Type 0
 DefLaw = (policy : Loaded) (f n at : ℕ) (line : Line) (text splice : List ℕ) → load_of (files_of policy) ≡ Ok policy
@@ -176,7 +177,7 @@ line_taken none first line_law said_law policy now changes f at below cut text l
         one ∙ alias.makes
 
     goes : LineGoes f at now
-    goes = line_law now f at line.0 alias.kind alias.defs draft.loaded (is_on_too policy now f draft.on alias.on) line.1 makes
+    goes = line_law now f at line.0 draft.loaded (is_on_too policy now f draft.on alias.on) line.1 (λ name. ap (lead_of name) makes)
 
     same : line_at f at now ≡ text
     same = at_get (texts (lines_of now.files f)) at text [] there

@@ -152,13 +152,14 @@ names_stand old new is part = record {
 
 -- ---- the changed files
 
--- In the policy `next` these lines of the file f stand in the place of the line. It is what the new lines lead to, and the lines before lead back.
+-- In the policy `next` the lines `news` stand in the place of the line of the file f that is behind the lines `front`. On the walk they stand in
+-- its place too. It is what the new lines lead to, and the lines before lead back.
 pub record IsPut (policy : Loaded) (f : ℕ) (front after news : List Line) : Type 0 where
   pub next : Loaded
   pub loaded : load_of (files_of next) ≡ Ok next
   pub files : next.files ≡ with_lines f (front ++ (news ++ after)) policy.files
   pub lines : lines_of next.files f ≡ front ++ (news ++ after)
-  pub on : next.walk.on ≡ policy.walk.on
+  pub walk : IsMappedWalk (one_mapped f (length front) news) policy.walk next.walk
   pub fit : FileLines (front ++ (news ++ after))
   pub forth : landed policy f (texts (front ++ (news ++ after))) ≡ Ok next
   pub back : landed next f (texts (lines_of policy.files f)) ≡ Ok policy
@@ -190,7 +191,7 @@ put l policy f front line after news loaded on was fits = record {
   loaded = loads.1;
   files = refl;
   lines = here;
-  on = loads.3.on;
+  walk = loads.3;
   fit = fit;
   forth = landed_is policy next f (texts new) (map file_of others) fit.ended (bytes_are f new policy.files) loads.1;
   back = landed_is next policy f (texts (lines_of policy.files f)) (map file_of policy.files) old.ended (bytes_again f new policy.files) loaded;

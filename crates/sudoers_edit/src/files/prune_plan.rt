@@ -1,14 +1,12 @@
 //! A prune of the files of a policy, as the changes that it makes at once.
-ghost use Rattle.std.specs.Prelude.{◌≡◌, ◌≤◌, [], ◌∷◌, true, Bool, List, ℕ, length, reverse, slice_get, Ok, Some, IfOk, OnOk, MatchResult};
+ghost use Rattle.std.specs.Prelude.{◌≡◌, ◌≤◌, [], ◌∷◌, true, Bool, List, ℕ, length, reverse, slice_get, None, Ok, Some, IfOk, OnOk, MatchResult};
 ghost use Rattle.std.specs.Option.{option_copied, option_or};
-ghost use Rattle.sudoers_line.specs.Node.{Def as ADef};
-ghost use Rattle.sudoers_line.specs.Node as node_of;
-ghost use Rattle.sudoers_line.specs.declared.node.Kind.{Kind as AKind};
 ghost use Rattle.sudoers_line_rows.specs.View.{node_shown};
 ghost use Rattle.sudoers_tree.specs.Changed.{file_of as the_file};
 ghost use Rattle.sudoers_tree.specs.declared.line_change.LineChange.{LineChange as LineChangeOf};
 ghost use Rattle.sudoers_tree.specs.declared.line_change.LineChange.TheVariants.{Swap};
 ghost use Rattle.sudoers_tree.specs.Files.{lines_of};
+ghost use Rattle.sudoers_tree.specs.Lead.{lead_of};
 ghost use Rattle.sudoers_tree.specs.Line.{Line as LineOf};
 ghost use Rattle.sudoers_tree.specs.Load.{Loaded, files_of, load_of};
 ghost use Rattle.sudoers_tree.specs.Policy.{texts};
@@ -234,11 +232,12 @@ fn replace_line(
     Ok(())
 }
 
-/// A law: where a line of definitions of a file goes, or a definition of several, the files are those of a policy again. A line says what
-/// its bytes say.
+/// A law: where a line of a file goes that leads nowhere, or a definition of several, the files are those of a policy again. A line says
+/// what its bytes say.
 fn drafts_stand()
-    ensures line { (policy : Loaded) (f n : ℕ) (line : LineOf) (kind : AKind) (defs : List ADef) → load_of (files_of policy) ≡ Ok policy
-        → is_on policy.walk f ≡ true → slice_get (lines_of policy.files f) n ≡ Some line → line.node ≡ node_of.Alias kind defs → LineGoes f n policy }
+    ensures line { (policy : Loaded) (f n : ℕ) (line : LineOf) → load_of (files_of policy) ≡ Ok policy
+        → is_on policy.walk f ≡ true → slice_get (lines_of policy.files f) n ≡ Some line
+        → ((name : List ℕ) → lead_of name line.node ≡ None) → LineGoes f n policy }
     ensures def { (policy : Loaded) (f n at : ℕ) (line : LineOf) (text splice : List ℕ) → load_of (files_of policy) ≡ Ok policy
         → is_on policy.walk f ≡ true → slice_get (lines_of policy.files f) n ≡ Some line → CutDef n at (lines_of policy.files f) line text splice
         → DefGoes f n at policy text splice }
