@@ -6,7 +6,9 @@ pub mod JournalLemmas
 pub mod KnownLemmas
 pub mod LandLemmas
 pub mod LineLemmas
+pub mod LoadFaults
 pub mod MemberLemmas
+pub mod MemoryLemmas
 pub mod MoveLemmas
 pub mod PlanLemmas
 pub mod PruneCut
