@@ -8,7 +8,10 @@ pub mod LoadFaults
 pub mod MemberLemmas
 pub mod MemoryLemmas
 pub mod MoveLemmas
+pub mod NamedLaw
 pub mod PlanLemmas
+pub mod PruneList
+pub mod RedoLaw
 pub mod RenameCovers
 pub mod RenameFiles
 pub mod RenameLaws
