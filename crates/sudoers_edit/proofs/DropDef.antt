@@ -62,7 +62,7 @@ alike_part k l m n o (d ∷ ds) (e ∷ es) h =
     let both = and_parts (is_same_def d e) (are_alike is_same_def ds es) h in
     inr (refl, same_name d e both.0, alike_part k l m (n + 1) (o + 1) ds es both.1)
 
-less_part : (k : Kind) (l m n o : ℕ) (ds : List Def) (at : ℕ) (es : List Def) → are_alike is_same_def (remove ds at) es ≡ true
+pub less_part : (k : Kind) (l m n o : ℕ) (ds : List Def) (at : ℕ) (es : List Def) → are_alike is_same_def (remove ds at) es ≡ true
     → IsPart (definitions_from k l n ds) (definitions_from k m o es)
 less_part k l m n o [] zero [] h = tt
 less_part k l m n o [] (suc at) [] h = tt
@@ -83,12 +83,12 @@ alike_count (d ∷ ds) [] h = absurd (cc)
 alike_count (d ∷ ds) (e ∷ es) h = ap suc (alike_count ds es (and_parts (is_same_def d e) (are_alike is_same_def ds es) h).1)
 
 -- A line reads as this one but for a definition less.
-record Less (k : Kind) (defs : List Def) (at : ℕ) (says : Node) : Type 0 where
-  less : List Def
-  is : says ≡ node.Alias k less
-  alike : are_alike is_same_def (remove defs at) less ≡ true
+pub record Less (k : Kind) (defs : List Def) (at : ℕ) (says : Node) : Type 0 where
+  pub less : List Def
+  pub is : says ≡ node.Alias k less
+  pub alike : are_alike is_same_def (remove defs at) less ≡ true
 
-less_of : (k : Kind) (defs : List Def) (at from to : ℕ) (says : Node) → is_def_more at from to (Some (node.Alias k defs)) (Some says) ≡ true
+pub less_of : (k : Kind) (defs : List Def) (at from to : ℕ) (says : Node) → is_def_more at from to (Some (node.Alias k defs)) (Some says) ≡ true
     → Less k defs at says
 less_of k defs at from to (node.Alias j less) h =
     let owns : Bool = owns_exactly at from to (def_extents defs) (def_extents less) in

@@ -4,8 +4,6 @@ mod ChangedLemmas
 mod BackLemmas
 mod DefLemmas
 mod EditLemmas
-mod HistoryLemmas
-mod JournalLemmas
 mod InverseLemmas
 mod LastLemmas
 mod MemberLemmas
@@ -21,7 +19,6 @@ mod PruneLemmas
 mod PruneNumbers
 pub mod RenameExamples
 mod ReadLemmas
-mod RedoLemmas
 pub mod RenameLemmas
 pub mod RenameSteps
 mod ReplaceLemmas

@@ -1,6 +1,10 @@
 -- Lemmas of edits over the files of a policy.
+pub mod AcceptedLines
+pub mod AcceptedSplices
 pub mod DefLemmas
 pub mod EndLemmas
+pub mod HistoryLemmas
+pub mod JournalLemmas
 pub mod KnownLemmas
 pub mod LandLemmas
 pub mod LineLemmas
@@ -10,8 +14,20 @@ pub mod MemoryLemmas
 pub mod MoveLemmas
 pub mod NamedLaw
 pub mod PlanLemmas
+pub mod PruneCut
+pub mod PruneDone
+pub mod PruneFalls
+pub mod PruneGoes
 pub mod PruneList
-pub mod RedoLaw
+pub mod PruneLists
+pub mod PruneOrder
+pub mod PruneOut
+pub mod PrunePlaces
+pub mod PrunePut
+pub mod PruneRefused
+pub mod PruneSort
+pub mod PruneWalk
+pub mod RedoLemmas
 pub mod RenameCovers
 pub mod RenameFiles
 pub mod RenameLaws

@@ -4,12 +4,13 @@ use Rattle.std.proofs.lemmas.List.{length-append, map-append, reverse-append}
 use Rattle.std.proofs.lemmas.List.Folds.{flat_map-map}
 use Rattle.std.specs.List.{flat_map}
 use Rattle.std.specs.Prelude.{slice_get}
+use Rattle.sudoers_tree.specs.Load.{Loaded}
 use Rattle.sudoers_edit_script.specs.declared.edit.Edit.{Edit}
 use Rattle.sudoers_edit.specs.declared.editor.Entry.{Entry}
 use Rattle.sudoers_edit.specs.declared.editor.Step.{Step}
 use Rattle.sudoers_edit.specs.declared.fault.EditFault.{EditFault}
-use Rattle.sudoers_edit.specs.Editing.{Lines, step, inv, run, IsUndoable, IsRedoable}
-use Rattle.sudoers_edit.specs.internal.Undone.{AreBacks, entries_of}
+use Rattle.sudoers_edit.specs.files.Editing.{step, inv, run, IsUndoable, IsRedoable}
+use Rattle.sudoers_edit.specs.internal.FileUndone.{AreBacks, entries_of}
 
 -- THE LAST STEP
 
@@ -43,14 +44,14 @@ inverses_are steps =
     ∙ ap (flat_map (λ (entry : Entry). entry.inverse)) (newest_first steps)
 
 -- The last step leads back to the new lines, and those before it lead on from there.
-pub record TakenBack (all before : List Step) (last : Step) (now new : Lines) : Type 0 where
+pub record TakenBack (all before : List Step) (last : Step) (now new : Loaded) : Type 0 where
   pub journal : entries_of all ≡ entries_of before ++ last.entry ∷ []
   pub forth : step last.entry.edit new ≡ Ok now
   pub inverse_is : last.entry.inverse ≡ inv last.entry.edit new
   pub undoable : IsUndoable (reverse (entries_of before)) new
   pub backs : AreBacks (reverse before) new
 
-pub taken_back : (all before : List Step) (last : Step) (now new : Lines) → all ≡ before ++ last ∷ [] → IsUndoable (reverse (entries_of all)) now
+pub taken_back : (all before : List Step) (last : Step) (now new : Loaded) → all ≡ before ++ last ∷ [] → IsUndoable (reverse (entries_of all)) now
     → AreBacks (reverse all) now → run last.entry.inverse now ≡ Some new → TakenBack all before last now new
 taken_back all before last now new ends undoable backs leads =
     record {
@@ -58,7 +59,7 @@ taken_back all before last now new ends undoable backs leads =
       forth = stands.0;
       inverse_is = stands.1;
       undoable = stands.2;
-      backs = subst (AreBacks (reverse before)) (ap (λ (lines : Option Lines). unwrap_or lines now) leads) behind.1;
+      backs = subst (AreBacks (reverse before)) (ap (λ (lines : Option Loaded). unwrap_or lines now) leads) behind.1;
     }
   where
     journal : entries_of all ≡ entries_of before ++ last.entry ∷ []
@@ -69,7 +70,7 @@ taken_back all before last now new ends undoable backs leads =
 
     stands : (step last.entry.edit new ≡ Ok now) × (last.entry.inverse ≡ inv last.entry.edit new) × IsUndoable (reverse (entries_of before)) new
     stands =
-        subst (λ (lines : Option Lines). IsSomeAnd lines (λ (old : Lines).
+        subst (λ (lines : Option Loaded). IsSomeAnd lines (λ (old : Loaded).
         (step last.entry.edit old ≡ Ok now) × (last.entry.inverse ≡ inv last.entry.edit old) × IsUndoable (reverse (entries_of before)) old)) leads
         (subst (λ (entries : List Entry). IsUndoable entries now) newest undoable)
 
@@ -82,8 +83,8 @@ pub undone_first : (undone more : List Edit) (edit : Edit) → more ≡ undone +
 undone_first undone more edit is = ap reverse is ∙ reverse-append undone (edit ∷ [])
 
 -- an undone edit more, which leads to the lines at which the others can be made
-pub redoable_more : (undone more : List Edit) (edit : Edit) (now new : Lines) → more ≡ undone ++ edit ∷ [] → step edit new ≡ Ok now
+pub redoable_more : (undone more : List Edit) (edit : Edit) (now new : Loaded) → more ≡ undone ++ edit ∷ [] → step edit new ≡ Ok now
     → IsRedoable (reverse undone) now → IsRedoable (reverse more) new
 redoable_more undone more edit now new is leads redoable =
     subst (λ (edits : List Edit). IsRedoable edits new) (sym (undone_first undone more edit is))
-    (subst (λ (lines : Result Lines EditFault). IsOkAnd lines (IsRedoable (reverse undone))) (sym leads) redoable)
+    (subst (λ (lines : Result Loaded EditFault). IsOkAnd lines (IsRedoable (reverse undone))) (sym leads) redoable)

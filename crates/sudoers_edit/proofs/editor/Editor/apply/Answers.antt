@@ -1,0 +1,10 @@
+use Rattle.std.proofs.Common.{IfErr, rules}
+use Rattle.sudoers_edit.specs.Editing.{Refuses}
+use Rattle.sudoers_edit.specs.files.Editing.{step}
+use Rattle.sudoers_edit.proofs.files.MemoryLemmas.{refused_plain}
+use Rattle.sudoers_edit.proofs.editor.Editor.apply.Goals as goal
+
+pub returns-in_err-back-clause-memory : goal.returns-in_err-back-clause-memory
+returns-in_err-back-clause-memory c =
+    let refused : IfErr c.from_residual-in_err-back.result (λ fault. Refuses fault (step c.args.edit.now c.args.self.now.policy)) = search rules in
+    refused_plain c.read_is.ensures c.args.edit.now c.args.self.now.policy c.from_residual-in_err-back.result refused
