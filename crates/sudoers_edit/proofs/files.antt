@@ -4,6 +4,7 @@ pub mod AcceptedSplices
 pub mod DefLemmas
 pub mod EndLemmas
 pub mod HistoryLemmas
+pub mod InverseLaw
 pub mod JournalLemmas
 pub mod KnownLemmas
 pub mod LandLemmas
@@ -28,6 +29,7 @@ pub mod PruneRefused
 pub mod PruneSort
 pub mod PruneWalk
 pub mod RedoLemmas
+pub mod RemovalNumbers
 pub mod RenameCovers
 pub mod RenameFiles
 pub mod RenameLaws

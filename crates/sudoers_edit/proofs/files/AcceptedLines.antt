@@ -1,18 +1,21 @@
 -- An edit that is accepted leads to a policy, and its inverse leads back: edits of whole lines, and of the end of the last.
-use Rattle.std.proofs.Common.{◌≡◌, ◌∙◌, ℕ, zero, suc, ◌-◌, ◌<◌, ◌≤◌, Bool, true, false, ◌&&◌, List, [], ◌∷◌, ◌++◌, length, insert, remove, slice_index_or, Option, Some, None, Result, Ok, Err, inl, inr, refl, sym, ap, subst, if◌then◌else◌, arith}
+use Rattle.std.proofs.Common.{◌≡◌, ◌∙◌, ℕ, zero, suc, ◌-◌, ◌<◌, ◌≤◌, Bool, true, false, not, ◌&&◌, ◌||◌, List, [], ◌∷◌, ◌++◌, length, insert, remove, slice_index_or, Option, Some, None, Result, Ok, Err, inl, inr, refl, sym, ap, subst, if◌then◌else◌, arith}
 use Rattle.std.proofs.lemmas.Bool.{and_parts, ltb-true, ltb-false}
 use Rattle.std.proofs.lemmas.Bool.Decides.{leb_tells}
 use Rattle.std.proofs.lemmas.Option.{slice_get_within}
-use Rattle.std.specs.List.{AllByRecursion}
+use Rattle.std.specs.List.{AllByRecursion, list_any}
 use Rattle.std.specs.Prelude.{slice_get, nat_lt}
 use Rattle.sudoers_text.specs.Cut.{cut_of, StandAlone}
 use Rattle.sudoers_text.specs.Ended.{ends_in_lf, has_unended_inside}
 use Rattle.sudoers_text.specs.Fault.{line_limit}
 use Rattle.sudoers_text.specs.Line.{join}
 use Rattle.sudoers_text.specs.Whole.{IsLogicalLine}
+use Rattle.sudoers_text.specs.Word.{is_name, is_reserved}
 use Rattle.sudoers_text.specs.declared.fault.TextFault.{TextFault}
 use Rattle.sudoers_line.specs.declared.node.Kind.{Kind}
 use Rattle.sudoers_tree.specs.Changed.{replaced}
+use Rattle.sudoers_tree.specs.Definition.{place_of}
+use Rattle.sudoers_tree.specs.Fault.{is_some}
 use Rattle.sudoers_tree.specs.Files.{FileReading, lines_in, lines_of}
 use Rattle.sudoers_tree.specs.Line.{Line}
 use Rattle.sudoers_tree.specs.Load.{Loaded, files_of, load_of}
@@ -24,13 +27,15 @@ use Rattle.sudoers_edit_script.specs.Script.{IsNumbered, AreNumbered}
 use Rattle.sudoers_edit_script.specs.declared.edit.Edit.{Edit}
 use Rattle.sudoers_edit_script.specs.declared.edit.Edit.TheVariants.{Insert, Delete, Move, Rename, EndLine, OpenEnd}
 use Rattle.sudoers_edit.specs.declared.fault.EditFault.{EditFault}
-use Rattle.sudoers_edit.specs.declared.fault.EditFault.TheVariants.{NoFile, OpenLine, NoLine, NotOneLine, EndAsIs, TooLarge}
-use Rattle.sudoers_edit.specs.Landing.{or_refuse, refuse_if}
+use Rattle.sudoers_edit.specs.declared.fault.EditFault.TheVariants.{NoFile, OpenLine, NoLine, NotOneLine, NoAlias, BadName, NameTaken, EndAsIs, TooLarge}
+use Rattle.sudoers_edit.specs.Landing.{or_refuse, refuse_if, is_too_long}
 use Rattle.sudoers_edit.specs.LineEdits.{moved, with_end, with_last, without_lf}
+use Rattle.sudoers_edit.specs.Renaming.{renamed, is_taken}
 use Rattle.sudoers_edit.specs.OneLine.{is_one_line, gives_one, IsAlone}
 use Rattle.sudoers_edit.specs.files.Editing.{in_file, line_at, step, inv, run}
 use Rattle.sudoers_edit.specs.files.Landing.{Lines, and_then, by_load, landed, policy_or_refusal, with_bytes}
 use Rattle.sudoers_edit.specs.files.LineEdits.{with_line, without_line, with_move, with_ended}
+use Rattle.sudoers_edit.specs.files.Renaming.{rename, renamed_files}
 use Rattle.sudoers_edit.specs.internal.LastLineInFile.{EndsStayCut}
 use Rattle.sudoers_edit.specs.internal.LeadingInFile.{AreFileLines, LandsIn, texts_of}
 use Rattle.sudoers_edit.proofs.EditLemmas.{each_at, each_insert, each_remove}
@@ -249,3 +254,21 @@ open_takes l f policy new loaded is = by (slice_get (texts_of policy f) (length 
           | inl more ↦ long line last more.1 (ends_in_lf line) refl
           | inr less ↦ clash EndAsIs new (step (OpenEnd f) policy) (open_short policy f line here last less.1) is
         ]
+
+-- RENAMES
+
+-- a rename that is accepted leads to files that load
+pub rename_loads : Laws → (k : Kind) (name fresh : List ℕ) (policy new : Loaded) → step (Rename k name fresh) policy ≡ Ok new → load_of (files_of new) ≡ Ok new
+unfolding rename
+rename_loads l k name fresh policy new is =
+    let walk : List Line = policy.walk.lines in
+    let files : List NamedFile = renamed_files k name fresh policy in
+    let long : Result Loaded EditFault = refuse_if (list_any is_too_long (renamed k name fresh walk)) TooLarge (policy_or_refusal files) in
+    let taken : Result Loaded EditFault = refuse_if (is_taken k fresh walk) NameTaken long in
+    let bad : Result Loaded EditFault = refuse_if (not (is_name fresh) || is_reserved fresh) BadName taken in
+    let a = not_refused (not (is_some (place_of k name walk))) NoAlias bad new is in
+    let b = not_refused (not (is_name fresh) || is_reserved fresh) BadName taken new a.1 in
+    let c = not_refused (is_taken k fresh walk) NameTaken long new b.1 in
+    let d = not_refused (list_any is_too_long (renamed k name fresh walk)) TooLarge (policy_or_refusal files) new c.1 in
+    let told : load_of files ≡ Ok new = loads (load_of files) new d.1 in
+    ap load_of (l.land.bytes files new told) ∙ told
