@@ -1,7 +1,10 @@
 -- Lemmas of edits over the files of a policy.
+pub mod AcceptedLines
+pub mod AcceptedSplices
 pub mod DefLemmas
 pub mod EndLemmas
 pub mod HistoryLemmas
+pub mod InverseLaw
 pub mod JournalLemmas
 pub mod KnownLemmas
 pub mod LandLemmas
@@ -10,11 +13,13 @@ pub mod LoadFaults
 pub mod MemberLemmas
 pub mod MemoryLemmas
 pub mod MoveLemmas
+pub mod NamedLaw
 pub mod PlanLemmas
 pub mod PruneCut
 pub mod PruneDone
 pub mod PruneFalls
 pub mod PruneGoes
+pub mod PruneList
 pub mod PruneLists
 pub mod PruneOrder
 pub mod PruneOut
@@ -24,6 +29,7 @@ pub mod PruneRefused
 pub mod PruneSort
 pub mod PruneWalk
 pub mod RedoLemmas
+pub mod RemovalNumbers
 pub mod RenameCovers
 pub mod RenameFiles
 pub mod RenameLaws
