@@ -1,4 +1,5 @@
 -- Lemmas of edits over the files of a policy.
+pub mod BackLemmas
 pub mod DefLemmas
 pub mod EndLemmas
 pub mod KnownLemmas
@@ -20,3 +21,4 @@ pub mod RenameSwaps
 pub mod ReplaceLemmas
 pub mod SpotLemmas
 pub mod SwapLemmas
+pub mod UndoneLemmas
