@@ -1,8 +1,8 @@
 -- What takes changes of the files of a policy back leads to the files before them.
-use Rattle.std.proofs.Common.{◌≡◌, ◌∙◌, ◌<◌, ◌≤◌, ◌+◌, ◌==◌, ℕ, zero, suc, Bool, true, false, if◌then◌else◌, List, [], ◌∷◌, ◌++◌, length, map, slice_index_or, Ok, refl, sym, ap, ap₂, subst, arith}
+use Rattle.std.proofs.Common.{◌≡◌, ◌∙◌, ◌⊎◌, inl, inr, ◌<◌, ◌≤◌, ◌+◌, ◌==◌, ℕ, zero, suc, Bool, true, false, if◌then◌else◌, List, [], ◌∷◌, ◌++◌, length, map, slice_index_or, drop, append_assoc, Ok, refl, sym, ap, ap₂, subst, arith}
 use Rattle.std.specs.List.{AllByRecursion}
 use Rattle.std.specs.Prelude.{option_to_list}
-use Rattle.std.proofs.lemmas.Bool.{eqb-true, eq-eqb}
+use Rattle.std.proofs.lemmas.Bool.{eqb-true, eq-eqb, ne_eqb}
 use Rattle.std.proofs.lemmas.List.{length-append, length-map}
 use Rattle.sudoers_text.specs.Cut.{StandAlone, cut_of}
 use Rattle.sudoers_text.specs.Ended.{has_unended_inside}
@@ -289,3 +289,65 @@ pub few_lines : ((line : List ℕ) → cut_of line ≡ Ok (line ∷ []) → (0 <
 few_lines size [] alone = omega arith
 few_lines size (line ∷ lines) alone =
     omega (arith, (size line alone.0).0, few_lines size lines alone.1, length-append line (join lines))
+
+-- ONE CHANGE AFTER ANOTHER
+
+-- a change and those behind it
+change_behind : (k : ℕ) (changes : List LineChange) (d : LineChange) → k < length changes → drop k changes ≡ slice_index_or changes k d ∷ drop (suc k) changes
+change_behind k [] d inside = absurd (omega (arith, inside))
+change_behind zero (change ∷ changes) d inside = refl
+change_behind (suc k) (change ∷ changes) d inside = change_behind k changes d (omega (arith, inside))
+
+-- it puts in one line at most, and takes out one at most
+pub puts_one : (change : LineChange) → (put_by change ≤ 1) × (taken_by change ≤ 1)
+puts_one (Put file at text) = (omega arith, omega arith)
+puts_one (Swap file at text) = (omega arith, omega arith)
+puts_one (Take file at) = (omega arith, omega arith)
+
+-- The counts at a change of the file g: those so far if it is of the last file, and none otherwise.
+abbrev pub CountAt : (g last put taken here put_here taken_here : ℕ) → Type 0
+CountAt g last put taken here put_here taken_here =
+    ((g ≡ last → ⊥) × (here ≡ g) × (put_here ≡ 0) × (taken_here ≡ 0)) ⊎ ((g ≡ last) × (here ≡ last) × (put_here ≡ put) × (taken_here ≡ taken))
+
+since_at : (files : List FileReading) (last put taken here put_here taken_here : ℕ) (change : LineChange) (changes : List LineChange)
+    → CountAt (file_of change) last put taken here put_here taken_here
+    → undone_since files last put taken (change ∷ changes)
+    ≡ one_undone put_here taken_here (texts (lines_of files (file_of change))) change
+    ∷ undone_since files here (put_here + put_by change) (taken_here + taken_by change) changes
+since_at files last put taken here put_here taken_here change changes counts = elim counts [
+  | inl other ↦
+      back_later files last put taken change changes (ne_eqb (file_of change) last other.0)
+      ∙ ap₂ (λ (c : LineChange) (cs : List LineChange). c ∷ cs)
+      (ap₂ (λ (i j : ℕ). one_undone i j (texts (lines_of files (file_of change))) change) (sym other.2) (sym other.3))
+      (from (file_of change) here (put_by change) (put_here + put_by change) (taken_by change) (taken_here + taken_by change)
+      (sym other.1) (omega (arith, other.2)) (omega (arith, other.3)))
+  | inr same ↦
+      back_here files last put taken change changes (eq-eqb (file_of change) last same.0)
+      ∙ ap₂ (λ (c : LineChange) (cs : List LineChange). c ∷ cs)
+      (ap₂ (λ (i j : ℕ). one_undone i j (texts (lines_of files last)) change) (sym same.2) (sym same.3)
+      ∙ ap (λ n. one_undone put_here taken_here (texts (lines_of files n)) change) (sym same.0))
+      (from last here (put + put_by change) (put_here + put_by change) (taken + taken_by change) (taken_here + taken_by change)
+      (sym same.1) (omega (arith, same.2)) (omega (arith, same.3)))
+]
+  where
+    from : (f g i j m n : ℕ) → f ≡ g → i ≡ j → m ≡ n → undone_since files f i m changes ≡ undone_since files g j n changes
+    from f g i j m n a b c = ap (λ x. undone_since files x i m changes) a ∙ ap₂ (λ (x y : ℕ). undone_since files g x y changes) b c
+
+-- what takes the changes up to the next one back, and then the others
+pub next_back : (files : List FileReading) (changes done now : List LineChange) (last put taken here put_here taken_here put_next taken_next k : ℕ)
+    (change back d : LineChange) → done ++ undone_since files last put taken (drop k changes) ≡ undone files changes
+    → k < length changes → change ≡ slice_index_or changes k d → CountAt (file_of change) last put taken here put_here taken_here
+    → back ≡ one_undone put_here taken_here (texts (lines_of files (file_of change))) change
+    → put_next ≡ put_here + put_by change → taken_next ≡ taken_here + taken_by change → now ≡ done ++ back ∷ []
+    → now ++ undone_since files here put_next taken_next (drop (k + 1) changes) ≡ undone files changes
+next_back files changes done now last put taken here put_here taken_here put_next taken_next k change back d so_far inside is counts back_is puts takes now_is =
+    let later : List LineChange = drop (suc k) changes in
+    let next : k + 1 ≡ suc k = omega arith in
+    ap (λ j. now ++ undone_since files here put_next taken_next (drop j changes)) next
+    ∙ ap (λ (cs : List LineChange). cs ++ undone_since files here put_next taken_next later) now_is
+    ∙ append_assoc done (back ∷ []) (undone_since files here put_next taken_next later)
+    ∙ ap (λ (cs : List LineChange). done ++ cs)
+    (ap₂ (λ (c : LineChange) (cs : List LineChange). c ∷ cs) back_is (ap₂ (λ (x y : ℕ). undone_since files here x y later) puts takes)
+    ∙ sym (since_at files last put taken here put_here taken_here change later counts)
+    ∙ ap (undone_since files last put taken) (ap (λ (c : LineChange). c ∷ later) is ∙ sym (change_behind k changes d inside)))
+    ∙ so_far
