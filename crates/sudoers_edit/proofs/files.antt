@@ -1,6 +1,7 @@
 -- Lemmas of edits over the files of a policy.
 pub mod AcceptedLines
 pub mod AcceptedSplices
+pub mod BackLemmas
 pub mod DefLemmas
 pub mod EndLemmas
 pub mod HistoryLemmas
@@ -43,3 +44,4 @@ pub mod RenameSwaps
 pub mod ReplaceLemmas
 pub mod SpotLemmas
 pub mod SwapLemmas
+pub mod UndoneLemmas
