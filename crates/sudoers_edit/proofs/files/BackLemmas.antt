@@ -100,7 +100,7 @@ undone_each files f last put taken p t count (change ∷ changes) go counts =
     behind it f_is = omega (arith, not_equal g last it, go.0, f_is)
 
     by : ((last put taken p t : ℕ) → GoByFiles last changes count → Counts f last put taken p t
-            → changes_of f (undone_since files last put taken changes) ≡ undone_from p t (texts (lines_of files f)) (changes_of f changes))
+        → changes_of f (undone_since files last put taken changes) ≡ undone_from p t (texts (lines_of files f)) (changes_of f changes))
         → (b : Bool) → (g == last) ≡ b
         → changes_of f (undone_since files last put taken (change ∷ changes)) ≡ undone_from p t (texts (lines_of files f)) (changes_of f (change ∷ changes))
     by more true it =
@@ -111,26 +111,26 @@ undone_each files f last put taken p t count (change ∷ changes) go counts =
         (undone_since files last (put + put_by change) (taken + taken_by change) changes)
         (undone_file put taken (texts (lines_of files last)) change)
         (λ is. let f_is : f ≡ last = sym (eqb-true g f is) ∙ same in let are = counts.here f_is in
-            ap₂ (λ (i j : ℕ). one_undone i j (texts (lines_of files last)) change) (sym are.0) (sym are.1)
-            ∙ ap (λ n. one_undone p t (texts (lines_of files n)) change) (sym f_is))
+        ap₂ (λ (i j : ℕ). one_undone i j (texts (lines_of files last)) change) (sym are.0) (sym are.1)
+        ∙ ap (λ n. one_undone p t (texts (lines_of files n)) change) (sym f_is))
         (λ is. let f_is : f ≡ last = sym (eqb-true g f is) ∙ same in let are = counts.here f_is in
-            more last (put + put_by change) (taken + taken_by change) (p + put_by change) (t + taken_by change) go_on
-            (record { here = λ at. (ap (λ n. n + put_by change) are.0, ap (λ n. n + taken_by change) are.1); later = λ less. absurd (omega (arith, less, f_is)) }))
+        more last (put + put_by change) (taken + taken_by change) (p + put_by change) (t + taken_by change) go_on
+        (record { here = λ at. (ap (λ n. n + put_by change) are.0, ap (λ n. n + taken_by change) are.1); later = λ less. absurd (omega (arith, less, f_is)) }))
         (λ is. more last (put + put_by change) (taken + taken_by change) p t go_on
-            (record { here = λ at. absurd (not_equal g f is (same ∙ sym at)); later = counts.later }))
+        (record { here = λ at. absurd (not_equal g f is (same ∙ sym at)); later = counts.later }))
     by more false it =
         ap (changes_of f) (back_later files last put taken change changes it)
         ∙ joined files f p t change (one_undone 0 0 (texts (lines_of files g)) change) changes
         (undone_since files g (put_by change) (taken_by change) changes)
         (undone_file 0 0 (texts (lines_of files g)) change)
         (λ is. let f_is : g ≡ f = eqb-true g f is in let are = counts.later (behind it f_is) in
-            ap₂ (λ (i j : ℕ). one_undone i j (texts (lines_of files g)) change) (sym are.0) (sym are.1)
-            ∙ ap (λ n. one_undone p t (texts (lines_of files n)) change) f_is)
+        ap₂ (λ (i j : ℕ). one_undone i j (texts (lines_of files g)) change) (sym are.0) (sym are.1)
+        ∙ ap (λ n. one_undone p t (texts (lines_of files n)) change) f_is)
         (λ is. let f_is : g ≡ f = eqb-true g f is in let are = counts.later (behind it f_is) in
-            more g (put_by change) (taken_by change) (p + put_by change) (t + taken_by change) go.2
-            (record { here = λ at. (omega (arith, are.0), omega (arith, are.1)); later = λ less. absurd (omega (arith, less, f_is)) }))
+        more g (put_by change) (taken_by change) (p + put_by change) (t + taken_by change) go.2
+        (record { here = λ at. (omega (arith, are.0), omega (arith, are.1)); later = λ less. absurd (omega (arith, less, f_is)) }))
         (λ is. more g (put_by change) (taken_by change) p t go.2
-            (record { here = λ at. absurd (not_equal g f is (sym at)); later = λ less. counts.later (omega (arith, less, go.0)) }))
+        (record { here = λ at. absurd (not_equal g f is (sym at)); later = λ less. counts.later (omega (arith, less, go.0)) }))
 
 -- What takes changes back takes those of each file back.
 pub undone_of : (files : List FileReading) (f : ℕ) (changes : List LineChange) → GoByFiles 0 changes (length files)

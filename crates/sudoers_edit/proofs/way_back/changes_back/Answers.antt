@@ -1,4 +1,4 @@
-use Rattle.std.proofs.Common.{◌≡◌, ◌∙◌, inl, inr, ◌≤◌, ◌<◌, ◌+◌, ℕ, List, length, slice_index_or, ap, subst, sym, arith}
+use Rattle.std.proofs.Common.{◌≡◌, ◌∙◌, inl, inr, ◌≤◌, ◌+◌, ℕ, length, slice_index_or, ap, subst, sym, arith}
 use Rattle.sudoers_tree.specs.Changed.{file_of, place_of}
 use Rattle.sudoers_tree.specs.Files.{lines_of}
 use Rattle.sudoers_tree.specs.declared.line_change.LineChange.{LineChange}
@@ -24,10 +24,13 @@ change_back-requires c =
     ]
 
 pub loop-change-preserved : goal.loop-change-preserved
-loop-change-preserved c = (omega (arith, few.0, puts, (puts_one change).0), omega (arith, few.1, takes, (puts_one change).1),
-    next_back c.args.policy.now.files c.args.changes.now c.loop-change.back.items c.push.new.self.items
-    c.loop-change.last c.loop-change.put c.loop-change.taken c.if-file-last.last c.if-file-last.put c.if-file-last.taken c.match-change.put c.match-change.taken c.loop-change.change-index
-    change c.in_ok-change_back.field-0 change c.loop-change.invariant.2 c.loop-change-test.true c.change-item.is counts c.in_ok-change_back.ensures puts takes c.in_ok-push.ensures.items)
+loop-change-preserved c = (
+  omega (arith, few.0, puts, (puts_one change).0),
+  omega (arith, few.1, takes, (puts_one change).1),
+  next_back c.args.policy.now.files c.args.changes.now c.loop-change.back.items c.push.new.self.items
+      c.loop-change.last c.loop-change.put c.loop-change.taken c.if-file-last.last c.if-file-last.put c.if-file-last.taken c.match-change.put c.match-change.taken c.loop-change.change-index
+      change c.in_ok-change_back.field-0 change c.loop-change.invariant.2 c.loop-change-test.true c.change-item.is counts c.in_ok-change_back.ensures puts takes c.in_ok-push.ensures.items,
+)
   where
     change : LineChange
     change = c.change-item.result

@@ -1,4 +1,4 @@
-use Rattle.std.proofs.Common.{◌≤◌, length, arith}
+use Rattle.std.proofs.Common.{arith}
 use Rattle.sudoers_edit.proofs.PolicyLemmas.{count_texts}
 use Rattle.sudoers_edit.proofs.files.BackLemmas.{few_lines}
 use Rattle.sudoers_tree.specs.Files.{lines_of}
