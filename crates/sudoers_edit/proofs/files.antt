@@ -14,6 +14,7 @@ pub mod MemberLemmas
 pub mod MemoryLemmas
 pub mod MoveLemmas
 pub mod NamedLaw
+pub mod PayloadLaw
 pub mod PlanLemmas
 pub mod PruneCut
 pub mod PruneDone
