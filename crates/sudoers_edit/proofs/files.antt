@@ -15,6 +15,7 @@ pub mod MemberLemmas
 pub mod MemoryLemmas
 pub mod MoveLemmas
 pub mod NamedLaw
+pub mod PayloadLaw
 pub mod PlanLemmas
 pub mod PruneCut
 pub mod PruneDone

@@ -93,6 +93,12 @@ insert_parts true c lines new e = absurd cc
 insert_parts false true lines new e = (refl, refl, cc)
 insert_parts false false lines new e = absurd cc
 
+-- a line that is put in stands among the lines
+pub inserted : (at : ℕ) (t : List ℕ) (lines new : Lines) → with_line at t lines ≡ Ok new → (at ≤ length lines) × (insert lines at t ≡ new)
+inserted at t lines new is =
+    let p = insert_parts (nat_lt (length lines) at) (is_one_line t) (insert lines at t) new is in
+    (ltb-false (length lines) at p.0, p.2)
+
 pub loads : (r : Result Loaded LoadFault) (new : Loaded) → by_load r ≡ Ok new → r ≡ Ok new
 loads (Ok policy) new is = let same : policy ≡ new = cc in ap (λ (p : Loaded). Ok p) same
 loads (Err fault) new is = absurd cc
