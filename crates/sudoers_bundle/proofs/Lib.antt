@@ -1,0 +1,3 @@
+mod PartLemmas
+mod NumberLemmas
+mod FileLemmas
