@@ -7,8 +7,7 @@ use Rattle.sudoers_text.specs.Word.{is_reserved}
 use Rattle.sudoers_line.specs.Node.{Def, Node}
 use Rattle.sudoers_line.specs.declared.node.Kind.{Kind}
 use Rattle.sudoers_line.specs.Node as node
-use Rattle.sudoers_tree.specs.Line.{Line}
-use Rattle.sudoers_tree.specs.Definition.{Definition, is_kind, defines, defined, definitions_from, definitions_in, definitions_since}
+use Rattle.sudoers_tree.specs.Definition.{Definition, is_kind, defines, defined, definitions_from, definitions_in}
 use Rattle.sudoers_tree.specs.Policy.{count_of, IsFree, AreOnce}
 
 -- The second are definitions of the first, in their order: each has the kind and the name of its own.
@@ -47,21 +46,6 @@ in_part l m node.Comment = tt
 in_part l m (node.Include dir path) = tt
 in_part l m (node.Defaults scope params) = tt
 in_part l m (node.Spec users groups) = tt
-
-pub since_part : (n m : ℕ) (lines : List Line) → IsPart (definitions_since n lines) (definitions_since m lines)
-since_part n m [] = tt
-since_part n m (line ∷ lines) =
-    part_append (definitions_in n line.node) (definitions_in m line.node) (definitions_since (n + 1) lines) (definitions_since (m + 1) lines)
-    (in_part n m line.node) (since_part (n + 1) (m + 1) lines)
-
--- lines with one of them
-pub with_part : (n m : ℕ) (front : List Line) (old new : List Line) → ((i j : ℕ) → IsPart (definitions_since i old) (definitions_since j new))
-    → IsPart (definitions_since n (front ++ old)) (definitions_since m (front ++ new))
-with_part n m [] old new p = p n m
-with_part n m (line ∷ front) old new p =
-    part_append (definitions_in n line.node) (definitions_in m line.node)
-    (definitions_since (n + 1) (front ++ old)) (definitions_since (m + 1) (front ++ new))
-    (in_part n m line.node) (with_part (n + 1) (m + 1) front old new p)
 
 -- ---- what is true of a part
 

@@ -1,18 +1,14 @@
 -- A definition stands where it stood, when a line of definitions has a member more or less.
-use Rattle.std.proofs.Common.{◌≡◌, ℕ, zero, suc, ◌+◌, Bool, true, false, ◌&&◌, List, [], ◌∷◌, ◌++◌, Option, Some, option_map, refl, sym, ap, ap₂, subst, bytes_eq, if◌then◌else◌}
+use Rattle.std.proofs.Common.{◌≡◌, ℕ, zero, suc, ◌+◌, Bool, true, false, ◌&&◌, List, [], ◌∷◌, ◌++◌, Option, Some, option_map, refl, sym, ap, ap₂, bytes_eq, if◌then◌else◌}
 use Rattle.std.proofs.lemmas.Slice.Eq.{bytes_eq-Decides}
-use Rattle.std.specs.Prelude.{slice_get}
 use Rattle.sudoers_line.specs.Node.{Def}
 use Rattle.sudoers_line.specs.declared.node.Kind.{Kind}
 use Rattle.sudoers_line.specs.declared.node.Kind.TheVariants.{User, Runas, Host, Cmnd}
-use Rattle.sudoers_line.specs.Node as node
-use Rattle.sudoers_tree.specs.Line.{Line}
 use Rattle.sudoers_tree.specs.declared.place.Place.{Place}
-use Rattle.sudoers_tree.specs.Definition.{Definition, is_kind, definitions_from, definitions_in, definitions_since, definitions, defines, defined, place_of}
+use Rattle.sudoers_tree.specs.Definition.{Definition, is_kind, definitions_from, defines, defined}
 use Rattle.sudoers_edit.specs.Alike.{are_alike, is_same_def}
 use Rattle.sudoers_edit.specs.Splice.{changed_at, less_member}
 use Rattle.sudoers_edit.proofs.BackLemmas.{both}
-use Rattle.sudoers_edit.proofs.ReplacedLemmas.{line_put}
 
 -- NAMES
 
@@ -103,25 +99,6 @@ heads_placed k name (d ∷ ds) [] h = absurd h
 heads_placed k name (d ∷ ds) (e ∷ es) h =
     place_if (defines k name d) (defines k name e) d.place e.place (defined k name ds) (defined k name es) d e
     (ap₂ (λ j n. is_kind k j && bytes_eq name n) h.0 h.2) h.1 (heads_placed k name ds es h.3)
-
-heads_put : (lines : List Line) (at m : ℕ) (line new : Line) → slice_get lines at ≡ Some line
-    → ((n : ℕ) → SameHeads (definitions_in n new.node) (definitions_in n line.node)) → SameHeads (definitions_since m (line_put at new lines)) (definitions_since m lines)
-unfolding line_put
-heads_put [] at m line new here same = absurd (cc)
-heads_put (l ∷ lines) zero m line new here same =
-    let e : line ≡ l = cc in
-    heads_append (definitions_in m new.node) (definitions_in m l.node) (definitions_since (m + 1) lines) (definitions_since (m + 1) lines)
-    (subst (λ (x : Line). SameHeads (definitions_in m new.node) (definitions_in m x.node)) e (same m)) (heads_refl (definitions_since (m + 1) lines))
-heads_put (l ∷ lines) (suc at) m line new here same =
-    heads_append (definitions_in m l.node) (definitions_in m l.node) (definitions_since (m + 1) (line_put at new lines)) (definitions_since (m + 1) lines)
-    (heads_refl (definitions_in m l.node)) (heads_put lines at (m + 1) line new here same)
-
--- a line of which the definitions keep their kind and names
-pub place_kept : (k : Kind) (name : List ℕ) (lines : List Line) (at : ℕ) (line new : Line) (j : Kind) (ds es : List Def) → slice_get lines at ≡ Some line
-    → line.node ≡ node.Alias j ds → new.node ≡ node.Alias j es → SameNames es ds → place_of k name (line_put at new lines) ≡ place_of k name lines
-place_kept k name lines at line new j ds es here is was same =
-    heads_placed k name (definitions (line_put at new lines)) (definitions lines)
-    (heads_put lines at 0 line new here (λ n. rw (is, was) (heads_from j n 0 es ds same)))
 
 pub names_sym : (ds es : List Def) → SameNames ds es → SameNames es ds
 unfolding SameNames

@@ -1,21 +1,9 @@
 -- An alias given another name: the bytes that are put, and the refusals.
-use Rattle.std.proofs.Common.{◌≡◌, ℕ, zero, suc, ◌+◌, ◌-◌, ◌≤◌, true, false, not, ◌||◌, List, [], ◌∷◌, ◌++◌, length, take, drop, Ok, Err, inl, inr, refl, sym, ap, ◌∙◌, arith, append_assoc}
+use Rattle.std.proofs.Common.{◌≡◌, ℕ, zero, suc, ◌+◌, ◌-◌, ◌≤◌, ◌||◌, List, [], ◌∷◌, ◌++◌, length, take, drop, inl, inr, refl, sym, ap, ◌∙◌, arith, append_assoc}
 use Rattle.std.proofs.lemmas.List.{drop_all}
 use Rattle.std.proofs.lemmas.Bool.Decides.{leb_tells}
-use Rattle.std.specs.List.{list_any}
 use Rattle.std.specs.Prelude.{min}
-use Rattle.sudoers_text.specs.Line.{join}
-use Rattle.sudoers_text.specs.Word.{is_name, is_reserved}
-use Rattle.sudoers_line.specs.declared.node.Kind.{Kind}
-use Rattle.sudoers_tree.specs.Line.{Line}
-use Rattle.sudoers_tree.specs.Definition.{place_of}
-use Rattle.sudoers_tree.specs.Fault.{is_some}
-use Rattle.sudoers_tree.specs.Policy.{texts}
-use Rattle.sudoers_tree.specs.Reading.{read_of}
-use Rattle.sudoers_edit_script.specs.declared.edit.Edit.TheVariants.{Rename}
-use Rattle.sudoers_edit.specs.declared.fault.EditFault.TheVariants.{NoAlias, BadName, NameTaken, TooLarge}
-use Rattle.sudoers_edit.specs.Landing.{is_too_long}
-use Rattle.sudoers_edit.specs.Renaming.{put_at, renamed, is_taken, rename}
+use Rattle.sudoers_edit.specs.Renaming.{put_at}
 use Rattle.sudoers_edit.specs.Editing.{step}
 
 -- OTHER BYTES
@@ -57,30 +45,3 @@ put_more text new from next start size most fresh starts line is step within =
     ∙ append_assoc (text ++ kept) fresh rest
     ∙ append_assoc text kept (fresh ++ rest)
     ∙ ap (λ z. text ++ z) (sym (append_assoc kept fresh rest))
-
--- REFUSALS
-
-pub no_alias : (k : Kind) (name fresh : List ℕ) (policy : List Line) → is_some (place_of k name policy) ≡ false → rename k name fresh policy ≡ Err NoAlias
-unfolding rename
-no_alias k name fresh policy none = rw none refl
-
-pub bad_name : (k : Kind) (name fresh : List ℕ) (policy : List Line) → is_some (place_of k name policy) ≡ true
-    → (not (is_name fresh) || is_reserved fresh) ≡ true → rename k name fresh policy ≡ Err BadName
-unfolding rename
-bad_name k name fresh policy some bad = rw (some, bad) refl
-
-pub name_taken : (k : Kind) (name fresh : List ℕ) (policy : List Line) → is_some (place_of k name policy) ≡ true
-    → (not (is_name fresh) || is_reserved fresh) ≡ false → is_taken k fresh policy ≡ true → rename k name fresh policy ≡ Err NameTaken
-unfolding rename
-name_taken k name fresh policy some good taken = rw (some, good, taken) refl
-
-pub too_long : (k : Kind) (name fresh : List ℕ) (policy : List Line) → is_some (place_of k name policy) ≡ true
-    → (not (is_name fresh) || is_reserved fresh) ≡ false → is_taken k fresh policy ≡ false
-    → list_any is_too_long (renamed k name fresh policy) ≡ true → rename k name fresh policy ≡ Err TooLarge
-unfolding rename
-too_long k name fresh policy some good free long = rw (some, good, free, long) refl
-
--- the lines of a policy say what they say
-pub rename_step : (k : Kind) (name fresh : List ℕ) (policy : List Line) → read_of (join (texts policy)) ≡ Ok policy
-    → step (Rename k name fresh) (texts policy) ≡ rename k name fresh policy
-rename_step k name fresh policy read = rw read refl

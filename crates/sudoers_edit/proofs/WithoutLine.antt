@@ -1,10 +1,5 @@
 -- A policy without one of its lines.
-use Rattle.std.proofs.Common.{◌≡◌, ℕ, ◌<◌, zero, suc, List, [], ◌∷◌, ◌++◌, length, remove, Ok, refl, sym, ap, subst, ◌∙◌, arith}
-use Rattle.sudoers_text.specs.Line.{join}
-use Rattle.sudoers_tree.specs.Line.{Line}
-use Rattle.sudoers_tree.specs.Policy.{texts}
-use Rattle.sudoers_tree.specs.Reading.{read_of}
-use Rattle.sudoers_edit.proofs.Whole.{Laws, IsWhole, whole_of, read_whole, whole_without, remove_at}
+use Rattle.std.proofs.Common.{◌≡◌, ℕ, ◌<◌, zero, suc, List, [], ◌∷◌, ◌++◌, length, refl, ap, ◌∙◌, arith}
 
 -- a list, cut at one of its items
 pub record Cut {X : Type 0} (xs : List X) (at : ℕ) : Type 0 where
@@ -20,12 +15,3 @@ cut_at (x ∷ xs) zero l = record { front = []; one = x; rest = xs; is = refl; p
 cut_at {X} (x ∷ xs) (suc at) l =
     let c = cut_at xs at (omega (arith, l)) in
     record { front = x ∷ c.front; one = c.one; rest = c.rest; is = ap (λ (zs : List X). x ∷ zs) c.is; place = ap suc c.place }
-
-pub without : Laws → (policy : List Line) (at : ℕ) → read_of (join (texts policy)) ≡ Ok policy → at < length policy
-    → read_of (join (texts (remove policy at))) ≡ Ok (remove policy at)
-without l policy at read inside =
-    let c = cut_at policy at inside in
-    let gone : remove policy at ≡ c.front ++ c.rest =
-    ap (λ ls. remove ls at) c.is ∙ ap (remove (c.front ++ c.one ∷ c.rest)) (sym c.place) ∙ remove_at c.front c.one c.rest in
-    let left = whole_without c.front c.one c.rest (subst IsWhole c.is (whole_of l policy read)) in
-    read_whole l (remove policy at) (subst IsWhole (sym gone) left)

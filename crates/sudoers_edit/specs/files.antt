@@ -5,6 +5,7 @@ pub mod SpliceEdits
 pub mod Renaming
 pub mod Renamed
 pub mod Pruning
+pub mod Pruned
 pub mod Editing
 pub mod Memory
 pub mod Undoing

@@ -1,9 +1,11 @@
 -- Devices of the proofs. No contract of an exported function cites them.
-pub mod Leading
-pub mod UndoneLines
-pub mod FileUndone
+pub mod FileDrafts
 pub mod FileLeading
+pub mod FilePruneOrder
 pub mod FileSplicing
-pub mod LeadingInFile
+pub mod FileUndone
 pub mod LastLineInFile
+pub mod Leading
+pub mod LeadingInFile
 pub mod MadeInFiles
+pub mod UndoneLines

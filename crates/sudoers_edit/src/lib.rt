@@ -10,6 +10,7 @@ mod making;
 mod name_places;
 mod one_more;
 mod plan;
+mod prune_laws;
 mod prune_plan;
 mod pruning;
 mod renaming;

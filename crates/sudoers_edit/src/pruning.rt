@@ -1,10 +1,135 @@
-//! What a prune takes out of the files of a policy.
+//! What a prune takes out of the files on the walk.
+ghost use Rattle.std.specs.Prelude.{◌≡◌, ◌≤◌, ◌<◌, ◌^◌, ◌++◌, length, ℕ, IfOk, OnOk};
+ghost use Rattle.std.specs.List.{All};
+ghost use Rattle.sudoers_line.specs.declared.node.Kind.{Kind as AKind};
+ghost use Rattle.sudoers_line_rows.specs.View.{node_shown};
+ghost use Rattle.sudoers_tree.specs.declared.place.Place.{Place as APlace};
+ghost use Rattle.sudoers_tree.specs.Definition.{Definition, definitions, definitions_in};
+ghost use Rattle.sudoers_tree.specs.Policy.{alias_limit};
+ghost use Rattle.sudoers_tree.specs.Walk.{spot_at as the_spot};
+ghost use Rattle.sudoers_edit.specs.files.Pruning.{removals as the_removals};
+ghost use Rattle.sudoers_edit.specs.internal.FilePruneOrder.{front_count, removals_at};
+
+use std::alloc::{AllocError, Global};
+use sudoers_check::find_unused;
+use sudoers_text::laws::{line_alone_size, lines_stand_alone};
+use sudoers_tree::laws::{loaded_files_are_cut, loaded_is_walk, loaded_lines_stand};
+use sudoers_tree::{Kind, Node, Place, Policy, Spot};
 
 /// What Prune takes out.
 #[derive(Clone, Copy)]
 pub enum Removal {
-    /// A line of definitions, none of which is left.
+    /// A line of definitions of the file, none of which is left.
     Line { file: u32, at: u32 },
-    /// A definition of a line.
+    /// A definition of a line of the file.
     Def { file: u32, line: u32, at: u32 },
+}
+
+/// Returns what Prune takes out of a policy, in its order.
+pub fn removals(alloc: Global, policy: &Policy) -> Result<Vec<Removal>, AllocError>
+    ensures { IfOk result (λ removals. removals.items ≡ the_removals policy.now.walk) }
+{
+    places_fit(policy);
+    let places = find_unused(alloc, policy.walk())?;
+    let mut removals = Vec::new(alloc);
+    let mut rest = places.as_slice();
+    let lines = policy.lines();
+    for (number, row) in lines.rows.iter().enumerate() {
+        let (here, behind) = rest.split_at(count_in_front(rest, number));
+        append_removals(
+            spot_at(policy, number),
+            definitions_of(&lines.tables.node(&row.node)),
+            here,
+            &mut removals,
+        )?;
+        rest = behind;
+    }
+    removals.reverse();
+    Ok(removals)
+}
+
+/// Returns where a line of the walk stands.
+fn spot_at(policy: &Policy, number: usize) -> Spot
+    ensures { result ≡ the_spot policy.now.walk number }
+{
+    match policy.spots().get(number) {
+        Some(spot) => *spot,
+        None => Spot {
+            file: 0,
+            line: 0,
+            row: 1,
+        },
+    }
+}
+
+/// Returns how many of the first places are in the line.
+fn count_in_front(places: &[(Kind, Place)], line: usize) -> usize
+    ensures is { result ≡ front_count line places.now }
+    ensures within { result ≤ length places.now }
+{
+    let mut count: usize = 0;
+    for (_, place) in places {
+        if place.line != line {
+            break;
+        }
+        count += 1;
+    }
+    count
+}
+
+/// Returns how many definitions a line has.
+fn definitions_of(node: &Node<'_>) -> usize
+    ensures { (n : ℕ) → result ≡ length (definitions_in n (node_shown node.now)) }
+{
+    match node {
+        Node::Alias { defs, .. } => defs.rows.len(),
+        _ => 0,
+    }
+}
+
+/// Appends the removals of one line: the line if all its definitions are unused, or else each of those at these places.
+fn append_removals(
+    at: Spot,
+    count: usize,
+    here: &[(Kind, Place)],
+    removals: &mut Vec<Removal>,
+) -> Result<(), AllocError>
+    requires file { at.file < 2 ^ 32 }
+    requires line { at.line < 2 ^ 32 }
+    requires defs { All (λ (p : AKind × APlace). p.1.def < 2 ^ 32) here.now }
+    ensures { OnOk result (removals.new.items ≡ removals.old.items ++ removals_at at count here.now) }
+{
+    if here.is_empty() {
+        return Ok(());
+    }
+    if here.len() == count {
+        removals.push(Removal::Line {
+            file: at.file as u32,
+            at: at.line as u32,
+        })?;
+        return Ok(());
+    }
+    for (_, place) in here {
+        removals.push(Removal::Def {
+            file: at.file as u32,
+            line: at.line as u32,
+            at: place.def as u32,
+        })?;
+    }
+    Ok(())
+}
+
+/// A law: where a line of the walk stands, and which definition of its line each is, fits the numbers of edits.
+fn places_fit(policy: &Policy)
+    ensures files { (n : ℕ) → (the_spot policy.now.walk n).file < 2 ^ 32 }
+    ensures lines { (n : ℕ) → (the_spot policy.now.walk n).line < 2 ^ 32 }
+    ensures defs { All (λ (d : Definition). d.place.def < alias_limit) (definitions policy.now.walk.lines) }
+{
+    policy.is_loaded();
+    policy.files_fit();
+    loaded_is_walk();
+    loaded_lines_stand();
+    loaded_files_are_cut();
+    lines_stand_alone();
+    line_alone_size();
 }

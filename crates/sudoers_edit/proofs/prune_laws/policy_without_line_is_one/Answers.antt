@@ -1,0 +1,29 @@
+use Rattle.sudoers_edit.specs.internal.FileDrafts.{LineGoes}
+use Rattle.sudoers_edit.proofs.files.PruneGoes.{line_goes}
+use Rattle.sudoers_edit.proofs.files.PrunePut.{FileLaws}
+use Rattle.sudoers_edit.proofs.prune_laws.policy_without_line_is_one.Goals as goal
+
+pub returns : goal.returns
+returns c = λ policy f n line loaded on here nowhere.
+    let goes : LineGoes f n policy = line_goes laws policy f n line loaded on here nowhere in
+    (goes.next, goes.made.forth, goes.left.here)
+  where
+    laws : FileLaws
+    laws = record {
+      loads = c.mapped_files_load.ensures;
+      walk = c.loaded_is_walk.ensures;
+      stand = c.loaded_lines_stand.ensures;
+      parse = c.loaded_files_are.ensures.parse;
+      cut = c.loaded_files_are_cut.ensures;
+      said = c.loaded_lines_are_said.ensures;
+      joined = c.lines_of_join.ensures;
+      alone = c.lines_stand_alone.ensures;
+      size = c.line_alone_size.ensures;
+      single = c.line_alone_is_whole.ensures.alone;
+      whole = c.line_alone_is_whole.ensures.whole;
+      tells = c.whole_line_is.ensures.tells;
+      outcome = c.outcome_is.ensures;
+      reading = c.one_reading.ensures;
+      faultless = c.no_fault.ensures;
+      ascend = c.definitions_ascend.ensures;
+    }

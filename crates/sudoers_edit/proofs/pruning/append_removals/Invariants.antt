@@ -1,0 +1,10 @@
+use Rattle.std.proofs.Common.{◌≡◌, ◌++◌, drop, map}
+use Rattle.sudoers_line.specs.declared.node.Kind.{Kind}
+use Rattle.sudoers_tree.specs.declared.place.Place.{Place}
+use Rattle.sudoers_edit.specs.declared.pruning.Removal.TheVariants as removal
+use Rattle.sudoers_edit.proofs.pruning.append_removals.Given as goal
+
+abbrev pub invariant-loop-place : goal.invariant-loop-place
+invariant-loop-place l =
+    l.removals.items ++ map (λ (q : Kind × Place). removal.Def l.at.file l.at.line q.1.def) (drop l.place-index l.here)
+    ≡ l.initial.removals.items ++ map (λ (q : Kind × Place). removal.Def l.at.file l.at.line q.1.def) l.here
