@@ -1,3 +1,3 @@
-mod PartLemmas
-mod NumberLemmas
-mod FileLemmas
+pub mod PartLemmas
+pub mod NumberLemmas
+pub mod FileLemmas
