@@ -14,6 +14,7 @@ pub mod LoadFaults
 pub mod MemberLemmas
 pub mod MemoryLemmas
 pub mod MoveLemmas
+pub mod NameLemmas
 pub mod NamedLaw
 pub mod PayloadLaw
 pub mod PlanLemmas
