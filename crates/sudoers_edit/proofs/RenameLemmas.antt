@@ -4,7 +4,6 @@ use Rattle.std.proofs.lemmas.List.{drop_all}
 use Rattle.std.proofs.lemmas.Bool.Decides.{leb_tells}
 use Rattle.std.specs.Prelude.{min}
 use Rattle.sudoers_edit.specs.Renaming.{put_at}
-use Rattle.sudoers_edit.specs.Editing.{step}
 
 -- OTHER BYTES
 
