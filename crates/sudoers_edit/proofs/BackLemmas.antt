@@ -51,17 +51,6 @@ drops at from to xs next here there =
     let within = stop_within xs at to there in
     rw (lt-leb (length xs) at within.0, ne_eqb (length xs) 1 (λ e. absurd (omega (arith, e, within.1))), here, there) refl
 
--- what is put in, where it reads as it should
-pub puts : (a : Among) (at from n : ℕ) (s : List ℕ) (line : Line) (policy : List Line)
-    → is_one_more a at from (from + length s) (said (line_with from s line.text)) (Some line.node) ≡ true
-    → put_in a at from n s line policy ≡ changed_or_refusal n (line_with from s line.text) (texts policy)
-puts a at from n s line policy reads = rw reads refl
-
-pub cuts : (a : Among) (at from to n : ℕ) (line : Line) (policy : List Line)
-    → is_one_more a at from to (Some line.node) (said (line_without from to line.text)) ≡ true
-    → cut_out a at from to n line policy ≡ changed_or_refusal n (line_without from to line.text) (texts policy)
-cuts a at from to n line policy reads = rw reads refl
-
 -- DEFINITIONS
 
 pub record DefMore (at from to : ℕ) (n m : Node) : Type 0 where
@@ -86,41 +75,3 @@ def_more at from to node.Comment m h = absurd (cc)
 def_more at from to (node.Include d p) m h = absurd (cc)
 def_more at from to (node.Defaults s p) m h = absurd (cc)
 def_more at from to (node.Spec u g) m h = absurd (cc)
-
-pub adds_def : (n at from : ℕ) (s : List ℕ) (policy : List Line) (line : Line) (defs : List Def) → slice_get policy n ≡ Some line → defs_of line.node ≡ Some defs
-    → seam at (def_extents defs) ≡ Some from → add_def n at s policy ≡ put_in among.Definitions at from n s line policy
-unfolding add_def
-adds_def n at from s policy line defs here is begins =
-    rw (here, is) (adds at from (def_extents defs) (λ from. put_in among.Definitions at from n s line policy) begins)
-
-pub drops_def : (n at from to : ℕ) (policy : List Line) (line : Line) (defs : List Def) → slice_get policy n ≡ Some line → defs_of line.node ≡ Some defs
-    → seam at (def_extents defs) ≡ Some from → owned_stop at (def_extents defs) ≡ Some to → drop_def n at policy ≡ cut_out among.Definitions at from to n line policy
-unfolding drop_def
-drops_def n at from to policy line defs here is begins stops =
-    rw (here, is) (drops at from to (def_extents defs) (λ from to. cut_out among.Definitions at from to n line policy) begins stops)
-
--- WHAT THE CODE MEETS
-
-pub def_of_policy : (policy : List Line) → read_of (join (texts policy)) ≡ Ok policy → policy_of (texts policy) ≡ policy
-def_of_policy policy read = rw read refl
-
--- where there is no such line, or it makes no definitions
-pub add_unfound : (n at : ℕ) (s : List ℕ) (policy : List Line) (f : EditFault) → ((next : Line → List Def → Result Lines EditFault) → with_defs n policy next ≡ Err f)
-    → add_def n at s policy ≡ Err f
-unfolding add_def
-add_unfound n at s policy f unfound = unfound (λ line defs. place_to_add at (def_extents defs) (λ from. put_in among.Definitions at from n s line policy))
-
-pub add_found : (n at : ℕ) (s : List ℕ) (policy : List Line) (line : Line) (defs : List Def) → ((next : Line → List Def → Result Lines EditFault) → with_defs n policy next ≡ next line defs)
-    → add_def n at s policy ≡ place_to_add at (def_extents defs) (λ from. put_in among.Definitions at from n s line policy)
-unfolding add_def
-add_found n at s policy line defs found = found (λ line defs. place_to_add at (def_extents defs) (λ from. put_in among.Definitions at from n s line policy))
-
-pub drop_unfound : (n at : ℕ) (policy : List Line) (f : EditFault) → ((next : Line → List Def → Result Lines EditFault) → with_defs n policy next ≡ Err f)
-    → drop_def n at policy ≡ Err f
-unfolding drop_def
-drop_unfound n at policy f unfound = unfound (λ line defs. place_to_drop at (def_extents defs) (λ from to. cut_out among.Definitions at from to n line policy))
-
-pub drop_found : (n at : ℕ) (policy : List Line) (line : Line) (defs : List Def) → ((next : Line → List Def → Result Lines EditFault) → with_defs n policy next ≡ next line defs)
-    → drop_def n at policy ≡ place_to_drop at (def_extents defs) (λ from to. cut_out among.Definitions at from to n line policy)
-unfolding drop_def
-drop_found n at policy line defs found = found (λ line defs. place_to_drop at (def_extents defs) (λ from to. cut_out among.Definitions at from to n line policy))

@@ -54,19 +54,6 @@ open_remove (k ∷ []) (suc zero) h = refl
 open_remove (k ∷ []) (suc (suc n)) h = refl
 open_remove (k ∷ j ∷ js) (suc n) h = open_front k (remove (j ∷ js) n) (or_false _ _ h).0 (open_remove (j ∷ js) n (or_false _ _ h).1)
 
--- LINES AND SIZES
-
-pub each_insert : (ls : List (List ℕ)) (at : ℕ) (t : List ℕ) → StandAlone ls → IsAlone t → StandAlone (insert ls at t)
-each_insert ls zero t each is = (is, each)
-each_insert [] (suc n) t each is = (is, tt)
-each_insert (k ∷ ks) (suc n) t each is = (each.0, each_insert ks n t each.1 is)
-
-pub each_remove : (ls : List (List ℕ)) (at : ℕ) → StandAlone ls → StandAlone (remove ls at)
-each_remove [] zero each = tt
-each_remove [] (suc n) each = tt
-each_remove (k ∷ ks) zero each = each.1
-each_remove (k ∷ ks) (suc n) each = (each.0, each_remove ks n each.1)
-
 pub each_at : (ls : List (List ℕ)) (at : ℕ) → at < length ls → StandAlone ls → IsAlone (slice_index_or ls at [])
 each_at [] at l each = absurd (omega arith)
 each_at (k ∷ ks) zero l each = each.0
@@ -151,45 +138,6 @@ move_behind ls from to before last line l k other last_is order same here h =
 pub is_one : (t : List ℕ) → IsAlone t → is_one_line t ≡ true
 is_one t alone = rw alone refl
 
--- STEPS
-
--- the lines of a policy are no refusal
-pub settled : (ls : List (List ℕ)) → IsSound ls → lines_or_refusal ls ≡ Ok ls
-settled ls sound = rw (sound.ended, le-ltb 1048576 (length (join ls)) sound.fits, sound.read) refl
-
-pub step_insert : (ls : List (List ℕ)) (at : ℕ) (t : List ℕ) → at ≤ length ls → is_one_line t ≡ true → step (Insert 0 at t) ls ≡ lines_or_refusal (insert ls at t)
-step_insert ls at t l one = rw (le-ltb (length ls) at l, one) refl
-
-pub step_delete : (ls : List (List ℕ)) (at : ℕ) → at < length ls → step (Delete 0 at) ls ≡ lines_or_refusal (remove ls at)
-step_delete ls at l = rw (lt-ltb at (length ls) l) refl
-
-pub step_move : (ls : List (List ℕ)) (from to : ℕ) → from < length ls → to < length ls → step (Move 0 from to) ls ≡ lines_or_refusal (moved from to ls)
-step_move ls from to l k = rw (lt-ltb from (length ls) l, lt-ltb to (length ls) k) refl
-
--- one step as a run
-pub run_one : (e : Edit) (ls new : List (List ℕ)) → step e ls ≡ Ok new → run (e ∷ []) ls ≡ Some new
-run_one e ls new h = rw h refl
-
-pub back_insert : (ls : List (List ℕ)) (at : ℕ) (t : List ℕ) → IsSound ls → at ≤ length ls → run (Delete 0 at ∷ []) (insert ls at t) ≡ Some ls
-back_insert ls at t sound l =
-    run_one (Delete 0 at) (insert ls at t) ls
-    (step_delete (insert ls at t) at (omega (arith, length_insert ls at t l)) ∙ ap lines_or_refusal (remove-insert ls at t l) ∙ settled ls sound)
-
-pub back_delete : (ls : List (List ℕ)) (at : ℕ) → IsSound ls → at < length ls → run (Insert 0 at (slice_index_or ls at []) ∷ []) (remove ls at) ≡ Some ls
-back_delete ls at sound l =
-    let t : List ℕ = slice_index_or ls at [] in
-    run_one (Insert 0 at t) (remove ls at) ls
-    (step_insert (remove ls at) at t (omega (arith, length_remove ls at l)) (is_one t (each_at ls at l sound.each))
-    ∙ ap lines_or_refusal (insert-remove ls at [] l) ∙ settled ls sound)
-
-pub back_move : (ls : List (List ℕ)) (from to : ℕ) → IsSound ls → from < length ls → to < length ls → run (Move 0 to from ∷ []) (moved from to ls) ≡ Some ls
-back_move ls from to sound l k =
-    let one : suc (length (remove ls from)) ≡ length ls = length_remove ls from l in
-    let size : length (moved from to ls) ≡ length ls = length_insert (remove ls from) to (slice_index_or ls from []) (omega (arith, one)) ∙ one in
-    run_one (Move 0 to from) (moved from to ls) ls
-    (step_move (moved from to ls) to from (omega (arith, size)) (omega (arith, size))
-    ∙ ap lines_or_refusal (moved_back ls from to l k) ∙ settled ls sound)
-
 -- JOURNALS
 
 -- the last line, as the code reads it
@@ -198,40 +146,3 @@ last_decides ls zero t x l some is h = absurd (omega arith)
 last_decides ls (suc n) t x l some is h =
     let e : suc n - 1 ≡ n = omega arith in
     ap (λ z. not (ends_in_lf z)) (sym is ∙ ap (λ k. slice_index_or ls k x) e) ∙ open_insert_end ls n t x (sym l) h
-
--- WHERE EDITS LEAD
-
-pub insert_leads : (ls : List (List ℕ)) (at : ℕ) (t : List ℕ) → IsSound ls → at ≤ length ls → is_one_line t ≡ true → IsAlone t
-    → has_unended_inside (insert ls at t) ≡ false → LeadsTo (Insert 0 at t) (Delete 0 at ∷ []) ls (insert ls at t)
-insert_leads ls at t sound within one alone ended = record {
-  each = λ policy read. each_insert ls at t sound.each alone;
-  ended = ended;
-  forth = step_insert ls at t within one;
-  inverse_is = refl;
-  back = λ policy read. back_insert ls at t sound within;
-}
-
-pub delete_leads : (ls : List (List ℕ)) (at : ℕ) → IsSound ls → at < length ls
-    → LeadsTo (Delete 0 at) (Insert 0 at (slice_index_or ls at []) ∷ []) ls (remove ls at)
-delete_leads ls at sound within = record {
-  each = λ policy read. each_remove ls at sound.each;
-  ended = open_remove ls at sound.ended;
-  forth = step_delete ls at within;
-  inverse_is = refl;
-  back = λ policy read. back_delete ls at sound within;
-}
-
-pub move_leads : (ls : List (List ℕ)) (from to : ℕ) → IsSound ls → from < length ls → to < length ls
-    → has_unended_inside (moved from to ls) ≡ false → LeadsTo (Move 0 from to) (Move 0 to from ∷ []) ls (moved from to ls)
-move_leads ls from to sound inside within ended = record {
-  each = λ policy read. each_insert (remove ls from) to (slice_index_or ls from []) (each_remove ls from sound.each) (each_at ls from inside sound.each);
-  ended = ended;
-  forth = step_move ls from to inside within;
-  inverse_is = refl;
-  back = λ policy read. back_move ls from to sound inside within;
-}
-
--- what the law says of lines that are read
-abbrev pub ReadsLaw : Type 0
-ReadsLaw = (lines : List (List ℕ)) (policy : List Line) → StandAlone lines → has_unended_inside lines ≡ false
-    → policy_or_refusal (join lines) ≡ Ok policy → texts policy ≡ lines

@@ -48,21 +48,6 @@ in_part l m (node.Include dir path) = tt
 in_part l m (node.Defaults scope params) = tt
 in_part l m (node.Spec users groups) = tt
 
-pub since_part : (n m : ℕ) (lines : List Line) → IsPart (definitions_since n lines) (definitions_since m lines)
-since_part n m [] = tt
-since_part n m (line ∷ lines) =
-    part_append (definitions_in n line.node) (definitions_in m line.node) (definitions_since (n + 1) lines) (definitions_since (m + 1) lines)
-    (in_part n m line.node) (since_part (n + 1) (m + 1) lines)
-
--- lines with one of them
-pub with_part : (n m : ℕ) (front : List Line) (old new : List Line) → ((i j : ℕ) → IsPart (definitions_since i old) (definitions_since j new))
-    → IsPart (definitions_since n (front ++ old)) (definitions_since m (front ++ new))
-with_part n m [] old new p = p n m
-with_part n m (line ∷ front) old new p =
-    part_append (definitions_in n line.node) (definitions_in m line.node)
-    (definitions_since (n + 1) (front ++ old)) (definitions_since (m + 1) (front ++ new))
-    (in_part n m line.node) (with_part (n + 1) (m + 1) front old new p)
-
 -- ---- what is true of a part
 
 pub free_part : (ds es : List Definition) → IsPart ds es → AllByRecursion IsFree ds → AllByRecursion IsFree es
@@ -109,7 +94,6 @@ past d ds before longer e f part = record {
   kind = f.kind;
   name = f.name;
   part = part;
-}
 
 found : (ds before : List Definition) (e : Definition) (after : List Definition) → IsPart ds (before ++ e ∷ after) → Found ds before e
 found [] [] e after p = absurd p

@@ -104,25 +104,6 @@ heads_placed k name (d ∷ ds) (e ∷ es) h =
     place_if (defines k name d) (defines k name e) d.place e.place (defined k name ds) (defined k name es) d e
     (ap₂ (λ j n. is_kind k j && bytes_eq name n) h.0 h.2) h.1 (heads_placed k name ds es h.3)
 
-heads_put : (lines : List Line) (at m : ℕ) (line new : Line) → slice_get lines at ≡ Some line
-    → ((n : ℕ) → SameHeads (definitions_in n new.node) (definitions_in n line.node)) → SameHeads (definitions_since m (line_put at new lines)) (definitions_since m lines)
-unfolding line_put
-heads_put [] at m line new here same = absurd (cc)
-heads_put (l ∷ lines) zero m line new here same =
-    let e : line ≡ l = cc in
-    heads_append (definitions_in m new.node) (definitions_in m l.node) (definitions_since (m + 1) lines) (definitions_since (m + 1) lines)
-    (subst (λ (x : Line). SameHeads (definitions_in m new.node) (definitions_in m x.node)) e (same m)) (heads_refl (definitions_since (m + 1) lines))
-heads_put (l ∷ lines) (suc at) m line new here same =
-    heads_append (definitions_in m l.node) (definitions_in m l.node) (definitions_since (m + 1) (line_put at new lines)) (definitions_since (m + 1) lines)
-    (heads_refl (definitions_in m l.node)) (heads_put lines at (m + 1) line new here same)
-
--- a line of which the definitions keep their kind and names
-pub place_kept : (k : Kind) (name : List ℕ) (lines : List Line) (at : ℕ) (line new : Line) (j : Kind) (ds es : List Def) → slice_get lines at ≡ Some line
-    → line.node ≡ node.Alias j ds → new.node ≡ node.Alias j es → SameNames es ds → place_of k name (line_put at new lines) ≡ place_of k name lines
-place_kept k name lines at line new j ds es here is was same =
-    heads_placed k name (definitions (line_put at new lines)) (definitions lines)
-    (heads_put lines at 0 line new here (λ n. rw (is, was) (heads_from j n 0 es ds same)))
-
 pub names_sym : (ds es : List Def) → SameNames ds es → SameNames es ds
 unfolding SameNames
 names_sym [] [] h = tt

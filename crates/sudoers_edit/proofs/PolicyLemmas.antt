@@ -19,27 +19,6 @@ abbrev pub StandAloneLaw : Type 0
 StandAloneLaw = (text : List ℕ) (lines : List (List ℕ)) → cut_of text ≡ Ok lines
     → StandAlone lines × (has_unended_inside lines ≡ false) × (join lines ≡ text) × (length text ≤ text_limit)
 
-abbrev pub CutLaw : Type 0
-CutLaw = (text : List ℕ) (lines : List Line) → read_of text ≡ Ok lines → cut_of text ≡ Ok (texts lines)
-
-pub sound_of : StandAloneLaw → CutLaw → (policy : List Line) → read_of (join (texts policy)) ≡ Ok policy → IsSound (texts policy)
-sound_of alone cuts policy read =
-    let all = alone (join (texts policy)) (texts policy) (cuts (join (texts policy)) policy read) in
-    record { each = all.0; ended = all.1; fits = all.3; policy = policy; read = read }
-
--- what is read as a policy was read so
-policy_read : (large : Bool) (r : Result (List Line) ReadFault) (policy : List Line) → (if large then Err TooLarge else by_read r) ≡ Ok policy → r ≡ Ok policy
-policy_read true r policy is = cc
-policy_read false (Ok lines) policy is = let same : lines ≡ policy = cc in ap (λ (ls : List Line). Ok ls) same
-policy_read false (Err fault) policy is = cc
-
-pub read_so : (text : List ℕ) (policy : List Line) → policy_or_refusal text ≡ Ok policy → read_of text ≡ Ok policy
-read_so text policy is = policy_read (nat_lt text_limit (length text)) (read_of text) policy is
-
--- the lines of a text that is read as a policy
-pub read_cut : CutLaw → (text : List ℕ) (policy : List Line) → policy_or_refusal text ≡ Ok policy → cut_of text ≡ Ok (texts policy)
-read_cut law text policy is = law text policy (policy_read (nat_lt text_limit (length text)) (read_of text) policy is)
-
 one_alone : (lines : List (List ℕ)) (text : List ℕ) → length lines ≡ 1 → join lines ≡ text → lines ≡ text ∷ []
 one_alone [] text one same = absurd (omega arith)
 one_alone (line ∷ []) text one same = ap (λ (t : List ℕ). t ∷ []) (sym (append-nil line) ∙ same)
@@ -57,12 +36,3 @@ at_get (first ∷ lines) (suc n) line d is = at_get lines n line d is
 pub count_texts : (lines : List Line) → length (texts lines) ≡ length lines
 count_texts [] = refl
 count_texts (line ∷ lines) = ap suc (count_texts lines)
-
--- a place without a line
-pub past_lines : (lines : List Line) (i : ℕ) → None ≡ option_map (λ (line : Line). line.text) (slice_get lines i) → length lines ≤ i
-past_lines [] i none = omega arith
-past_lines (line ∷ lines) zero none = absurd (cc)
-past_lines (line ∷ lines) (suc n) none = omega (arith, past_lines lines n none)
-
-pub text_at : (lines : List Line) (i : ℕ) → slice_get (texts lines) i ≡ option_map (λ (line : Line). line.text) (slice_get lines i)
-text_at lines i = slice_get-map (λ (line : Line). line.text) lines i

@@ -40,10 +40,6 @@ put_from : (from start size most : ℕ) (fresh : List ℕ) (starts : List ℕ) (
 put_from from start size most fresh starts line is within = elim (leb_tells (start + size) most) [
   | inl less ↦ ap (λ n. put_at n size fresh starts line) (same is less.1)
   | inr more ↦ put_past from (start + size) size fresh starts line (omega (arith, is, more.1, within)) (omega (arith, more.1, within))
-]
-  where
-    same : from ≡ min (start + size) most → start + size ≤ most → from ≡ start + size
-    same is less = omega (arith, is, less)
 
 -- the bytes up to the next place, and the others there
 pub put_more : (text new : List ℕ) (from next start size most : ℕ) (fresh : List ℕ) (starts : List ℕ) (line : List ℕ)
@@ -57,30 +53,3 @@ put_more text new from next start size most fresh starts line is step within =
     ∙ append_assoc (text ++ kept) fresh rest
     ∙ append_assoc text kept (fresh ++ rest)
     ∙ ap (λ z. text ++ z) (sym (append_assoc kept fresh rest))
-
--- REFUSALS
-
-pub no_alias : (k : Kind) (name fresh : List ℕ) (policy : List Line) → is_some (place_of k name policy) ≡ false → rename k name fresh policy ≡ Err NoAlias
-unfolding rename
-no_alias k name fresh policy none = rw none refl
-
-pub bad_name : (k : Kind) (name fresh : List ℕ) (policy : List Line) → is_some (place_of k name policy) ≡ true
-    → (not (is_name fresh) || is_reserved fresh) ≡ true → rename k name fresh policy ≡ Err BadName
-unfolding rename
-bad_name k name fresh policy some bad = rw (some, bad) refl
-
-pub name_taken : (k : Kind) (name fresh : List ℕ) (policy : List Line) → is_some (place_of k name policy) ≡ true
-    → (not (is_name fresh) || is_reserved fresh) ≡ false → is_taken k fresh policy ≡ true → rename k name fresh policy ≡ Err NameTaken
-unfolding rename
-name_taken k name fresh policy some good taken = rw (some, good, taken) refl
-
-pub too_long : (k : Kind) (name fresh : List ℕ) (policy : List Line) → is_some (place_of k name policy) ≡ true
-    → (not (is_name fresh) || is_reserved fresh) ≡ false → is_taken k fresh policy ≡ false
-    → list_any is_too_long (renamed k name fresh policy) ≡ true → rename k name fresh policy ≡ Err TooLarge
-unfolding rename
-too_long k name fresh policy some good free long = rw (some, good, free, long) refl
-
--- the lines of a policy say what they say
-pub rename_step : (k : Kind) (name fresh : List ℕ) (policy : List Line) → read_of (join (texts policy)) ≡ Ok policy
-    → step (Rename k name fresh) (texts policy) ≡ rename k name fresh policy
-rename_step k name fresh policy read = rw read refl

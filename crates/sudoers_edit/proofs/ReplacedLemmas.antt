@@ -18,13 +18,6 @@ use Rattle.sudoers_edit.specs.Landing.{changed_or_refusal, lines_or_refusal, pol
 use Rattle.sudoers_tree.specs.Changed.{replaced}
 use Rattle.sudoers_edit.proofs.EditLemmas.{settled}
 
--- TEXTS
-
-pub each_replaced : (ls : List (List ℕ)) (at : ℕ) (t : List ℕ) → StandAlone ls → IsAlone t → StandAlone (replaced at t ls)
-each_replaced [] at t each alone = tt
-each_replaced (l ∷ ls) zero t each alone = (alone, each.1)
-each_replaced (l ∷ ls) (suc at) t each alone = (each.0, each_replaced ls at t each.1 alone)
-
 or-falsely : (a b : Bool) → a ≡ false → b ≡ false → (a || b) ≡ false
 or-falsely a b x y = rw (x, y) refl
 
@@ -70,9 +63,6 @@ open_replaced (l ∷ k ∷ ls) (suc (suc at)) t before open_ =
 
 abbrev pub AllSaid : List Line → Type 0
 AllSaid lines = AllByRecursion (λ (line : Line). said line.text ≡ Some line.node) lines
-
-abbrev pub SaidLaw : Type 0
-SaidLaw = (text : List ℕ) (lines : List Line) → read_of text ≡ Ok lines → AllSaid lines
 
 -- the policy with another line at a place
 unfoldable pub line_put : ℕ → Line → List Line → List Line
@@ -120,33 +110,9 @@ restored [] at t old here = refl
 restored (l ∷ lines) zero t old here = let e : l ≡ old = cc in ap (λ (x : Line). x.text ∷ texts lines) (sym e)
 restored (l ∷ lines) (suc at) t old here = ap (λ z. l.text ∷ z) (restored lines at t old here)
 
--- A policy of which a line was replaced: what the new one says, and how the old line comes back.
-pub record Swapped (before after : List Line) (at : ℕ) (old : Line) (new : Line) : Type 0 where
-  pub after_is : after ≡ line_put at new before
-  pub again : policy_of (texts after) ≡ after
-  pub here : slice_get after at ≡ Some new
-  pub back : changed_or_refusal at old.text (texts after) ≡ Ok (texts before)
-
-pub swapped : SaidLaw → ((line : List ℕ) → IsAlone line → length line ≤ line_limit) → (before after : List Line) (at : ℕ) (old : Line) (t : List ℕ) (n : Node)
-    → IsSound (texts before) → read_of (join (texts before)) ≡ Ok before → slice_get before at ≡ Some old → said t ≡ Some n
-    → read_of (join (replaced at t (texts before))) ≡ Ok after → texts after ≡ replaced at t (texts before) → IsAlone old.text
-    → Swapped before after at old (record { text = t; node = n })
-swapped law size before after at old t n sound read here says later same alone =
-    let new : Line = record { text = t; node = n } in
-    let is : after ≡ line_put at new before =
-    one_said after (line_put at new before) (law (join (replaced at t (texts before))) after later)
-    (said_put before at new (law (join (texts before)) before read) says) (same ∙ sym (texts_put before at new)) in
-    record {
-      after_is = is;
-      again = ap policy_of same ∙ rw later refl;
-      here = ap (λ ls. slice_get ls at) is ∙ put_here before at new old here;
-      back = rw (le-ltb line_limit (length old.text) (size old.text alone)) (ap lines_or_refusal (ap (replaced at old.text) same ∙ restored before at t old here) ∙ settled (texts before) sound);
-    }
-
 -- whether a line without LF is the last
 pub open_or_last : (ls : List (List ℕ)) (at : ℕ) (t : List ℕ) (n : ℕ) → n ≡ length ls → at < length ls → has_unended_inside ls ≡ false → ends_in_lf t ≡ false
     → nat_lt 1 (n - at) ≡ has_unended_inside (replaced at t ls)
 open_or_last ls at t n size within h open_ = elim (leb_tells 2 (n - at)) [
   | inl more ↦ more.0 ∙ sym (open_replaced ls at t (omega (arith, more.1, size, within)) open_)
   | inr last ↦ last.0 ∙ sym (ended_replaced ls at t h (inr (omega (arith, last.1, size, within))))
-]

@@ -36,24 +36,6 @@ says_at (l ∷ lines) (suc n) line all here = says_at lines n line all.1 here
 abbrev pub AscendLaw : Type 0
 AscendLaw = (line : List ℕ) (k : Kind) (defs : List Def) → ReadsLine line (node.Alias k defs) → DefsAscend 0 (length line) defs
 
-pub known_ascend : (policy : List Line) → AscendLaw → IsPolicy policy → (n : ℕ) (line : Line) (defs : List Def) → slice_get policy n ≡ Some line → defs_of line.node ≡ Some defs
-    → DefsAscend 0 (length line.text) defs
-known_ascend policy law is n line defs here makes =
-    let alias = makes_alias line.node defs makes in
-    law line.text alias.0 defs (subst (ReadsLine line.text) alias.1 (says_at policy n line is.walk.says here))
-
--- DEFINITIONS
-
-pub def_begins : (policy : List Line) (n at from : ℕ) (line : Line) (defs : List Def) → IsKnown policy → slice_get policy n ≡ Some line → defs_of line.node ≡ Some defs
-    → seam at (def_extents defs) ≡ Some from → from ≤ length line.text
-def_begins policy n at from line defs known here is begins =
-    seam_in (λ (d : Def). d.start) (λ (d : Def). d.stop) 0 (length line.text) defs at from (known.ascend n line defs here is).0 begins
-
-pub def_goes_on : (policy : List Line) (n at from to : ℕ) (line : Line) (defs : List Def) → IsKnown policy → slice_get policy n ≡ Some line → defs_of line.node ≡ Some defs
-    → seam at (def_extents defs) ≡ Some from → owned_stop at (def_extents defs) ≡ Some to → (from ≤ to) × (to ≤ length line.text)
-def_goes_on policy n at from to line defs known here is begins stops =
-    owned_in (λ (d : Def). d.start) (λ (d : Def). d.stop) 0 (length line.text) defs at from to (known.ascend n line defs here is).0 begins stops
-
 -- MEMBERS
 
 -- a definition at a place, of which the members stand in it
@@ -64,23 +46,3 @@ held from to (e ∷ defs) zero d a all here =
     let same : e ≡ d = cc in
     (subst HoldsMembers same all.0, subst (λ (x : Def). x.stop ≤ to) same (ascend_le (λ (x : Def). x.start) (λ (x : Def). x.stop) e.stop to defs a.2))
 held from to (e ∷ defs) (suc at) d a all here = held e.stop to defs at d a.2 all.1 here
-
-held_at : (k : Kind) (name : List ℕ) (policy : List Line) (place : Place) (line : Line) (d : Def) → IsKnown policy → IsDefAt k name policy place line d
-    → HoldsMembers d × (d.stop ≤ length line.text)
-held_at k name policy place line d known is =
-    let ascend = known.ascend place.line line is.defs is.here is.makes in
-    held 0 (length line.text) is.defs place.def d ascend.0 ascend.1 is.stands
-
-pub member_begins : (k : Kind) (name : List ℕ) (policy : List Line) (place : Place) (line : Line) (d : Def) (at from : ℕ) → IsKnown policy → IsDefAt k name policy place line d
-    → seam at (member_extents d.members) ≡ Some from → from ≤ length line.text
-member_begins k name policy place line d at from known is begins =
-    let there = held_at k name policy place line d known is in
-    let inside = seam_in (λ (m : Member). m.start) (λ (m : Member). m.stop) d.start d.stop d.members at from there.0 begins in
-    omega (arith, inside, there.1)
-
-pub member_goes_on : (k : Kind) (name : List ℕ) (policy : List Line) (place : Place) (line : Line) (d : Def) (at from to : ℕ) → IsKnown policy → IsDefAt k name policy place line d
-    → seam at (member_extents d.members) ≡ Some from → owned_stop at (member_extents d.members) ≡ Some to → (from ≤ to) × (to ≤ length line.text)
-member_goes_on k name policy place line d at from to known is begins stops =
-    let there = held_at k name policy place line d known is in
-    let inside = owned_in (λ (m : Member). m.start) (λ (m : Member). m.stop) d.start d.stop d.members at from to there.0 begins stops in
-    (inside.0, omega (arith, inside.1, there.1))

@@ -20,12 +20,3 @@ cut_at (x ∷ xs) zero l = record { front = []; one = x; rest = xs; is = refl; p
 cut_at {X} (x ∷ xs) (suc at) l =
     let c = cut_at xs at (omega (arith, l)) in
     record { front = x ∷ c.front; one = c.one; rest = c.rest; is = ap (λ (zs : List X). x ∷ zs) c.is; place = ap suc c.place }
-
-pub without : Laws → (policy : List Line) (at : ℕ) → read_of (join (texts policy)) ≡ Ok policy → at < length policy
-    → read_of (join (texts (remove policy at))) ≡ Ok (remove policy at)
-without l policy at read inside =
-    let c = cut_at policy at inside in
-    let gone : remove policy at ≡ c.front ++ c.rest =
-    ap (λ ls. remove ls at) c.is ∙ ap (remove (c.front ++ c.one ∷ c.rest)) (sym c.place) ∙ remove_at c.front c.one c.rest in
-    let left = whole_without c.front c.one c.rest (subst IsWhole c.is (whole_of l policy read)) in
-    read_whole l (remove policy at) (subst IsWhole (sym gone) left)
