@@ -5,17 +5,10 @@ use Rattle.std.specs.Prelude.{slice_get}
 use Rattle.sudoers_line.specs.Node.{Def, Node}
 use Rattle.sudoers_line.specs.declared.node.Kind.{Kind}
 use Rattle.sudoers_line.specs.Node as node
-use Rattle.sudoers_tree.specs.Line.{Line}
-use Rattle.sudoers_tree.specs.Policy.{texts}
-use Rattle.sudoers_tree.specs.Single.{said}
-use Rattle.sudoers_edit.specs.Splice.{Extent, def_extents, seam, owned_stop, owns_exactly, line_without, line_with, is_def_more}
-use Rattle.sudoers_edit.specs.SpliceEdits.{Lines, place_to_add, place_to_drop, is_one_more, put_in, cut_out, defs_of, with_defs, add_def, drop_def}
+use Rattle.sudoers_edit.specs.Splice.{Extent, def_extents, seam, owned_stop, owns_exactly, is_def_more}
+use Rattle.sudoers_edit.specs.SpliceEdits.{Lines, place_to_add, place_to_drop}
 use Rattle.sudoers_edit.specs.declared.fault.EditFault.{EditFault}
-use Rattle.sudoers_edit.specs.declared.one_more.Among.{Among}
 use Rattle.sudoers_edit.specs.declared.one_more.Among.TheVariants as among
-use Rattle.sudoers_text.specs.Line.{join}
-use Rattle.sudoers_tree.specs.Reading.{read_of}
-use Rattle.sudoers_edit.specs.Landing.{changed_or_refusal, policy_of}
 use Rattle.sudoers_edit.proofs.SpliceLemmas.{is_at_true, seam_within, stop_within}
 
 -- TRUTH

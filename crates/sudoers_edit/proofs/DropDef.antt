@@ -7,33 +7,18 @@ use Rattle.std.proofs.lemmas.List.Edits.{length-remove}
 use Rattle.std.specs.Prelude.{◌==◌}
 use Rattle.std.specs.Result.{result_ok}
 use Rattle.std.specs.Str.{bytes_eq}
-use Rattle.sudoers_text.specs.Line.{join}
-use Rattle.sudoers_text.specs.Ended.{ends_in_lf, has_unended_inside}
-use Rattle.sudoers_text.specs.Fault.{line_limit}
-use Rattle.sudoers_text.specs.Cut.{cut_of}
-use Rattle.sudoers_text.specs.Whole.{is_logical_line}
-use Rattle.sudoers_line.specs.declared.fault.LineFault.{LineFault}
+use Rattle.sudoers_text.specs.Ended.{ends_in_lf}
 use Rattle.sudoers_line.specs.declared.node.Kind.{Kind}
 use Rattle.sudoers_line.specs.declared.node.Kind.TheVariants.{User, Runas, Host, Cmnd}
 use Rattle.sudoers_line.specs.Node.{Def, Node}
 use Rattle.sudoers_line.specs.Node as node
 use Rattle.sudoers_line.specs.Line.{ReadsLine}
-use Rattle.sudoers_line_reader.specs.Outcome.{outcome_of, IsOutcome as IsLineOutcome}
-use Rattle.sudoers_tree.specs.Line.{Line}
-use Rattle.sudoers_tree.specs.Changed.{replaced}
-use Rattle.sudoers_tree.specs.Definition.{is_kind, definitions_from, definitions_in, definitions_since}
-use Rattle.sudoers_tree.specs.Policy.{texts}
-use Rattle.sudoers_tree.specs.Single.{said}
-use Rattle.sudoers_edit.specs.declared.fault.EditFault.{EditFault}
-use Rattle.sudoers_edit.specs.declared.fault.EditFault.TheVariants.{NoLine, NoAlias, BadSplice}
+use Rattle.sudoers_tree.specs.Definition.{is_kind, definitions_from}
 use Rattle.sudoers_edit.specs.declared.one_more.Among.TheVariants as among
 use Rattle.sudoers_edit.specs.Alike.{are_alike, is_same_def, is_same_member}
-use Rattle.sudoers_edit.specs.Landing.{refuse_if, or_refuse, lines_or_refusal, changed_or_refusal}
-use Rattle.sudoers_edit.specs.Splice.{Extent, def_extents, seam, owned_stop, line_without, owns_exactly, is_def_more}
-use Rattle.sudoers_edit.specs.SpliceEdits.{Lines, place_to_drop, cut_out, defs_of, drop_def}
-use Rattle.sudoers_edit.proofs.NameParts.{IsPart, part_skip, part_append, since_part}
-use Rattle.sudoers_edit.proofs.Whole.{Laws, IsWhole, Suits, whole_with, landed, here_at, replaced_at, texts_append, count_texts, alone_at, after_alone, says_at, after_says}
-use Rattle.sudoers_edit.proofs.OwnedBytes.{AscendDefs, owned_within, shorter, same_end}
+use Rattle.sudoers_edit.specs.Splice.{def_extents, owns_exactly, is_def_more}
+use Rattle.sudoers_edit.proofs.NameParts.{IsPart, part_skip}
+use Rattle.sudoers_edit.proofs.OwnedBytes.{AscendDefs}
 
 -- Where a line ends in LF, its definitions end before that.
 abbrev pub EndsLaw : Type 0

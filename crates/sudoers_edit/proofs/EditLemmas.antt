@@ -3,18 +3,10 @@ use Rattle.std.proofs.Common.{◌≡◌, ℕ, zero, suc, ◌-◌, ◌<◌, ◌�
 use Rattle.std.proofs.lemmas.Bool.{le-ltb, lt-ltb, or_parts as or_false}
 use Rattle.std.specs.Prelude.{slice_get}
 use Rattle.sudoers_edit.proofs.PolicyLemmas.{at_get}
-use Rattle.sudoers_text.specs.Line.{join}
 use Rattle.sudoers_text.specs.Ended.{has_unended_inside, ends_in_lf}
 use Rattle.sudoers_text.specs.Cut.{StandAlone}
-use Rattle.sudoers_edit_script.specs.declared.edit.Edit.{Edit}
-use Rattle.sudoers_edit_script.specs.declared.edit.Edit.TheVariants.{Insert, Delete, Move}
-use Rattle.sudoers_edit.specs.Landing.{lines_or_refusal, policy_or_refusal}
 use Rattle.sudoers_edit.specs.LineEdits.{moved}
-use Rattle.sudoers_edit.specs.Editing.{step, run}
-use Rattle.sudoers_tree.specs.Line.{Line}
-use Rattle.sudoers_edit.specs.OneLine.{is_one_line, IsAlone, IsSound}
-use Rattle.sudoers_tree.specs.Policy.{texts}
-use Rattle.sudoers_edit.specs.internal.Leading.{LeadsTo}
+use Rattle.sudoers_edit.specs.OneLine.{is_one_line, IsAlone}
 
 or-false : (x : Bool) → (x || false) ≡ x
 or-false true = refl

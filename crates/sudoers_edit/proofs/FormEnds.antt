@@ -29,6 +29,7 @@ unless_all : (bytes : List ℕ) (n : ℕ) → n ≤ length bytes → (n ≡ leng
 unless_all bytes n inside not_all = elim (leb_tells (length bytes) n) [
   | inl all ↦ absurd (not_all (omega (arith, all.1, inside)))
   | inr less ↦ less.1
+]
 
 pub mark_inside : (test : ℕ → Bool) → test 10 ≡ false → EndsInside (Mark test)
 mark_inside test no_lf before [] n inside is ends = absurd (cc)

@@ -6,26 +6,6 @@ use Rattle.std.specs.Option.{option_map}
 use Rattle.std.proofs.Math.Seq.{take-append_seam}
 use Rattle.std.proofs.lemmas.Bool.{lt-ltb, le-ltb}
 use Rattle.std.proofs.lemmas.List.{length-append}
-use Rattle.sudoers_text.specs.Line.{join}
-use Rattle.sudoers_text.specs.Ended.{ends_in_lf, has_unended_inside}
-use Rattle.sudoers_text.specs.Fault.{line_limit}
-use Rattle.sudoers_text.specs.Cut.{cut_of, StandAlone}
-use Rattle.sudoers_tree.specs.Policy.{texts}
-use Rattle.sudoers_tree.specs.Line.{Line}
-use Rattle.sudoers_tree.specs.Changed.{replaced}
-use Rattle.sudoers_edit_script.specs.declared.edit.Edit.{Edit}
-use Rattle.sudoers_edit.specs.declared.fault.EditFault.{EditFault}
-use Rattle.sudoers_edit_script.specs.declared.edit.Edit.TheVariants.{EndLine, OpenEnd}
-use Rattle.sudoers_edit.specs.declared.fault.EditFault.TheVariants.{EndAsIs, TooLarge}
-use Rattle.sudoers_edit.specs.Landing.{lines_or_refusal, policy_or_refusal, where_policy}
-use Rattle.sudoers_edit.specs.LineEdits.{with_last, with_end, without_lf, is_last_too_long, ended_or_refusal}
-use Rattle.sudoers_edit.specs.Editing.{step, Refuses}
-use Rattle.sudoers_edit.specs.OneLine.{is_one_line, IsAlone, IsSound}
-use Rattle.sudoers_edit.specs.internal.LastLine.{StaysCut}
-use Rattle.sudoers_edit.specs.internal.Leading.{LeadsTo}
-use Rattle.sudoers_edit.proofs.EditLemmas.{run_one, settled, is_one}
-use Rattle.sudoers_edit_script.proofs.EndLemmas.{ended_parts}
-use Rattle.sudoers_edit.proofs.PolicyLemmas.{StandAloneLaw, CutLaw, read_cut}
 
 -- THE LAST LINE
 

@@ -4,24 +4,11 @@ use Rattle.std.specs.Prelude.{slice_get}
 use Rattle.sudoers_line.specs.Node.{Def, Node}
 use Rattle.sudoers_line.specs.declared.node.Kind.{Kind}
 use Rattle.sudoers_line.specs.Node as node
-use Rattle.sudoers_tree.specs.Line.{Line}
-use Rattle.sudoers_tree.specs.declared.place.Place.{Place}
-use Rattle.sudoers_tree.specs.Definition.{place_of}
-use Rattle.sudoers_tree.specs.Policy.{texts}
-use Rattle.sudoers_edit_script.specs.declared.edit.Edit.TheVariants.{AddMember, DropMember}
-use Rattle.sudoers_edit.specs.declared.fault.EditFault.{EditFault}
 use Rattle.sudoers_edit.specs.declared.one_more.Among.TheVariants as among
-use Rattle.sudoers_edit.specs.Splice.{member_extents, extents_in, seam, owned_stop, slice, is_member_more}
-use Rattle.sudoers_edit.specs.SpliceEdits.{Lines, defs_of, with_def, place_to_add, place_to_drop, add_member, drop_member, put_in, cut_out, owned_member}
-use Rattle.sudoers_edit.specs.Landing.{changed_or_refusal}
-use Rattle.sudoers_edit.specs.Editing.{run}
-use Rattle.sudoers_edit.specs.internal.Leading.{IsKnown, IsDefAt, PutIn, CutOut, Replaces}
-use Rattle.sudoers_edit.proofs.EditLemmas.{run_one}
-use Rattle.sudoers_edit.proofs.BackLemmas.{both, Owns, owns, adds, drops, def_of_policy}
-use Rattle.sudoers_edit.proofs.PlaceLemmas.{SameNames, changed_names, names_sym, kind_same, place_kept}
-use Rattle.sudoers_edit.proofs.ReplacedLemmas.{Swapped}
+use Rattle.sudoers_edit.specs.Splice.{extents_in, seam, is_member_more}
+use Rattle.sudoers_edit.proofs.BackLemmas.{both, Owns, owns}
+use Rattle.sudoers_edit.proofs.PlaceLemmas.{SameNames, changed_names, kind_same}
 use Rattle.sudoers_edit.proofs.SpliceLemmas.{seam_within}
-use Rattle.sudoers_edit.proofs.WayBackLemmas.{said_logical, swaps, put_back, cut_back}
 
 -- ONE MEMBER MORE
 

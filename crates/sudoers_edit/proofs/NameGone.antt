@@ -7,7 +7,7 @@ use Rattle.sudoers_line.specs.declared.node.Kind.{Kind}
 use Rattle.sudoers_line.specs.declared.node.Kind.TheVariants.{User, Runas, Host, Cmnd}
 use Rattle.sudoers_line.specs.declared.node.Atom.{Atom}
 use Rattle.sudoers_line.specs.declared.node.Atom.TheVariants as atom
-use Rattle.sudoers_line.specs.Node.{Member, Def, RunasSpec, CmdSpec, HostGroup, Scope, Node}
+use Rattle.sudoers_line.specs.Node.{Member, Def, RunasSpec, CmdSpec, HostGroup, Node}
 use Rattle.sudoers_line.specs.Node as node
 use Rattle.sudoers_line.specs.Renamed.{Renaming, renamed_atom, renamed_member, renamed_members, renamed_def, renamed_runas_option, renamed_command, renamed_group, renamed_node, renaming_of}
 use Rattle.sudoers_tree.specs.Line.{Line}

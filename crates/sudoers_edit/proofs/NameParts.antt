@@ -7,8 +7,7 @@ use Rattle.sudoers_text.specs.Word.{is_reserved}
 use Rattle.sudoers_line.specs.Node.{Def, Node}
 use Rattle.sudoers_line.specs.declared.node.Kind.{Kind}
 use Rattle.sudoers_line.specs.Node as node
-use Rattle.sudoers_tree.specs.Line.{Line}
-use Rattle.sudoers_tree.specs.Definition.{Definition, is_kind, defines, defined, definitions_from, definitions_in, definitions_since}
+use Rattle.sudoers_tree.specs.Definition.{Definition, is_kind, defines, defined, definitions_from, definitions_in}
 use Rattle.sudoers_tree.specs.Policy.{count_of, IsFree, AreOnce}
 
 -- The second are definitions of the first, in their order: each has the kind and the name of its own.
@@ -94,6 +93,7 @@ past d ds before longer e f part = record {
   kind = f.kind;
   name = f.name;
   part = part;
+}
 
 found : (ds before : List Definition) (e : Definition) (after : List Definition) → IsPart ds (before ++ e ∷ after) → Found ds before e
 found [] [] e after p = absurd p

@@ -7,7 +7,7 @@ use Rattle.sudoers_line.specs.declared.node.Kind.{Kind}
 use Rattle.sudoers_line.specs.declared.node.Kind.TheVariants.{User, Runas, Host, Cmnd}
 use Rattle.sudoers_line.specs.declared.node.Atom.{Atom}
 use Rattle.sudoers_line.specs.declared.node.Atom.TheVariants as atom
-use Rattle.sudoers_line.specs.Node.{Member, Def, RunasSpec, CmdSpec, HostGroup, Scope, Node}
+use Rattle.sudoers_line.specs.Node.{Member, Def, RunasSpec, CmdSpec, HostGroup, Node}
 use Rattle.sudoers_line.specs.Node as node
 use Rattle.sudoers_line.specs.Renamed.{atom_starts, member_starts, def_starts, runas_option_starts, command_starts, group_starts, node_starts}
 use Rattle.sudoers_tree.specs.declared.place.Span.{Span}

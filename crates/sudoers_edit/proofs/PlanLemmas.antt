@@ -4,22 +4,10 @@ use Rattle.std.proofs.lemmas.Bool.Decides.{leb_tells}
 use Rattle.std.proofs.lemmas.List.{length-drop}
 use Rattle.std.specs.List.{AllByRecursion}
 use Rattle.std.specs.Prelude.{nat_lt, option_to_list}
-use Rattle.sudoers_text.specs.Line.{join}
-use Rattle.sudoers_text.specs.Ended.{has_unended_inside}
 use Rattle.sudoers_text.specs.Whole.{IsLogicalLine}
-use Rattle.sudoers_tree.specs.Line.{Line}
-use Rattle.sudoers_tree.specs.Policy.{texts}
-use Rattle.sudoers_tree.specs.Reading.{read_of}
-use Rattle.sudoers_tree.specs.Changed.{changed, changed_from, place_of, next_place, text_brought, AreInOrder, brought}
+use Rattle.sudoers_tree.specs.Changed.{changed_from, place_of, next_place, text_brought, AreInOrder}
 use Rattle.sudoers_tree.specs.declared.line_change.LineChange.{LineChange}
-use Rattle.sudoers_tree.specs.declared.line_change.LineChange.TheVariants.{Put, Take}
-use Rattle.sudoers_edit_script.specs.declared.edit.Edit.{Edit}
-use Rattle.sudoers_edit.specs.Editing.{Lines, run}
-use Rattle.sudoers_edit.specs.Landing.{policy_or_refusal, lines_or_refusal}
-use Rattle.sudoers_edit.specs.LineEdits.{moved}
-use Rattle.sudoers_edit.specs.internal.Leading.{LeadsTo, Leads, IsMade}
-use Rattle.sudoers_edit.specs.internal.Moving.{move_changes}
-use Rattle.sudoers_edit.proofs.ReadLemmas.{read_within}
+use Rattle.sudoers_edit.specs.Editing.{Lines}
 
 -- what the laws say of changes
 abbrev pub NoneLaw : Type 0

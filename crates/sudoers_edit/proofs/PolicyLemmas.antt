@@ -8,11 +8,7 @@ use Rattle.sudoers_text.specs.Fault.{text_limit}
 use Rattle.sudoers_text.specs.Cut.{cut_of, StandAlone}
 use Rattle.sudoers_tree.specs.Line.{Line}
 use Rattle.sudoers_tree.specs.Policy.{texts}
-use Rattle.sudoers_tree.specs.Reading.{read_of}
-use Rattle.sudoers_edit.specs.OneLine.{IsAlone, IsSound}
-use Rattle.sudoers_edit.specs.Landing.{by_read, policy_or_refusal}
-use Rattle.sudoers_edit.specs.declared.fault.EditFault.TheVariants.{TooLarge}
-use Rattle.sudoers_tree.specs.declared.fault.ReadFault.{ReadFault}
+use Rattle.sudoers_edit.specs.OneLine.{IsAlone}
 
 -- what the laws say
 abbrev pub StandAloneLaw : Type 0

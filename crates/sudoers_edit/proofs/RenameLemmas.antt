@@ -4,18 +4,7 @@ use Rattle.std.proofs.lemmas.List.{drop_all}
 use Rattle.std.proofs.lemmas.Bool.Decides.{leb_tells}
 use Rattle.std.specs.List.{list_any}
 use Rattle.std.specs.Prelude.{min}
-use Rattle.sudoers_text.specs.Line.{join}
-use Rattle.sudoers_text.specs.Word.{is_name, is_reserved}
-use Rattle.sudoers_line.specs.declared.node.Kind.{Kind}
-use Rattle.sudoers_tree.specs.Line.{Line}
-use Rattle.sudoers_tree.specs.Definition.{place_of}
-use Rattle.sudoers_tree.specs.Fault.{is_some}
-use Rattle.sudoers_tree.specs.Policy.{texts}
-use Rattle.sudoers_tree.specs.Reading.{read_of}
-use Rattle.sudoers_edit_script.specs.declared.edit.Edit.TheVariants.{Rename}
-use Rattle.sudoers_edit.specs.declared.fault.EditFault.TheVariants.{NoAlias, BadName, NameTaken, TooLarge}
-use Rattle.sudoers_edit.specs.Landing.{is_too_long}
-use Rattle.sudoers_edit.specs.Renaming.{put_at, renamed, is_taken, rename}
+use Rattle.sudoers_edit.specs.Renaming.{put_at}
 use Rattle.sudoers_edit.specs.Editing.{step}
 
 -- OTHER BYTES
@@ -40,6 +29,7 @@ put_from : (from start size most : ℕ) (fresh : List ℕ) (starts : List ℕ) (
 put_from from start size most fresh starts line is within = elim (leb_tells (start + size) most) [
   | inl less ↦ ap (λ n. put_at n size fresh starts line) (same is less.1)
   | inr more ↦ put_past from (start + size) size fresh starts line (omega (arith, is, more.1, within)) (omega (arith, more.1, within))
+]
 
 -- the bytes up to the next place, and the others there
 pub put_more : (text new : List ℕ) (from next start size most : ℕ) (fresh : List ℕ) (starts : List ℕ) (line : List ℕ)

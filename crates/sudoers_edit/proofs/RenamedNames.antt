@@ -81,6 +81,7 @@ free_renamed k name fresh (d ∷ ds) [] are good free = absurd are
 free_renamed k name fresh (d ∷ ds) (e ∷ es) are good free = (
   ap is_reserved are.2 ∙ free_if (is_kind k d.kind && bytes_eq name d.def.name) fresh d.def.name good free.0,
   free_renamed k name fresh ds es are.3 good free.1,
+)
 
 pub count_renamed : (k : Kind) (name fresh : List ℕ) (j : Kind) (ds es : List Definition) → AreRenamed k name fresh ds es
     → count_of j es ≡ count_of j ds

@@ -121,3 +121,4 @@ old_gone k name fresh (d ∷ ds) [] are differ = absurd are
 old_gone k name fresh (d ∷ ds) (e ∷ es) are differ = (
   ap₂ (λ (j : Kind) (n : List ℕ). is_kind k j && bytes_eq name n) are.0 are.2 ∙ old_lacks (is_kind k d.kind) name fresh d.def.name differ,
   old_gone k name fresh ds es are.3 differ,
+)

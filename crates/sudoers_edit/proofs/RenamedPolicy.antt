@@ -2,24 +2,16 @@
 use Rattle.std.proofs.Common.{◌≡◌, ℕ, ◌≤◌, Bool, false, true, not, ◌||◌, List, [], ◌∷◌, length, Ok, refl, sym, ap₂, ◌∙◌, arith, map}
 use Rattle.std.specs.List.{AllByRecursion}
 use Rattle.std.specs.Prelude.{Option, Some, None}
-use Rattle.sudoers_text.specs.Line.{join}
-use Rattle.sudoers_text.specs.Ended.{ends_in_lf, has_unended_inside}
-use Rattle.sudoers_text.specs.Fault.{text_limit, line_limit}
-use Rattle.sudoers_text.specs.Cut.{cut_of, StandAlone}
 use Rattle.sudoers_text.specs.Renamed.{IsDefinableName}
-use Rattle.sudoers_text.specs.Whole.{IsLogicalLine, is_logical_line}
 use Rattle.sudoers_line.specs.Node.{Node}
 use Rattle.sudoers_line.specs.declared.node.Kind.{Kind}
 use Rattle.sudoers_line.specs.Line.{ReadsLine}
-use Rattle.sudoers_line.specs.Ascend.{NamesAscend}
-use Rattle.sudoers_line.specs.Renamed.{NamedAlias, renamed_alias, renamed_node, node_starts, renamed_text, renaming_of}
+use Rattle.sudoers_line.specs.Renamed.{NamedAlias, renamed_node, renamed_text, renaming_of}
 use Rattle.sudoers_tree.specs.Line.{Line}
 use Rattle.sudoers_tree.specs.Definition.{Definition, defined, definitions, place_of}
 use Rattle.sudoers_tree.specs.Fault.{is_some}
-use Rattle.sudoers_tree.specs.Policy.{texts, SaysSo, IsWalk}
-use Rattle.sudoers_tree.specs.Reading.{read_of}
-use Rattle.sudoers_edit.specs.Renamed.{alias_of, renamed_line, renamed_lines, AreWithin}
-use Rattle.sudoers_edit.proofs.Whole.{Laws, IsWhole, whole_of, read_whole}
+use Rattle.sudoers_tree.specs.Policy.{SaysSo, IsWalk}
+use Rattle.sudoers_edit.specs.Renamed.{alias_of, renamed_line, renamed_lines}
 use Rattle.sudoers_edit.proofs.DefinedNames.{defined_is_definable}
 use Rattle.sudoers_edit.proofs.RenamedNames.{AreRenamed, are_renamed, free_renamed, count_renamed, place_in}
 use Rattle.sudoers_edit.proofs.RenamedOnce.{lacks, once_renamed}

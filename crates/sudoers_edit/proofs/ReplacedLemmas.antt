@@ -4,19 +4,12 @@ use Rattle.std.proofs.lemmas.Bool.{le-ltb, or_parts as or_false}
 use Rattle.std.proofs.lemmas.Bool.Decides.{leb_tells}
 use Rattle.std.specs.List.{AllByRecursion}
 use Rattle.std.specs.Prelude.{slice_get, nat_lt}
-use Rattle.sudoers_text.specs.Line.{join}
 use Rattle.sudoers_text.specs.Ended.{has_unended_inside, ends_in_lf}
-use Rattle.sudoers_text.specs.Cut.{StandAlone}
-use Rattle.sudoers_text.specs.Fault.{line_limit}
 use Rattle.sudoers_line.specs.Node.{Node}
 use Rattle.sudoers_tree.specs.Line.{Line}
 use Rattle.sudoers_tree.specs.Policy.{texts}
-use Rattle.sudoers_tree.specs.Reading.{read_of}
 use Rattle.sudoers_tree.specs.Single.{said}
-use Rattle.sudoers_edit.specs.OneLine.{IsAlone, IsSound}
-use Rattle.sudoers_edit.specs.Landing.{changed_or_refusal, lines_or_refusal, policy_of}
 use Rattle.sudoers_tree.specs.Changed.{replaced}
-use Rattle.sudoers_edit.proofs.EditLemmas.{settled}
 
 or-falsely : (a b : Bool) → a ≡ false → b ≡ false → (a || b) ≡ false
 or-falsely a b x y = rw (x, y) refl
@@ -116,3 +109,4 @@ pub open_or_last : (ls : List (List ℕ)) (at : ℕ) (t : List ℕ) (n : ℕ) �
 open_or_last ls at t n size within h open_ = elim (leb_tells 2 (n - at)) [
   | inl more ↦ more.0 ∙ sym (open_replaced ls at t (omega (arith, more.1, size, within)) open_)
   | inr last ↦ last.0 ∙ sym (ended_replaced ls at t h (inr (omega (arith, last.1, size, within))))
+]

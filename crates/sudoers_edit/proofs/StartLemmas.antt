@@ -41,6 +41,7 @@ picked k name (l ∷ ls) = grind (
   picked k name ls,
   of_atom k l.0 name l.1 l.1.atom,
   flat_map-append (start_if k name) (alias_of l.0 l.1 l.1.atom) (aliases_among ls),
+)
 
 -- members of one list
 same_kind : (k : Kind) → is_kind k k ≡ true

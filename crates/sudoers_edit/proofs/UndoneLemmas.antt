@@ -2,15 +2,10 @@
 use Rattle.std.proofs.Common.{◌≡◌, ◌∙◌, ℕ, zero, suc, ◌+◌, ◌-◌, ◌<◌, ◌≤◌, List, [], ◌∷◌, ◌++◌, length, take, drop, slice_index_or, refl, sym, ap, ap₂, subst, arith}
 use Rattle.std.specs.List.{AllByRecursion}
 use Rattle.std.specs.Prelude.{option_to_list}
-use Rattle.sudoers_text.specs.Ended.{has_unended_inside}
-use Rattle.sudoers_text.specs.Whole.{IsLogicalLine}
-use Rattle.sudoers_tree.specs.Changed.{changed, changed_from, place_of, next_place, text_brought, AreInOrder, brought}
+use Rattle.sudoers_tree.specs.Changed.{place_of, next_place, AreInOrder}
 use Rattle.sudoers_tree.specs.declared.line_change.LineChange.{LineChange}
 use Rattle.sudoers_tree.specs.declared.line_change.LineChange.TheVariants.{Put, Swap, Take}
 use Rattle.sudoers_edit.specs.Editing.{Lines}
-use Rattle.sudoers_edit.specs.OneLine.{IsSound}
-use Rattle.sudoers_edit.specs.internal.Undone.{undone_from, undone, ChangesBack}
-use Rattle.sudoers_edit.proofs.PlanLemmas.{NoneLaw, FirstLaw, whole_at}
 
 -- LISTS
 

@@ -3,24 +3,14 @@ use Rattle.std.proofs.Common.{◌≡◌, ℕ, zero, suc, ◌+◌, Bool, true, fa
 use Rattle.std.specs.Prelude.{slice_get}
 use Rattle.std.specs.Result.{result_ok}
 use Rattle.sudoers_text.specs.Cut.{StandAlone}
-use Rattle.sudoers_text.specs.Line.{join}
 use Rattle.sudoers_text.specs.Whole.{is_logical_line}
 use Rattle.sudoers_line.specs.Node.{Node}
 use Rattle.sudoers_line_reader.specs.Outcome.{outcome_of}
 use Rattle.sudoers_tree.specs.Line.{Line}
 use Rattle.sudoers_tree.specs.Policy.{texts}
-use Rattle.sudoers_tree.specs.Reading.{read_of}
 use Rattle.sudoers_tree.specs.Single.{said}
 use Rattle.sudoers_edit.specs.OneLine.{IsAlone}
-use Rattle.sudoers_edit.specs.Splice.{slice, line_without, line_with}
-use Rattle.sudoers_edit.specs.SpliceEdits.{is_one_more, put_in, cut_out}
-use Rattle.sudoers_edit.specs.declared.one_more.Among.{Among}
-use Rattle.sudoers_edit.specs.Landing.{changed_or_refusal}
-use Rattle.sudoers_tree.specs.Changed.{replaced}
-use Rattle.sudoers_edit.specs.internal.Leading.{IsKnown, PutIn, CutOut}
-use Rattle.sudoers_edit.proofs.BackLemmas.{puts, cuts}
-use Rattle.sudoers_edit.proofs.ReplacedLemmas.{AllSaid, Swapped, swapped}
-use Rattle.sudoers_edit.proofs.SpliceLemmas.{without_with, with_without, size_slice}
+use Rattle.sudoers_edit.proofs.ReplacedLemmas.{AllSaid}
 
 -- a line that says something is one logical line
 logical : (b : Bool) (o : Option Node) (n : Node) → (if b then o else None) ≡ Some n → b ≡ true

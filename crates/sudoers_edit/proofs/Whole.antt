@@ -4,25 +4,10 @@ use Rattle.std.proofs.lemmas.Bool.{le-ltb, or_parts as or_false}
 use Rattle.std.proofs.lemmas.List.{length-append, map-append}
 use Rattle.std.specs.List.{AllByRecursion}
 use Rattle.std.specs.Prelude.{slice_get}
-use Rattle.sudoers_text.specs.Line.{join}
 use Rattle.sudoers_text.specs.Ended.{ends_in_lf, has_unended_inside}
-use Rattle.sudoers_text.specs.Fault.{text_limit, line_limit, IsOutcome as IsCutOutcome}
-use Rattle.sudoers_text.specs.Cut.{cut_of, StandAlone}
-use Rattle.sudoers_text.specs.Whole.{is_logical_line}
-use Rattle.sudoers_line.specs.Node.{Def, Node}
-use Rattle.sudoers_line.specs.declared.node.Kind.{Kind}
 use Rattle.sudoers_line.specs.Node as node
-use Rattle.sudoers_line.specs.Line.{ReadsLine}
-use Rattle.sudoers_line.specs.Ascend.{DefsAscend}
-use Rattle.sudoers_line_reader.specs.Outcome.{outcome_of, IsOutcome as IsLineOutcome}
 use Rattle.sudoers_tree.specs.Line.{Line}
-use Rattle.sudoers_tree.specs.Changed.{replaced}
-use Rattle.sudoers_tree.specs.Definition.{definitions, definitions_in, definitions_since}
-use Rattle.sudoers_tree.specs.Policy.{texts, SaysSo, IsWalk, IsPolicy}
-use Rattle.sudoers_tree.specs.Reading.{read_of, IsOutcome}
-use Rattle.sudoers_tree.specs.declared.fault.ReadFault.{ReadFault}
-use Rattle.sudoers_edit.specs.Landing.{lines_or_refusal, policy_of}
-use Rattle.sudoers_edit.proofs.NameParts.{IsPart, part_skip, since_part, with_part, free_part, count_part, once_part}
+use Rattle.sudoers_tree.specs.Policy.{texts}
 
 -- ---- lists
 

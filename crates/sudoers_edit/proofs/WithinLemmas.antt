@@ -3,18 +3,15 @@ use Rattle.std.proofs.Common.{◌≡◌, ℕ, zero, suc, ◌≤◌, List, [], �
 use Rattle.std.specs.Prelude.{slice_get}
 use Rattle.std.specs.List.{AllByRecursion}
 use Rattle.sudoers_text.specs.Ascend.{Ascend}
-use Rattle.sudoers_line.specs.Node.{Def, Member, Node}
+use Rattle.sudoers_line.specs.Node.{Def, Node}
 use Rattle.sudoers_line.specs.declared.node.Kind.{Kind}
 use Rattle.sudoers_line.specs.Node as node
 use Rattle.sudoers_line.specs.Line.{ReadsLine}
 use Rattle.sudoers_line.specs.Ascend.{HoldsMembers, DefsAscend}
 use Rattle.sudoers_tree.specs.Line.{Line}
-use Rattle.sudoers_tree.specs.declared.place.Place.{Place}
-use Rattle.sudoers_tree.specs.Policy.{IsPolicy, SaysSo}
-use Rattle.sudoers_edit.specs.internal.Leading.{IsKnown, IsDefAt}
-use Rattle.sudoers_edit.specs.Splice.{def_extents, member_extents, seam, owned_stop}
+use Rattle.sudoers_tree.specs.Policy.{SaysSo}
 use Rattle.sudoers_edit.specs.SpliceEdits.{defs_of}
-use Rattle.sudoers_edit.proofs.SpliceLemmas.{ascend_le, seam_in, owned_in}
+use Rattle.sudoers_edit.proofs.SpliceLemmas.{ascend_le}
 
 -- LINES
 

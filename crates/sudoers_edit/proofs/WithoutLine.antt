@@ -1,10 +1,5 @@
 -- A policy without one of its lines.
 use Rattle.std.proofs.Common.{◌≡◌, ℕ, ◌<◌, zero, suc, List, [], ◌∷◌, ◌++◌, length, remove, Ok, refl, sym, ap, subst, ◌∙◌, arith}
-use Rattle.sudoers_text.specs.Line.{join}
-use Rattle.sudoers_tree.specs.Line.{Line}
-use Rattle.sudoers_tree.specs.Policy.{texts}
-use Rattle.sudoers_tree.specs.Reading.{read_of}
-use Rattle.sudoers_edit.proofs.Whole.{Laws, IsWhole, whole_of, read_whole, whole_without, remove_at}
 
 -- a list, cut at one of its items
 pub record Cut {X : Type 0} (xs : List X) (at : ℕ) : Type 0 where
