@@ -7,7 +7,7 @@ use Rattle.std.specs.Prelude.{nat_lt, option_to_list}
 use Rattle.sudoers_text.specs.Whole.{IsLogicalLine}
 use Rattle.sudoers_tree.specs.Changed.{changed_from, place_of, next_place, text_brought, AreInOrder}
 use Rattle.sudoers_tree.specs.declared.line_change.LineChange.{LineChange}
-use Rattle.sudoers_edit.specs.Editing.{Lines}
+use Rattle.sudoers_edit.specs.files.Landing.{Lines}
 
 -- what the laws say of changes
 abbrev pub NoneLaw : Type 0

@@ -5,7 +5,7 @@ use Rattle.std.specs.Prelude.{option_to_list}
 use Rattle.sudoers_tree.specs.Changed.{place_of, next_place, AreInOrder}
 use Rattle.sudoers_tree.specs.declared.line_change.LineChange.{LineChange}
 use Rattle.sudoers_tree.specs.declared.line_change.LineChange.TheVariants.{Put, Swap, Take}
-use Rattle.sudoers_edit.specs.Editing.{Lines}
+use Rattle.sudoers_edit.specs.files.Landing.{Lines}
 
 -- LISTS
 

@@ -23,6 +23,9 @@ pub mod PrunePut
 pub mod PruneRefused
 pub mod PruneSort
 pub mod PruneWalk
+pub mod PrunedAlike
+pub mod PrunedStage
+pub mod PrunedSteps
 pub mod RedoLemmas
 pub mod RenameCovers
 pub mod RenameFiles

@@ -129,7 +129,7 @@ ended_behind_one : (line : Line) (after : List Line) → has_unended_inside (tex
 ended_behind_one line [] is = refl
 ended_behind_one line (next ∷ after) is = (or_false _ _ is).1
 
-alias_leads : (name : List ℕ) (k : Kind) (defs : List Def) (says : Node) → says ≡ node.Alias k defs → lead_of name says ≡ None
+pub alias_leads : (name : List ℕ) (k : Kind) (defs : List Def) (says : Node) → says ≡ node.Alias k defs → lead_of name says ≡ None
 alias_leads name k defs says is = ap (lead_of name) is
 
 none_fits : (line : Line) (after : List Line) → ((name : List ℕ) → lead_of name line.node ≡ None) → FitsIn line after []
@@ -213,7 +213,7 @@ line_goes l policy f n line loaded on here nowhere = record {
 -- ---- a definition
 
 -- a text that says something reads so
-says_of : (text : List ℕ) (says : Node) → IsLineOutcome text (outcome_of text) → said text ≡ Some says → ReadsLine text says
+pub says_of : (text : List ℕ) (says : Node) → IsLineOutcome text (outcome_of text) → said text ≡ Some says → ReadsLine text says
 unfolding said
 says_of text says outcome is = by (is_logical_line text) (outcome_of text) outcome is
   where
