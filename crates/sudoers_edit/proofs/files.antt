@@ -26,6 +26,7 @@ pub mod PruneWalk
 pub mod PrunedAlike
 pub mod PrunedStage
 pub mod PrunedSteps
+pub mod PrunedWalk
 pub mod RedoLemmas
 pub mod RenameCovers
 pub mod RenameFiles

@@ -13,6 +13,7 @@ ghost use Rattle.sudoers_edit_script.specs.declared.edit.Edit.TheVariants.{Delet
 ghost use Rattle.sudoers_edit.specs.declared.fault.EditFault.{EditFault as AFault};
 ghost use Rattle.sudoers_edit.specs.declared.fault.EditFault.TheVariants.{BadSplice};
 ghost use Rattle.sudoers_edit.specs.files.Editing.{step as step_of};
+ghost use Rattle.sudoers_edit.specs.files.Pruned.{AreLeftOf};
 
 use sudoers_line::laws::{definitions_ascend, no_fault};
 use sudoers_line_reader::laws::{one_reading, outcome_is};
@@ -86,6 +87,31 @@ pub fn prune_is_refused_for_a_splice_alone()
     loaded_files_are_cut();
     loaded_lines_are_said();
     texts_tell_lines();
+    lines_of_join();
+    lines_stand_alone();
+    line_alone_size();
+    line_alone_is_whole();
+    whole_line_is();
+    outcome_is();
+    one_reading();
+    no_fault();
+    definitions_ascend();
+}
+
+/// A prune leaves of each line of the walk the definitions that are not unused, in their order, and each other line as it was.
+pub fn prune_leaves_the_used()
+    ensures { (policy new : Loaded) → load_of (files_of policy) ≡ Ok policy → step_of Prune policy ≡ Ok new
+        → AreLeftOf policy.walk.lines 0 policy.walk.lines new.walk.lines }
+{
+    mapped_files_load();
+    loaded_is_walk();
+    loaded_walk_is();
+    loaded_lines_stand();
+    loaded_files_are();
+    loaded_files_are_cut();
+    loaded_lines_are_said();
+    texts_tell_lines();
+    walk_is_mapped();
     lines_of_join();
     lines_stand_alone();
     line_alone_size();
