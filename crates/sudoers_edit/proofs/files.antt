@@ -31,6 +31,10 @@ pub mod PrunePut
 pub mod PruneRefused
 pub mod PruneSort
 pub mod PruneWalk
+pub mod PrunedAlike
+pub mod PrunedStage
+pub mod PrunedSteps
+pub mod PrunedWalk
 pub mod RedoLemmas
 pub mod RemovalNumbers
 pub mod RenameCovers

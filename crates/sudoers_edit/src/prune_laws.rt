@@ -9,10 +9,11 @@ ghost use Rattle.sudoers_tree.specs.Line.{Line as LineOf};
 ghost use Rattle.sudoers_tree.specs.Load.{Loaded, files_of, load_of};
 ghost use Rattle.sudoers_tree.specs.Policy.{texts};
 ghost use Rattle.sudoers_tree.specs.Walk.{is_on};
-ghost use Rattle.sudoers_edit_script.specs.declared.edit.Edit.TheVariants.{Delete, DropDef};
+ghost use Rattle.sudoers_edit_script.specs.declared.edit.Edit.TheVariants.{Delete, DropDef, Prune};
 ghost use Rattle.sudoers_edit.specs.declared.fault.EditFault.{EditFault as AFault};
 ghost use Rattle.sudoers_edit.specs.declared.fault.EditFault.TheVariants.{BadSplice};
 ghost use Rattle.sudoers_edit.specs.files.Editing.{step as step_of};
+ghost use Rattle.sudoers_edit.specs.files.Pruned.{AreLeftOf};
 
 use sudoers_line::laws::{definitions_ascend, no_fault};
 use sudoers_line_reader::laws::{one_reading, outcome_is};
@@ -21,7 +22,7 @@ use sudoers_text::laws::{
 };
 use sudoers_tree::laws::{
     loaded_files_are, loaded_files_are_cut, loaded_is_walk, loaded_lines_are_said,
-    loaded_lines_stand, mapped_files_load,
+    loaded_lines_stand, loaded_walk_is, mapped_files_load, texts_tell_lines, walk_is_mapped,
 };
 
 /// A policy without a line that leads nowhere, of a file on the walk, is a policy: what is left of it.
@@ -62,6 +63,55 @@ pub fn drop_is_refused_for_a_splice_alone()
     loaded_files_are();
     loaded_files_are_cut();
     loaded_lines_are_said();
+    lines_of_join();
+    lines_stand_alone();
+    line_alone_size();
+    line_alone_is_whole();
+    whole_line_is();
+    outcome_is();
+    one_reading();
+    no_fault();
+    definitions_ascend();
+}
+
+/// A prune is refused for a splice alone: a line would not read as before but for a definition that goes, or this would not own exactly the
+/// bytes that go with it.
+pub fn prune_is_refused_for_a_splice_alone()
+    ensures { (policy : Loaded) (fault : AFault) → load_of (files_of policy) ≡ Ok policy → step_of Prune policy ≡ Err fault → fault ≡ BadSplice }
+{
+    mapped_files_load();
+    loaded_is_walk();
+    loaded_walk_is();
+    loaded_lines_stand();
+    loaded_files_are();
+    loaded_files_are_cut();
+    loaded_lines_are_said();
+    texts_tell_lines();
+    lines_of_join();
+    lines_stand_alone();
+    line_alone_size();
+    line_alone_is_whole();
+    whole_line_is();
+    outcome_is();
+    one_reading();
+    no_fault();
+    definitions_ascend();
+}
+
+/// A prune leaves of each line of the walk the definitions that are not unused, in their order, and each other line as it was.
+pub fn prune_leaves_the_used()
+    ensures { (policy new : Loaded) → load_of (files_of policy) ≡ Ok policy → step_of Prune policy ≡ Ok new
+        → AreLeftOf policy.walk.lines 0 policy.walk.lines new.walk.lines }
+{
+    mapped_files_load();
+    loaded_is_walk();
+    loaded_walk_is();
+    loaded_lines_stand();
+    loaded_files_are();
+    loaded_files_are_cut();
+    loaded_lines_are_said();
+    texts_tell_lines();
+    walk_is_mapped();
     lines_of_join();
     lines_stand_alone();
     line_alone_size();

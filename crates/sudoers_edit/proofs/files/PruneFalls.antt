@@ -28,7 +28,7 @@ Under below spots = AllByRecursion (λ (at : Spot). at.line < below at.file) spo
 abbrev Then : Loaded → List Spot → List Removal → Type 0
 Then policy earlier rest = (below : ℕ → ℕ) (cut : ℕ → ℕ → Bool) → Under below earlier → Falls policy below cut rest
 
-all_parts : {X : Type 0} (P : X → Type 0) (xs ys : List X) → AllByRecursion P (xs ++ ys) → AllByRecursion P xs × AllByRecursion P ys
+pub all_parts : {X : Type 0} (P : X → Type 0) (xs ys : List X) → AllByRecursion P (xs ++ ys) → AllByRecursion P xs × AllByRecursion P ys
 all_parts P [] ys a = (tt, a)
 all_parts P (x ∷ xs) ys a = let rest = all_parts P xs ys a.1 in ((a.0, rest.0), rest.1)
 
@@ -90,7 +90,7 @@ here_falls policy earlier at n test line rest on here before next (node.Spec use
 
 -- ---- all lines
 
-at_is : (earlier : List Spot) (at : Spot) (spots : List Spot) (n : ℕ) (other : Spot) → length earlier ≡ n → slice_index_or (earlier ++ at ∷ spots) n other ≡ at
+pub at_is : (earlier : List Spot) (at : Spot) (spots : List Spot) (n : ℕ) (other : Spot) → length earlier ≡ n → slice_index_or (earlier ++ at ∷ spots) n other ≡ at
 at_is [] at spots n other is = ap (λ m. slice_index_or (at ∷ spots) m other) (sym is)
 at_is (s ∷ earlier) at spots n other is =
     ap (λ m. slice_index_or (s ∷ (earlier ++ at ∷ spots)) m other) (sym is) ∙ at_is earlier at spots (length earlier) other refl

@@ -37,10 +37,15 @@ place_is at xs next inside many =
     let more : (length xs == 1) ≡ false = ne_eqb (length xs) 1 (λ same. omega (arith, same, many)) in
     rw (lt-leb (length xs) at inside, more) refl
 
-pub drop_refused : FileLaws → (policy : Loaded) (f n at : ℕ) (line : Line) (k : Kind) (defs : List Def) (fault : EditFault) → load_of (files_of policy) ≡ Ok policy
+-- What comes of a drop of a definition of several: its refusal for the splice, or the line without it.
+pub data Drops (policy : Loaded) (f n at : ℕ) (line : Line) : Type 0 where
+  refused : step (DropDef f n at) policy ≡ Err BadSplice → Drops policy f n at line
+  gone : (text splice : List ℕ) → CutDef n at (lines_of policy.files f) line text splice → DefGoes f n at policy text splice → Drops policy f n at line
+
+pub drop_comes : FileLaws → (policy : Loaded) (f n at : ℕ) (line : Line) (k : Kind) (defs : List Def) → load_of (files_of policy) ≡ Ok policy
     → is_on policy.walk f ≡ true → slice_get (lines_of policy.files f) n ≡ Some line → line.node ≡ node.Alias k defs → at < length defs → 2 ≤ length defs
-    → step (DropDef f n at) policy ≡ Err fault → fault ≡ BadSplice
-drop_refused l policy f n at line k defs fault loaded on here makes inside many is =
+    → Drops policy f n at line
+drop_comes l policy f n at line k defs loaded on here makes inside many =
     by_seam (seam at xs) refl (owned_stop at xs) refl
     (drop_is n at lines line defs here (ap defs_of makes)
     ∙ place_is at xs next (omega (arith, inside, count)) (omega (arith, many, count)))
@@ -61,14 +66,12 @@ drop_refused l policy f n at line k defs fault loaded on here makes inside many 
     step_is = let file = file_with policy.files f n line here in in_file_is f policy file.0 (drop_def n at) file.1
 
     -- what is refused at once
-    at_once : drop_def n at lines ≡ Err BadSplice → fault ≡ BadSplice
-    at_once refused =
-        let both : (let r : Result Loaded EditFault = Err fault in r) ≡ Err BadSplice = sym is ∙ step_is ∙ ap (λ r. and_then r (landed policy f)) refused in
-        cc
+    at_once : drop_def n at lines ≡ Err BadSplice → Drops policy f n at line
+    at_once is = refused (step_is ∙ ap (λ r. and_then r (landed policy f)) is)
 
     by_less : (from to : ℕ) → seam at xs ≡ Some from → owned_stop at xs ≡ Some to → (o : Option Node) → said (line_without from to line.text) ≡ o
         → (b : Bool) → is_def_more at from to (Some (node.Alias k defs)) o ≡ b
-        → drop_def n at lines ≡ refuse_if (not b) BadSplice (with_changed n (line_without from to line.text) (texts lines)) → fault ≡ BadSplice
+        → drop_def n at lines ≡ refuse_if (not b) BadSplice (with_changed n (line_without from to line.text) (texts lines)) → Drops policy f n at line
     by_less from to begins stops o says false no_more e = at_once e
     by_less from to begins stops None says true more e = absurd (cc)
     by_less from to begins stops (Some new) says true more e =
@@ -100,18 +103,16 @@ drop_refused l policy f n at line k defs fault loaded on here makes inside many 
           owned = refl;
           forth = e;
         } in
-        let goes : DefGoes f n at policy text (slice from to line.text) = def_goes l policy f n at line text (slice from to line.text) loaded on here d in
-        let both : Err fault ≡ Ok goes.next = sym is ∙ goes.made.forth in
-        absurd cc
+        gone text (slice from to line.text) d (def_goes l policy f n at line text (slice from to line.text) loaded on here d)
 
-    by_cut : (from to : ℕ) → seam at xs ≡ Some from → owned_stop at xs ≡ Some to → drop_def n at lines ≡ next from to → fault ≡ BadSplice
+    by_cut : (from to : ℕ) → seam at xs ≡ Some from → owned_stop at xs ≡ Some to → drop_def n at lines ≡ next from to → Drops policy f n at line
     by_cut from to begins stops e =
         let text : List ℕ = line_without from to line.text in
         by_less from to begins stops (said text) refl (is_def_more at from to (Some (node.Alias k defs)) (said text)) refl
         (e ∙ ap (λ m. refuse_if (not (is_def_more at from to (Some m) (said text))) BadSplice (with_changed n text (texts lines))) makes)
 
     by_seam : (o : Option ℕ) → seam at xs ≡ o → (p : Option ℕ) → owned_stop at xs ≡ p
-        → drop_def n at lines ≡ or_refuse (seam at xs) BadSplice (λ from. or_refuse (owned_stop at xs) BadSplice (λ to. next from to)) → fault ≡ BadSplice
+        → drop_def n at lines ≡ or_refuse (seam at xs) BadSplice (λ from. or_refuse (owned_stop at xs) BadSplice (λ to. next from to)) → Drops policy f n at line
     by_seam None begins p stops e = at_once (e ∙ ap (λ o. or_refuse o BadSplice (λ from. or_refuse (owned_stop at xs) BadSplice (λ to. next from to))) begins)
     by_seam (Some from) begins None stops e =
         at_once (e ∙ ap (λ o. or_refuse o BadSplice (λ from. or_refuse (owned_stop at xs) BadSplice (λ to. next from to))) begins
@@ -120,3 +121,12 @@ drop_refused l policy f n at line k defs fault loaded on here makes inside many 
         by_cut from to begins stops
         (e ∙ ap (λ o. or_refuse o BadSplice (λ from. or_refuse (owned_stop at xs) BadSplice (λ to. next from to))) begins
         ∙ ap (λ o. or_refuse o BadSplice (λ to. next from to)) stops)
+
+pub drop_refused : FileLaws → (policy : Loaded) (f n at : ℕ) (line : Line) (k : Kind) (defs : List Def) (fault : EditFault) → load_of (files_of policy) ≡ Ok policy
+    → is_on policy.walk f ≡ true → slice_get (lines_of policy.files f) n ≡ Some line → line.node ≡ node.Alias k defs → at < length defs → 2 ≤ length defs
+    → step (DropDef f n at) policy ≡ Err fault → fault ≡ BadSplice
+drop_refused l policy f n at line k defs fault loaded on here makes inside many is = by (drop_comes l policy f n at line k defs loaded on here makes inside many)
+  where
+    by : Drops policy f n at line → fault ≡ BadSplice
+    by (refused told) = let both : (let r : Result Loaded EditFault = Err fault in r) ≡ Err BadSplice = sym is ∙ told in cc
+    by (gone text splice cut goes) = let both : Err fault ≡ Ok goes.next = sym is ∙ goes.made.forth in absurd cc
