@@ -2,7 +2,7 @@ mod SameMembers
 mod LeftDefinitions
 mod PruneLeaves
 mod KeptDefinitions
-mod PruneSplice
+mod PrunedLines
 mod RenameMade
 mod RenamedMembers
 mod RenamedAnswers

@@ -65,7 +65,7 @@ all_reversed P (x ∷ xs) all =
 
 -- ---- one definition less
 
-same_definition : (k : Kind) (l m n o : ℕ) (d e : Def) → is_same_def d e ≡ true
+pub same_definition : (k : Kind) (l m n o : ℕ) (d e : Def) → is_same_def d e ≡ true
     → IsSameDefinition (record { kind = k; place = record { line = l; def = n }; def = d }) (record { kind = k; place = record { line = m; def = o }; def = e })
 same_definition k l m n o d e h =
     let p = and_parts (bytes_eq d.name e.name) (are_alike is_same_member d.members e.members) h in

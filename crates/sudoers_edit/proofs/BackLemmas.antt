@@ -1,14 +1,12 @@
 -- How one more in a line is taken out again, and how one that was taken out comes back.
-use Rattle.std.proofs.Common.{◌≡◌, ℕ, ◌+◌, Bool, true, false, ◌&&◌, List, length, Some, Result, Ok, Err, refl, arith}
+use Rattle.std.proofs.Common.{◌≡◌, ℕ, ◌+◌, Bool, true, false, ◌&&◌, List, length, Some, Result, refl, arith}
 use Rattle.std.proofs.lemmas.Bool.{le-ltb, lt-leb, ne_eqb}
-use Rattle.std.specs.Prelude.{slice_get}
 use Rattle.sudoers_line.specs.Node.{Def, Node}
 use Rattle.sudoers_line.specs.declared.node.Kind.{Kind}
 use Rattle.sudoers_line.specs.Node as node
 use Rattle.sudoers_edit.specs.Splice.{Extent, def_extents, seam, owned_stop, owns_exactly, is_def_more}
 use Rattle.sudoers_edit.specs.SpliceEdits.{Lines, place_to_add, place_to_drop}
 use Rattle.sudoers_edit.specs.declared.fault.EditFault.{EditFault}
-use Rattle.sudoers_edit.specs.declared.one_more.Among.TheVariants as among
 use Rattle.sudoers_edit.proofs.SpliceLemmas.{is_at_true, seam_within, stop_within}
 
 -- TRUTH

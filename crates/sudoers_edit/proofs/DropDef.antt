@@ -1,11 +1,8 @@
 -- A definition taken out of a line of several: it is refused for its splice alone.
-use Rattle.std.proofs.Common.{◌≡◌, ℕ, zero, suc, ◌+◌, ◌-◌, ◌≤◌, ◌<◌, Bool, true, false, not, ◌&&◌, ◌⊎◌, inl, inr, List, [], ◌∷◌, ◌++◌, length, remove, Option, Some, None, Result, Ok, Err, refl, sym, ap, subst, ◌∙◌, arith, ne_eqb, if◌then◌else◌}
-use Rattle.std.proofs.lemmas.Bool.{le-ltb, lt-leb, and_parts, not-false, or_parts as or_false}
+use Rattle.std.proofs.Common.{◌≡◌, ℕ, zero, suc, ◌+◌, ◌-◌, ◌≤◌, ◌<◌, Bool, true, ◌&&◌, ◌⊎◌, inr, List, [], ◌∷◌, ◌++◌, length, remove, Some, refl, sym, ap, ◌∙◌, if◌then◌else◌}
+use Rattle.std.proofs.lemmas.Bool.{and_parts}
 use Rattle.std.proofs.lemmas.Slice.Eq.{bytes_eq-Decides}
-use Rattle.std.proofs.lemmas.List.{length-append, length-map}
-use Rattle.std.proofs.lemmas.List.Edits.{length-remove}
 use Rattle.std.specs.Prelude.{◌==◌}
-use Rattle.std.specs.Result.{result_ok}
 use Rattle.std.specs.Str.{bytes_eq}
 use Rattle.sudoers_text.specs.Ended.{ends_in_lf}
 use Rattle.sudoers_line.specs.declared.node.Kind.{Kind}
@@ -14,7 +11,6 @@ use Rattle.sudoers_line.specs.Node.{Def, Node}
 use Rattle.sudoers_line.specs.Node as node
 use Rattle.sudoers_line.specs.Line.{ReadsLine}
 use Rattle.sudoers_tree.specs.Definition.{is_kind, definitions_from}
-use Rattle.sudoers_edit.specs.declared.one_more.Among.TheVariants as among
 use Rattle.sudoers_edit.specs.Alike.{are_alike, is_same_def, is_same_member}
 use Rattle.sudoers_edit.specs.Splice.{def_extents, owns_exactly, is_def_more}
 use Rattle.sudoers_edit.proofs.NameParts.{IsPart, part_skip}

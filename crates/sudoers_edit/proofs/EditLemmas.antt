@@ -1,6 +1,6 @@
 -- What an edit leaves of the lines, and that its inverse gives them back.
-use Rattle.std.proofs.Common.{◌≡◌, ℕ, zero, suc, ◌-◌, ◌<◌, ◌≤◌, Bool, true, false, not, ◌||◌, List, [], ◌∷◌, length, insert, remove, slice_index_or, Some, Ok, refl, sym, ap, ◌∙◌, arith}
-use Rattle.std.proofs.lemmas.Bool.{le-ltb, lt-ltb, or_parts as or_false}
+use Rattle.std.proofs.Common.{◌≡◌, ℕ, zero, suc, ◌-◌, ◌<◌, ◌≤◌, Bool, true, false, not, ◌||◌, List, [], ◌∷◌, length, insert, remove, slice_index_or, Some, refl, sym, ap, ◌∙◌, arith}
+use Rattle.std.proofs.lemmas.Bool.{or_parts as or_false}
 use Rattle.std.specs.Prelude.{slice_get}
 use Rattle.sudoers_edit.proofs.PolicyLemmas.{at_get}
 use Rattle.sudoers_text.specs.Ended.{has_unended_inside, ends_in_lf}
@@ -45,6 +45,19 @@ open_remove (k ∷ ks) zero h = open_tail k ks h
 open_remove (k ∷ []) (suc zero) h = refl
 open_remove (k ∷ []) (suc (suc n)) h = refl
 open_remove (k ∷ j ∷ js) (suc n) h = open_front k (remove (j ∷ js) n) (or_false _ _ h).0 (open_remove (j ∷ js) n (or_false _ _ h).1)
+
+-- LINES AND SIZES
+
+pub each_insert : (ls : List (List ℕ)) (at : ℕ) (t : List ℕ) → StandAlone ls → IsAlone t → StandAlone (insert ls at t)
+each_insert ls zero t each is = (is, each)
+each_insert [] (suc n) t each is = (is, tt)
+each_insert (k ∷ ks) (suc n) t each is = (each.0, each_insert ks n t each.1 is)
+
+pub each_remove : (ls : List (List ℕ)) (at : ℕ) → StandAlone ls → StandAlone (remove ls at)
+each_remove [] zero each = tt
+each_remove [] (suc n) each = tt
+each_remove (k ∷ ks) zero each = each.1
+each_remove (k ∷ ks) (suc n) each = (each.0, each_remove ks n each.1)
 
 pub each_at : (ls : List (List ℕ)) (at : ℕ) → at < length ls → StandAlone ls → IsAlone (slice_index_or ls at [])
 each_at [] at l each = absurd (omega arith)

@@ -1,10 +1,9 @@
 -- Members put into the list of an alias and taken out of it.
-use Rattle.std.proofs.Common.{◌≡◌, ℕ, zero, suc, ◌+◌, true, List, [], ◌∷◌, length, Some, None, Option, Result, Err, refl, sym, ap, ◌∙◌, arith}
+use Rattle.std.proofs.Common.{◌≡◌, ℕ, zero, suc, ◌+◌, true, List, [], ◌∷◌, Some, None, Option, refl, sym, ap, ◌∙◌, arith}
 use Rattle.std.specs.Prelude.{slice_get}
 use Rattle.sudoers_line.specs.Node.{Def, Node}
 use Rattle.sudoers_line.specs.declared.node.Kind.{Kind}
 use Rattle.sudoers_line.specs.Node as node
-use Rattle.sudoers_edit.specs.declared.one_more.Among.TheVariants as among
 use Rattle.sudoers_edit.specs.Splice.{extents_in, seam, is_member_more}
 use Rattle.sudoers_edit.proofs.BackLemmas.{both, Owns, owns}
 use Rattle.sudoers_edit.proofs.PlaceLemmas.{SameNames, changed_names, kind_same}

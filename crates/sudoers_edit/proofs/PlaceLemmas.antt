@@ -1,13 +1,11 @@
 -- A definition stands where it stood, when a line of definitions has a member more or less.
-use Rattle.std.proofs.Common.{◌≡◌, ℕ, zero, suc, ◌+◌, Bool, true, false, ◌&&◌, List, [], ◌∷◌, ◌++◌, Option, Some, option_map, refl, sym, ap, ap₂, subst, bytes_eq, if◌then◌else◌}
+use Rattle.std.proofs.Common.{◌≡◌, ℕ, zero, suc, ◌+◌, Bool, true, false, ◌&&◌, List, [], ◌∷◌, ◌++◌, Option, Some, option_map, refl, sym, ap, ap₂, bytes_eq, if◌then◌else◌}
 use Rattle.std.proofs.lemmas.Slice.Eq.{bytes_eq-Decides}
-use Rattle.std.specs.Prelude.{slice_get}
 use Rattle.sudoers_line.specs.Node.{Def}
 use Rattle.sudoers_line.specs.declared.node.Kind.{Kind}
 use Rattle.sudoers_line.specs.declared.node.Kind.TheVariants.{User, Runas, Host, Cmnd}
-use Rattle.sudoers_line.specs.Node as node
 use Rattle.sudoers_tree.specs.declared.place.Place.{Place}
-use Rattle.sudoers_tree.specs.Definition.{Definition, is_kind, definitions_from, definitions, defines, defined}
+use Rattle.sudoers_tree.specs.Definition.{Definition, is_kind, definitions_from, defines, defined}
 use Rattle.sudoers_edit.specs.Alike.{are_alike, is_same_def}
 use Rattle.sudoers_edit.specs.Splice.{changed_at, less_member}
 use Rattle.sudoers_edit.proofs.BackLemmas.{both}

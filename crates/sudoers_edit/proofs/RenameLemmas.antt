@@ -1,11 +1,9 @@
 -- An alias given another name: the bytes that are put, and the refusals.
-use Rattle.std.proofs.Common.{◌≡◌, ℕ, zero, suc, ◌+◌, ◌-◌, ◌≤◌, true, false, not, ◌||◌, List, [], ◌∷◌, ◌++◌, length, take, drop, Ok, Err, inl, inr, refl, sym, ap, ◌∙◌, arith, append_assoc}
+use Rattle.std.proofs.Common.{◌≡◌, ℕ, zero, suc, ◌+◌, ◌-◌, ◌≤◌, ◌||◌, List, [], ◌∷◌, ◌++◌, length, take, drop, inl, inr, refl, sym, ap, ◌∙◌, arith, append_assoc}
 use Rattle.std.proofs.lemmas.List.{drop_all}
 use Rattle.std.proofs.lemmas.Bool.Decides.{leb_tells}
-use Rattle.std.specs.List.{list_any}
 use Rattle.std.specs.Prelude.{min}
 use Rattle.sudoers_edit.specs.Renaming.{put_at}
-use Rattle.sudoers_edit.specs.Editing.{step}
 
 -- OTHER BYTES
 
@@ -30,6 +28,9 @@ put_from from start size most fresh starts line is within = elim (leb_tells (sta
   | inl less ↦ ap (λ n. put_at n size fresh starts line) (same is less.1)
   | inr more ↦ put_past from (start + size) size fresh starts line (omega (arith, is, more.1, within)) (omega (arith, more.1, within))
 ]
+  where
+    same : from ≡ min (start + size) most → start + size ≤ most → from ≡ start + size
+    same is less = omega (arith, is, less)
 
 -- the bytes up to the next place, and the others there
 pub put_more : (text new : List ℕ) (from next start size most : ℕ) (fresh : List ℕ) (starts : List ℕ) (line : List ℕ)

@@ -1,11 +1,9 @@
 -- The lines of policies, and lines that are left of them.
-use Rattle.std.proofs.Common.{◌≡◌, ℕ, ◌+◌, ◌≤◌, ◌<◌, suc, Bool, true, false, not, ◌||◌, List, [], ◌∷◌, ◌++◌, length, remove, Some, Result, Ok, refl, sym, ap, subst, ◌∙◌, arith}
-use Rattle.std.proofs.lemmas.Bool.{le-ltb, or_parts as or_false}
-use Rattle.std.proofs.lemmas.List.{length-append, map-append}
-use Rattle.std.specs.List.{AllByRecursion}
+use Rattle.std.proofs.Common.{◌≡◌, ℕ, ◌+◌, ◌≤◌, ◌<◌, Bool, false, not, ◌||◌, List, [], ◌∷◌, ◌++◌, length, Some, refl, ◌∙◌}
+use Rattle.std.proofs.lemmas.Bool.{or_parts as or_false}
+use Rattle.std.proofs.lemmas.List.{map-append}
 use Rattle.std.specs.Prelude.{slice_get}
 use Rattle.sudoers_text.specs.Ended.{ends_in_lf, has_unended_inside}
-use Rattle.sudoers_line.specs.Node as node
 use Rattle.sudoers_tree.specs.Line.{Line}
 use Rattle.sudoers_tree.specs.Policy.{texts}
 

@@ -1,7 +1,11 @@
 -- Lemmas of edits over the files of a policy.
+pub mod AcceptedLines
+pub mod AcceptedSplices
+pub mod BackLemmas
 pub mod DefLemmas
 pub mod EndLemmas
 pub mod HistoryLemmas
+pub mod InverseLaw
 pub mod JournalLemmas
 pub mod KnownLemmas
 pub mod LandLemmas
@@ -10,11 +14,15 @@ pub mod LoadFaults
 pub mod MemberLemmas
 pub mod MemoryLemmas
 pub mod MoveLemmas
+pub mod NameLemmas
+pub mod NamedLaw
+pub mod PayloadLaw
 pub mod PlanLemmas
 pub mod PruneCut
 pub mod PruneDone
 pub mod PruneFalls
 pub mod PruneGoes
+pub mod PruneList
 pub mod PruneLists
 pub mod PruneOrder
 pub mod PruneOut
@@ -28,6 +36,7 @@ pub mod PrunedStage
 pub mod PrunedSteps
 pub mod PrunedWalk
 pub mod RedoLemmas
+pub mod RemovalNumbers
 pub mod RenameCovers
 pub mod RenameFiles
 pub mod RenameLaws
@@ -41,3 +50,4 @@ pub mod RenameSwaps
 pub mod ReplaceLemmas
 pub mod SpotLemmas
 pub mod SwapLemmas
+pub mod UndoneLemmas

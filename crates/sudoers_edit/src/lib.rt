@@ -7,6 +7,7 @@ mod fault;
 pub mod laws;
 mod line_edits;
 mod making;
+mod name_laws;
 mod name_places;
 mod one_more;
 mod plan;

@@ -246,7 +246,7 @@ fn last_place(policy: &Policy, file: usize) -> usize
 }
 
 /// A law: the lines of a file stay as many where LF is put behind the last or taken from it, if the files load then.
-fn ends_stay_cut()
+pub fn ends_stay_cut()
     ensures { EndsStayCut }
 {
     loaded_files_are();

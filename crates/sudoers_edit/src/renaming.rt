@@ -1,5 +1,5 @@
 //! An alias given another name in the files of a policy, where it is defined and where it is mentioned.
-ghost use Rattle.std.specs.Prelude.{◌≡◌, ◌∷◌, ◌++◌, [], List, ℕ, length, take, drop, option_to_list, true, false, if◌then◌else◌, Ok, Err, IfOk, OnOk};
+ghost use Rattle.std.specs.Prelude.{◌≡◌, ◌∷◌, ◌++◌, [], List, ℕ, length, take, drop, option_to_list, true, false, if◌then◌else◌, Ok, IfOk, OnOk};
 ghost use Rattle.std.specs.List.{list_any};
 ghost use Rattle.sudoers_text.specs.Renamed.{IsDefinableName};
 ghost use Rattle.sudoers_line.specs.declared.node.Kind.{Kind as KindOf};
@@ -13,10 +13,6 @@ ghost use Rattle.sudoers_tree.specs.Walk.{is_on};
 ghost use Rattle.sudoers_tree.specs.declared.line_change.LineChange.{LineChange as LineChangeOf};
 ghost use Rattle.sudoers_edit.specs.Landing.{is_too_long};
 ghost use Rattle.sudoers_edit.specs.Renaming.{put_at, renamed, starts_in, is_taken as taken};
-ghost use Rattle.sudoers_edit.specs.declared.fault.EditFault.{EditFault as AFault};
-ghost use Rattle.sudoers_edit.specs.files.Editing.{step as step_of};
-ghost use Rattle.sudoers_edit.specs.files.Renamed.{FilesAreWithin, IsRenamed};
-ghost use Rattle.sudoers_edit.specs.files.Renaming.{renamed_files};
 ghost use Rattle.sudoers_edit.specs.internal.FileLeading.{Leads, Plans, swap_in, swaps_of_file, swaps_from};
 
 use crate::fault::EditFault;
@@ -25,14 +21,12 @@ use crate::plan::Plan;
 use std::alloc::{AllocError, Global};
 use sudoers_edit_script::{Edit, Edits, Text};
 use sudoers_line::laws::{names_stand, renamed_line};
-use sudoers_text::laws::{
-    line_alone_is_whole, line_alone_size, lines_of_join, lines_stand_alone, whole_line_is,
-};
+use sudoers_text::laws::{line_alone_is_whole, line_alone_size, lines_stand_alone, whole_line_is};
 use sudoers_text::{LINE_LIMIT, is_name, is_reserved};
 use sudoers_tree::laws::{
-    changed_by_first, changed_files_have_lines, changed_walk_is_mapped, loaded_files_are,
-    loaded_files_are_cut, loaded_is_walk, loaded_lines_are_said, loaded_lines_stand,
-    loaded_walk_is, mapped_files_load, texts_tell_lines, walk_is,
+    changed_by_first, changed_files_have_lines, changed_walk_is_mapped, loaded_files_are_cut,
+    loaded_is_walk, loaded_lines_are_said, loaded_lines_stand, loaded_walk_is, texts_tell_lines,
+    walk_is,
 };
 use sudoers_tree::{Kind, Line, LineChange, LineRow, Policy, Rows, Walk};
 
@@ -259,94 +253,4 @@ fn is_one_too_long(changes: &[LineChange]) -> bool
         }
     }
     false
-}
-
-/// A law: a policy with another name for an alias that it defines is a policy, while lines and files are within the limits. The new name may
-/// define an alias, and defines none of the kind yet.
-pub fn renamed_policy_is_one()
-    ensures { (kind : KindOf) (name fresh : List ℕ) (policy : Loaded) → load_of (files_of policy) ≡ Ok policy
-        → is_some (place_of kind name policy.walk.lines) ≡ true → IsDefinableName fresh → is_some (place_of kind fresh policy.walk.lines) ≡ false
-        → FilesAreWithin kind name fresh policy
-        → (new : Loaded) × (load_of (renamed_files kind name fresh policy) ≡ Ok new) × IsRenamed kind name fresh policy new }
-{
-    loaded_is_walk();
-    loaded_lines_stand();
-    loaded_files_are();
-    loaded_files_are_cut();
-    loaded_lines_are_said();
-    loaded_walk_is();
-    walk_is();
-    texts_tell_lines();
-    changed_files_have_lines();
-    changed_walk_is_mapped();
-    mapped_files_load();
-    changed_by_first();
-    lines_of_join();
-    lines_stand_alone();
-    line_alone_size();
-    line_alone_is_whole();
-    whole_line_is();
-    names_stand();
-    renamed_line();
-}
-
-/// A law: a rename of a defined alias is refused for its size alone: a line of the walk or a file on it would be too long. The new name may
-/// define an alias, and is neither defined nor mentioned in the kind.
-pub fn rename_is_refused_for_its_size_alone()
-    ensures { (kind : KindOf) (name fresh : List ℕ) (policy : Loaded) (fault : AFault) → load_of (files_of policy) ≡ Ok policy
-        → is_some (place_of kind name policy.walk.lines) ≡ true → IsDefinableName fresh → taken kind fresh policy.walk.lines ≡ false
-        → step_of (Edit.Rename kind name fresh) policy ≡ Err fault → fault ≡ EditFault.TooLarge }
-{
-    loaded_is_walk();
-    loaded_lines_stand();
-    loaded_files_are();
-    loaded_files_are_cut();
-    loaded_lines_are_said();
-    loaded_walk_is();
-    walk_is();
-    texts_tell_lines();
-    changed_files_have_lines();
-    changed_walk_is_mapped();
-    mapped_files_load();
-    changed_by_first();
-    lines_of_join();
-    lines_stand_alone();
-    line_alone_size();
-    line_alone_is_whole();
-    whole_line_is();
-    names_stand();
-    renamed_line();
-}
-
-/// A law: within the limits such a rename leads to the policy with the new name, and any rename that is made does. One rename takes it back:
-/// the old name, given again, leads to the policy before.
-pub fn rename_is_taken_back()
-    ensures forth { (kind : KindOf) (name fresh : List ℕ) (policy : Loaded) → load_of (files_of policy) ≡ Ok policy
-        → is_some (place_of kind name policy.walk.lines) ≡ true → IsDefinableName fresh → taken kind fresh policy.walk.lines ≡ false
-        → FilesAreWithin kind name fresh policy
-        → (new : Loaded) × (step_of (Edit.Rename kind name fresh) policy ≡ Ok new) × IsRenamed kind name fresh policy new }
-    ensures are { (kind : KindOf) (name fresh : List ℕ) (policy new : Loaded) → load_of (files_of policy) ≡ Ok policy
-        → step_of (Edit.Rename kind name fresh) policy ≡ Ok new → IsRenamed kind name fresh policy new }
-    ensures back { (kind : KindOf) (name fresh : List ℕ) (policy new : Loaded) → load_of (files_of policy) ≡ Ok policy
-        → step_of (Edit.Rename kind name fresh) policy ≡ Ok new → step_of (Edit.Rename kind fresh name) new ≡ Ok policy }
-{
-    loaded_is_walk();
-    loaded_lines_stand();
-    loaded_files_are();
-    loaded_files_are_cut();
-    loaded_lines_are_said();
-    loaded_walk_is();
-    walk_is();
-    texts_tell_lines();
-    changed_files_have_lines();
-    changed_walk_is_mapped();
-    mapped_files_load();
-    changed_by_first();
-    lines_of_join();
-    lines_stand_alone();
-    line_alone_size();
-    line_alone_is_whole();
-    whole_line_is();
-    names_stand();
-    renamed_line();
 }

@@ -337,7 +337,7 @@ fn leaves_open(policy: &Policy, file: usize, at: usize, text: &[u8]) -> bool
 }
 
 /// A law: the lines of loaded files are known from what they say.
-fn lines_are_known()
+pub fn lines_are_known()
     ensures { (files : List NamedFileOf) (policy : Loaded) → load_of files ≡ Ok policy → (file : ℕ) → AreKnown (lines_of policy.files file) }
 {
     loaded_lines_are_said();

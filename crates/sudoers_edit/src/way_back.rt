@@ -1,5 +1,6 @@
 //! What takes an edit back: edits, or the changes that do the same at once.
-ghost use Rattle.std.specs.Prelude.{◌≡◌, ◌<◌, ◌+◌, ◌^◌, List, [], length, Ok, Some, IfOk, IfErr, OnOk, OnErr, slice_index_or};
+ghost use Rattle.std.specs.Prelude.{◌≡◌, ◌<◌, ◌≤◌, ◌+◌, ◌^◌, ℕ, List, [], length, Ok, Some, IfOk, IfErr, OnOk, OnErr, slice_index_or};
+ghost use Rattle.sudoers_text.specs.Fault.{text_limit};
 ghost use Rattle.sudoers_tree.specs.Changed.{file_of, place_of};
 ghost use Rattle.sudoers_tree.specs.ChangedFiles.{CanBeMade, files_changed};
 ghost use Rattle.sudoers_tree.specs.Files.{lines_of};
@@ -12,8 +13,13 @@ ghost use Rattle.sudoers_edit.specs.internal.UndoneLines.{one_undone};
 
 use crate::fault::EditFault;
 use crate::making::make;
+use crate::plan::file_is_sound;
 use std::alloc::AllocError;
 use sudoers_edit_script::{Edits, Text};
+use sudoers_text::laws::{line_alone_is_whole, line_alone_size, lines_stand_alone, whole_line_is};
+use sudoers_tree::laws::{
+    changed_by_first, changed_files_have_lines, loaded_files_are, loaded_files_are_cut,
+};
 use sudoers_tree::{Items, LineChange, Policy};
 
 /// What takes an edit back: its inverse edits, and the changes that do the same at once, if they are more than one edit.
@@ -31,6 +37,7 @@ pub fn changes_back(
     requires { CanBeMade changes.now policy.now.files }
     ensures { IfOk result (λ back. back ≡ undone policy.now.files changes.now) }
 {
+    lines_are_few(policy);
     let alloc = policy.allocator();
     let mut back = Vec::with_capacity(alloc, changes.len())?;
     let (mut last, mut put, mut taken) = (0, 0, 0);
@@ -54,6 +61,21 @@ pub fn changes_lead_back()
     ensures { (policy new : Loaded) (changes : List LineChangeOf) → load_of (files_of policy) ≡ Ok policy → CanBeMade changes policy.files
         → load_of (files_changed changes policy.files) ≡ Ok new → ChangesBack (undone policy.files changes) new policy }
 {
+    loaded_files_are();
+    loaded_files_are_cut();
+    lines_stand_alone();
+    line_alone_is_whole();
+    whole_line_is();
+    changed_files_have_lines();
+    changed_by_first();
+}
+
+/// A law: no file of a policy has more lines than its text may have bytes.
+fn lines_are_few(policy: &Policy)
+    ensures { (file : ℕ) → length (lines_of policy.now.files file) ≤ text_limit }
+{
+    file_is_sound(policy);
+    line_alone_size();
 }
 
 /// Returns the number of the file whose line a change is of.

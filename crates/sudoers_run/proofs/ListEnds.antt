@@ -61,7 +61,6 @@ ends_of_people false false None n x y e = (refl, refl)
 abbrev pub IsQuestionFault : LayerFault → Type 0
 IsQuestionFault (layer.Who fault) = Unit {0}
 IsQuestionFault (layer.Ask fault) = Unit {0}
-IsQuestionFault (layer.Policy fault) = ⊥
 IsQuestionFault (layer.Gather fault) = ⊥
 IsQuestionFault (layer.Load fault) = ⊥
 IsQuestionFault (layer.People fault) = ⊥
@@ -160,7 +159,6 @@ unread_at : (fault : LayerFault) → IsUnloaded fault → AreEnds (Err (tool.Lay
 unread_at layer.NoMemory is = inl (refl, refl)
 unread_at (layer.Gather why) is = (refl, refl)
 unread_at (layer.Load f) is = absurd is
-unread_at (layer.Policy f) is = absurd is
 unread_at (layer.Script f) is = absurd is
 unread_at (layer.Edit place f) is = absurd is
 unread_at (layer.Convert f) is = absurd is
@@ -173,7 +171,6 @@ ended_at : (fault : ToolFault) → IsFrontFault fault → (u g : ReadingEnd) →
 ended_at tool.Read is u g at = at
 ended_at tool.NoEnd is u g at = at
 ended_at (tool.Layer layer.NoMemory) is u g at = inr (inl at)
-ended_at (tool.Layer (layer.Policy f)) is u g at = absurd cc
 ended_at (tool.Layer (layer.Gather f)) is u g at = absurd cc
 ended_at (tool.Layer (layer.Load f)) is u g at = absurd cc
 ended_at (tool.Layer (layer.Script f)) is u g at = absurd cc
@@ -185,6 +182,7 @@ ended_at (tool.Layer (layer.Who f)) is u g at = absurd cc
 ended_at (tool.Layer (layer.Ask f)) is u g at = absurd cc
 ended_at tool.Write is u g at = absurd is
 ended_at tool.NoMark is u g at = absurd is
+ended_at (tool.BadBundle file) is u g at = absurd is
 ended_at tool.InputTooLarge is u g at = absurd is
 
 none_after : (fault : ToolFault) → IsFrontFault fault → IsAfter (fault_end fault) Unread

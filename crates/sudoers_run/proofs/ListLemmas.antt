@@ -103,6 +103,7 @@ front_tells w root known tool.NoEnd is u g = tt
 front_tells w root known (tool.Layer fault) is u g = inl (subst IsOutside (sym is) tt)
 front_tells w root known tool.Write is u g = tt
 front_tells w root known tool.NoMark is u g = absurd is
+front_tells w root known (tool.BadBundle file) is u g = absurd is
 front_tells w root known tool.InputTooLarge is u g = absurd is
 
 -- If nothing is known of the files, a fault of reading says nothing.

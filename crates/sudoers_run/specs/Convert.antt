@@ -23,7 +23,8 @@ use Rattle.sudoers_run.specs.declared.fault.LayerFault.{LayerFault}
 use Rattle.sudoers_run.specs.declared.fault.LayerFault.TheVariants as layer
 use Rattle.sudoers_run.specs.declared.fault.ToolFault.{ToolFault}
 use Rattle.sudoers_run.specs.Faults.{IsPairFault, WriteOr}
-use Rattle.sudoers_run.specs.Policy.{IsOfFiles, IsUnloaded, TellsFiles, of_files}
+use Rattle.sudoers_edit.specs.files.Memory.{IsOfFiles}
+use Rattle.sudoers_run.specs.Policy.{IsUnloaded, TellsFiles, of_files}
 
 -- rules as the text of a policy, if it is within the limits; or as JSON, if all their texts are UTF-8
 abbrev pub converted : Form → Rules → Result (List ℕ) LayerFault
@@ -84,7 +85,6 @@ form_fault form.Json = NotUtf8
 -- the faults of a filter
 abbrev pub IsFilterFault : LayerFault → Type 0
 IsFilterFault (layer.Filter fault) = IsPairFault fault
-IsFilterFault (layer.Policy fault) = ⊥
 IsFilterFault (layer.Gather fault) = ⊥
 IsFilterFault (layer.Load fault) = ⊥
 IsFilterFault (layer.Convert fault) = ⊥
@@ -114,7 +114,6 @@ IsRulesFault words (layer.Gather fault) = ⊥
 IsRulesFault words layer.NoMemory = Unit {0}
 IsRulesFault words (layer.Convert fault) = IsConversionFault words fault
 IsRulesFault words (layer.Filter fault) = IsPairFault fault × (filter_in (filter_text words) ≡ Err (layer.Filter fault))
-IsRulesFault words (layer.Policy fault) = ⊥
 IsRulesFault words (layer.Script fault) = ⊥
 IsRulesFault words (layer.Edit place fault) = ⊥
 IsRulesFault words (layer.People fault) = ⊥

@@ -1,4 +1,4 @@
--- The text that is shown for a fault. `file` is the policy's name.
+-- The text that is shown for a fault.
 use Rattle.std.specs.Prelude.{ℕ, ◌+◌, List, ◌++◌, codes}
 use Rattle.std.specs.Fmt.{decimal}
 use Rattle.sudoers_text.specs.declared.fault.TextFault.{TextFault}
@@ -107,21 +107,21 @@ abbrev pub edit_name : ℕ → List ℕ → List ℕ
 edit_name place name = codes "edit " ++ decimal (place + 1) ++ codes ": " ++ name
 
 -- Want of memory has one text, wherever it was met.
-abbrev pub text_of_edit : ℕ → EditFault → List ℕ → List ℕ
-text_of_edit place edit.NoFile file = edit_name place (codes "NoFile")
-text_of_edit place edit.NoLine file = edit_name place (codes "NoLine")
-text_of_edit place edit.NotOneLine file = edit_name place (codes "NotOneLine")
-text_of_edit place edit.OpenLine file = edit_name place (codes "OpenLine")
-text_of_edit place edit.NoAlias file = edit_name place (codes "NoAlias")
-text_of_edit place edit.NoPlace file = edit_name place (codes "NoPlace")
-text_of_edit place edit.OnlyOne file = edit_name place (codes "OnlyOne")
-text_of_edit place edit.BadName file = edit_name place (codes "BadName")
-text_of_edit place edit.NameTaken file = edit_name place (codes "NameTaken")
-text_of_edit place edit.BadSplice file = edit_name place (codes "BadSplice")
-text_of_edit place edit.EndAsIs file = edit_name place (codes "EndAsIs")
-text_of_edit place edit.TooLarge file = edit_name place (codes "TooLarge")
-text_of_edit place (edit.NotPolicy fault) file = edit_name place (codes "NotPolicy: ") ++ text_of_read fault file
-text_of_edit place edit.NoMemory file = codes "NoMemory"
+abbrev pub text_of_edit : ℕ → EditFault → List ℕ
+text_of_edit place edit.NoFile = edit_name place (codes "NoFile")
+text_of_edit place edit.NoLine = edit_name place (codes "NoLine")
+text_of_edit place edit.NotOneLine = edit_name place (codes "NotOneLine")
+text_of_edit place edit.OpenLine = edit_name place (codes "OpenLine")
+text_of_edit place edit.NoAlias = edit_name place (codes "NoAlias")
+text_of_edit place edit.NoPlace = edit_name place (codes "NoPlace")
+text_of_edit place edit.OnlyOne = edit_name place (codes "OnlyOne")
+text_of_edit place edit.BadName = edit_name place (codes "BadName")
+text_of_edit place edit.NameTaken = edit_name place (codes "NameTaken")
+text_of_edit place edit.BadSplice = edit_name place (codes "BadSplice")
+text_of_edit place edit.EndAsIs = edit_name place (codes "EndAsIs")
+text_of_edit place edit.TooLarge = edit_name place (codes "TooLarge")
+text_of_edit place (edit.NotPolicy fault) = edit_name place (codes "NotPolicy: ") ++ text_of_load fault
+text_of_edit place edit.NoMemory = codes "NoMemory"
 
 abbrev pub cvt_name : CvtFault → List ℕ
 cvt_name cvt.Cycle = codes "Cycle"
@@ -156,23 +156,23 @@ ask_name ask.Cycle = codes "Cycle"
 ask_name ask.TooLong = codes "TooLong"
 ask_name ask.NoMemory = codes "NoMemory"
 
-abbrev pub text_of_layer : LayerFault → List ℕ → List ℕ
-text_of_layer (layer.Policy fault) file = text_of_read fault file
-text_of_layer (layer.Gather fault) file = gather_name fault
-text_of_layer (layer.Load fault) file = text_of_load fault
-text_of_layer (layer.Script fault) file = text_of_script fault
-text_of_layer (layer.Edit place fault) file = text_of_edit place fault file
-text_of_layer (layer.Convert fault) file = cvt_name fault
-text_of_layer (layer.Filter fault) file = filter_name fault
-text_of_layer (layer.People fault) file = text_of_people fault
-text_of_layer (layer.Who fault) file = who_name fault
-text_of_layer (layer.Ask fault) file = ask_name fault
-text_of_layer layer.NoMemory file = codes "NoMemory"
+abbrev pub text_of_layer : LayerFault → List ℕ
+text_of_layer (layer.Gather fault) = gather_name fault
+text_of_layer (layer.Load fault) = text_of_load fault
+text_of_layer (layer.Script fault) = text_of_script fault
+text_of_layer (layer.Edit place fault) = text_of_edit place fault
+text_of_layer (layer.Convert fault) = cvt_name fault
+text_of_layer (layer.Filter fault) = filter_name fault
+text_of_layer (layer.People fault) = text_of_people fault
+text_of_layer (layer.Who fault) = who_name fault
+text_of_layer (layer.Ask fault) = ask_name fault
+text_of_layer layer.NoMemory = codes "NoMemory"
 
-abbrev pub text_of_tool : ToolFault → List ℕ → List ℕ
-text_of_tool tool.Read file = codes "Read"
-text_of_tool tool.Write file = codes "Write"
-text_of_tool tool.NoEnd file = codes "NoEnd"
-text_of_tool (tool.Layer fault) file = text_of_layer fault file
-text_of_tool tool.NoMark file = codes "NoMark"
-text_of_tool tool.InputTooLarge file = codes "InputTooLarge"
+abbrev pub text_of_tool : ToolFault → List ℕ
+text_of_tool tool.Read = codes "Read"
+text_of_tool tool.Write = codes "Write"
+text_of_tool tool.NoEnd = codes "NoEnd"
+text_of_tool (tool.Layer fault) = text_of_layer fault
+text_of_tool tool.NoMark = codes "NoMark"
+text_of_tool (tool.BadBundle file) = codes "BadBundle"
+text_of_tool tool.InputTooLarge = codes "InputTooLarge"

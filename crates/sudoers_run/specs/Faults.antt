@@ -1,7 +1,7 @@
 -- What is said of the faults of a command.
 use Rattle.sudoers_edit.specs.declared.fault.EditFault.{EditFault}
 use Rattle.sudoers_edit.specs.declared.fault.EditFault.TheVariants as edit
-use Rattle.sudoers_edit.specs.Memory.{TellsMemoryAlone}
+use Rattle.sudoers_edit.specs.files.Memory.{TellsMemoryAlone}
 use Rattle.sudoers_cvt_rewrite.specs.declared.filter_text.FilterFault.{FilterFault}
 use Rattle.sudoers_cvt_rewrite.specs.declared.filter_text.FilterFault.TheVariants as filter
 use Rattle.sudoers_edit_script.specs.declared.script.ScriptFault.{ScriptFault}
@@ -23,6 +23,7 @@ DeviceOr P tool.Write = Unit {0}
 DeviceOr P tool.NoEnd = Unit {0}
 DeviceOr P (tool.Layer fault) = P fault
 DeviceOr P tool.NoMark = ⊥
+DeviceOr P (tool.BadBundle file) = ⊥
 DeviceOr P tool.InputTooLarge = ⊥
 
 -- Of a failed write nothing is asked, and of a fault of a layer this. No other faults come.
@@ -32,6 +33,7 @@ WriteOr P (tool.Layer fault) = P fault
 WriteOr P tool.Read = ⊥
 WriteOr P tool.NoEnd = ⊥
 WriteOr P tool.NoMark = ⊥
+WriteOr P (tool.BadBundle file) = ⊥
 WriteOr P tool.InputTooLarge = ⊥
 
 -- ---- Want of memory is the one fault `NoMemory`. No fault of a layer is it or holds it. For a policy `IsOfText` and `IsOfFiles` say so.

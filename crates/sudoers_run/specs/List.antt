@@ -24,7 +24,8 @@ use Rattle.sudoers_list_people.specs.declared.fault.WhoFault.{WhoFault}
 use Rattle.sudoers_list.specs.Listing.{IsListing}
 use Rattle.sudoers_list.specs.Reason.{IsReason}
 use Rattle.sudoers_run.specs.Device.{Meter}
-use Rattle.sudoers_run.specs.Policy.{IsOfFiles, IsOutside, IsUnloaded}
+use Rattle.sudoers_edit.specs.files.Memory.{IsOfFiles}
+use Rattle.sudoers_run.specs.Policy.{IsOutside, IsUnloaded}
 use Rattle.sudoers_run.specs.Reading.{Failed, GivenUp, IsAfter, IsTextOf, OutOfMemory, ReadingEnd, ReadsFile, TooLarge, Unread, WasRead, Whole}
 use Rattle.sudoers_run.specs.Faults.{DeviceOr, IsPeopleFault, IsQuestionFault, IsWhoFault}
 use Rattle.sudoers_run.specs.declared.words.ListWords.{ListWords}
@@ -167,7 +168,6 @@ IsAskFault (layer.People fault) = IsPeopleFault fault
 IsAskFault (layer.Who fault) = IsWhoFault fault
 IsAskFault (layer.Ask fault) = IsQuestionFault fault
 IsAskFault layer.NoMemory = Unit {0}
-IsAskFault (layer.Policy fault) = ⊥
 IsAskFault (layer.Gather fault) = ⊥
 IsAskFault (layer.Script fault) = ⊥
 IsAskFault (layer.Edit place fault) = ⊥

@@ -4,7 +4,6 @@ use Rattle.sudoers_tree.specs.declared.load.NamedFile.{NamedFile}
 use Rattle.sudoers_tree.specs.declared.load_fault.LoadFault.{LoadFault}
 use Rattle.sudoers_tree.specs.declared.load_fault.LoadFault.TheVariants as load
 use Rattle.sudoers_tree.specs.Load.{Loaded, load_of}
-use Rattle.sudoers_edit.specs.Memory.{IsOfText}
 use Rattle.sudoers_files.specs.declared.fault.FileFault.TheVariants as device
 use Rattle.sudoers_files.specs.declared.fault.GatherFault.{GatherFault}
 use Rattle.sudoers_files.specs.declared.fault.GatherFault.TheVariants as gather
@@ -43,12 +42,6 @@ IsOutside fault = ⊥
 -- the stated error, or one of a device or of memory
 abbrev pub TellsFiles : {A : Type 0} → LayerFault → Result A LayerFault → Type 0
 TellsFiles fault wanted = IsOutside fault ⊎ (wanted ≡ Err fault)
-
--- An error of loading that is not want of memory, and does not hold it.
-abbrev pub IsOfFiles : LoadFault → Type 0
-IsOfFiles load.NoMemory = ⊥
-IsOfFiles (load.InFile file fault) = IsOfText fault
-IsOfFiles fault = Unit {0}
 
 -- an error of gathering other than want of memory
 abbrev pub IsOfGathering : GatherFault → Type 0

@@ -86,6 +86,7 @@ IsFrontFault (tool.Layer fault) = fault ≡ layer.NoMemory
 IsFrontFault tool.InputTooLarge = ⊥
 IsFrontFault tool.Write = ⊥
 IsFrontFault tool.NoMark = ⊥
+IsFrontFault (tool.BadBundle file) = ⊥
 
 -- the errors of reading a whole input
 abbrev pub IsReadFault : ToolFault → Type 0

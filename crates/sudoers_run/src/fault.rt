@@ -1,21 +1,19 @@
 //! The faults of the program.
 
 use std::alloc::AllocError;
+use sudoers_bundle::BundleFault;
 use sudoers_cvt::CvtFault;
 use sudoers_cvt_rewrite::FilterFault;
 use sudoers_edit::{EditFault, ScriptFault};
 use sudoers_files::GatherFault;
 use sudoers_list_people::{PeopleFault, WhoFault};
 use sudoers_match_list::AskFault;
-use sudoers_tree::{LoadFault, ReadFault};
+use sudoers_tree::LoadFault;
 use thiserror::Error;
 
 /// A fault of a library. Want of memory is `NoMemory`, whichever library met it.
 #[derive(Debug, Drop, Error)]
 pub enum LayerFault {
-    /// The text is no policy.
-    #[error("{0}")]
-    Policy(ReadFault),
     /// The files of a policy cannot be gathered.
     #[error("{0}")]
     Gather(GatherFault),
@@ -63,26 +61,15 @@ pub enum ToolFault {
     /// A file, the script, an edit, the words or the result is at fault, or memory ran out.
     #[error("{0}")]
     Layer(LayerFault),
-    /// No line of the input is the mark.
+    /// No line of the input is the mark, and none begins a bundle.
     #[error("NoMark")]
     NoMark,
+    /// The file with this number of the bundle, from 1, has no right header, or fewer bytes than that says.
+    #[error("BadBundle")]
+    BadBundle { file: usize },
     /// The input passes its limit.
     #[error("InputTooLarge")]
     InputTooLarge,
-}
-
-impl From<ReadFault> for LayerFault {
-    ghost use Rattle.std.specs.Prelude.{◌≡◌};
-    ghost use Rattle.sudoers_run.specs.internal.LayerOf.{layer_of_read};
-
-    ghost from_gives = { λ fault e. e ≡ layer_of_read fault };
-
-    fn from(fault: ReadFault) -> LayerFault {
-        match fault {
-            ReadFault::NoMemory => LayerFault::NoMemory,
-            fault => LayerFault::Policy(fault),
-        }
-    }
 }
 
 impl From<GatherFault> for LayerFault {
@@ -243,5 +230,19 @@ impl From<AllocError> for ToolFault {
 
     fn from(_error: AllocError) -> ToolFault {
         ToolFault::Layer(LayerFault::NoMemory)
+    }
+}
+
+impl From<BundleFault> for ToolFault {
+    ghost use Rattle.std.specs.Prelude.{◌≡◌};
+    ghost use Rattle.sudoers_run.specs.internal.LayerOf.{tool_of_bundle};
+
+    ghost from_gives = { λ fault e. e ≡ tool_of_bundle fault };
+
+    fn from(fault: BundleFault) -> ToolFault {
+        match fault {
+            BundleFault::BadFile { file } => ToolFault::BadBundle { file },
+            BundleFault::NoMemory => ToolFault::Layer(LayerFault::NoMemory),
+        }
     }
 }

@@ -15,33 +15,33 @@ use sudoers_match_list::AskFault;
 use sudoers_text::{TextFault, append_number};
 use sudoers_tree::{LoadFault, ReadFault};
 
-/// Returns the text of the fault `fault`, without LF. `file` is the name of the policy in it.
+/// Returns the text of the fault `fault`, without LF.
 ///
 /// # Errors
 ///
 /// Want of memory alone.
-pub fn fault_text(alloc: Global, fault: &ToolFault, file: &[u8]) -> Result<Vec<u8>, AllocError>
-    ensures { IfOk result (λ text. text.items ≡ text_of_tool fault.now file.now) }
+pub fn fault_text(alloc: Global, fault: &ToolFault) -> Result<Vec<u8>, AllocError>
+    ensures { IfOk result (λ text. text.items ≡ text_of_tool fault.now) }
 {
     match fault {
         ToolFault::Read => Vec::from_slice(alloc, b"Read"),
         ToolFault::Write => Vec::from_slice(alloc, b"Write"),
         ToolFault::NoEnd => Vec::from_slice(alloc, b"NoEnd"),
         ToolFault::NoMark => Vec::from_slice(alloc, b"NoMark"),
+        ToolFault::BadBundle { .. } => Vec::from_slice(alloc, b"BadBundle"),
         ToolFault::InputTooLarge => Vec::from_slice(alloc, b"InputTooLarge"),
-        ToolFault::Layer(fault) => layer_text(alloc, fault, file),
+        ToolFault::Layer(fault) => layer_text(alloc, fault),
     }
 }
 
-fn layer_text(alloc: Global, fault: &LayerFault, file: &[u8]) -> Result<Vec<u8>, AllocError>
-    ensures { IfOk result (λ text. text.items ≡ text_of_layer fault.now file.now) }
+fn layer_text(alloc: Global, fault: &LayerFault) -> Result<Vec<u8>, AllocError>
+    ensures { IfOk result (λ text. text.items ≡ text_of_layer fault.now) }
 {
     match fault {
-        LayerFault::Policy(fault) => read_fault_text(alloc, fault, file),
         LayerFault::Gather(fault) => Vec::from_slice(alloc, gather_word(*fault)),
         LayerFault::Load(fault) => load_fault_text(alloc, fault),
         LayerFault::Script(fault) => script_fault_text(alloc, fault),
-        LayerFault::Edit(place, fault) => edit_fault_text(alloc, *place, fault, file),
+        LayerFault::Edit(place, fault) => edit_fault_text(alloc, *place, fault),
         LayerFault::Convert(fault) => Vec::from_slice(alloc, cvt_word(*fault)),
         LayerFault::Filter(fault) => Vec::from_slice(alloc, filter_word(*fault)),
         LayerFault::People(fault) => people_fault_text(alloc, fault),
@@ -290,9 +290,8 @@ fn edit_fault_text(
     alloc: Global,
     place: usize,
     fault: &EditFault,
-    file: &[u8],
 ) -> Result<Vec<u8>, AllocError>
-    ensures { IfOk result (λ text. text.items ≡ text_of_edit place fault.now file.now) }
+    ensures { IfOk result (λ text. text.items ≡ text_of_edit place fault.now) }
 {
     match fault {
         EditFault::NoMemory => Vec::from_slice(alloc, b"NoMemory"),
@@ -310,7 +309,7 @@ fn edit_fault_text(
         EditFault::TooLarge => at_edit(alloc, place, b"TooLarge"),
         EditFault::NotPolicy(fault) => {
             let mut text = at_edit(alloc, place, b"NotPolicy: ")?;
-            text.extend_from_slice(read_fault_text(alloc, fault, file)?.as_slice())?;
+            text.extend_from_slice(load_fault_text(alloc, fault)?.as_slice())?;
             Ok(text)
         }
     }

@@ -7,6 +7,7 @@ mod device;
 mod fault;
 mod fault_texts;
 mod form;
+mod given;
 mod input;
 mod list;
 mod loading;

@@ -1,29 +1,40 @@
 //! `edit`: applying a script to a policy.
-ghost use Rattle.std.specs.Prelude.{◌≡◌, ◌≢◌, ◌+◌, ◌<◌, ◌≤◌, ◌++◌, length, Ok, Err, IfOk, IfErr, IfSome, IsOkAnd, MatchResult, min, ◌-◌, ◌^◌};
+ghost use Rattle.std.specs.Prelude.{◌≡◌, ◌≢◌, ◌+◌, ◌<◌, ◌≤◌, ◌++◌, length, Ok, Err, IfOk, IfErr, IfSome, IsOkAnd, MatchResult, OnOk, ℕ, ◌⊎◌, min, ◌-◌, ◌^◌};
+ghost use Rattle.std.specs.List.{flat_map};
 ghost use Rattle.std.specs.Option.{option_map};
 ghost use Rattle.std.specs.Io.KnownBytes.{Keeps, Appends};
-ghost use Rattle.sudoers_tree.specs.Policy.{texts};
+ghost use Rattle.sudoers_tree.specs.Load.{one_file as the_one_file};
 ghost use Rattle.sudoers_edit.specs.Named.{AreNamed};
 ghost use Rattle.sudoers_run.specs.Device.{Writes, AppendsFront};
 ghost use Rattle.sudoers_run.specs.Reading.{ReadsFile, reading_end};
-ghost use Rattle.sudoers_run.specs.Program.{is_mark as is_mark_text, split_text, edit_output as output_of_edit, edited_output, output_of, output_text, input_limit, TellsLayer, TellsTool, IsAnswerFault, IsEditFault, IsInputFault};
+ghost use Rattle.sudoers_run.specs.Program.{files_given as the_files_given, given_back, is_header as is_header_line, is_mark as is_mark_text, split_text, edit_output as output_of_edit, edited_output, output_of, output_text, input_limit, TellsLayer, TellsTool, IsAnswerFault, IsEditFault, IsInputFault};
 
 use crate::device::{Sink, Source};
 use crate::fault::{LayerFault, ToolFault};
+use crate::given::Given;
 use crate::input::read_all;
+use crate::loading::load_found;
 use crate::output::write_all;
 use crate::undoing::{redo_up_to, undo_up_to};
-use std::alloc::Global;
+use std::alloc::{AllocError, Global};
+use sudoers_bundle::{append_bundle, read_bundle};
 use sudoers_edit::laws::named_are_written;
 use sudoers_edit::{Edit, Editor, Edits, first_line_len, read_script, write_script};
 use sudoers_edit_script::laws::physical_lines_join;
-use sudoers_tree::OneFile;
+use sudoers_text::ends_in_lf;
+use sudoers_tree::{Items, NamedFile, Policy};
 
 /// How many bytes `edit` reads at most.
 pub const INPUT_LIMIT: usize = 4_000_000;
 
-/// The line between the script and the policy.
+/// The line between the script and the text of one file.
 const MARK: &[u8] = b"%%\n";
+
+/// What the first line of a bundle begins with.
+const HEADER: &[u8] = b"%% ";
+
+/// The name of a file that is given alone.
+const ALONE: &[u8] = b"policy";
 
 /// Reads a script, the mark and a policy, makes the edits, takes back up to `undo` of them, the last first, and makes up to
 /// `redo` of these again. Writes the script that takes back the edits that then stand, the mark and the policy that they lead to.
@@ -67,16 +78,18 @@ fn answer(alloc: Global, input: &[u8], undo: u32, redo: u32) -> Result<Vec<u8>, 
     ensures ok { IfOk result (λ out. output_of undo redo input.now ≡ Ok out.items) }
     ensures fault { IfErr result (λ fault. TellsTool undo redo fault input.now × IsAnswerFault fault) }
 {
-    let Some((script, policy)) = split_mark(input) else {
+    let Some((script, form, text)) = split_input(input) else {
         return Err(ToolFault::NoMark);
     };
-    let out = edit_output(alloc, script, policy, undo, redo)?;
+    let files = files_given(alloc, form, text)?;
+    let out = edit_output(alloc, form, script, files.as_slice(), undo, redo)?;
     Ok(out)
 }
 
-/// Returns the script before the first line of `input` that is the mark, and the policy after it. Returns nothing if there is no mark.
-fn split_mark(input: &[u8]) -> Option<(&[u8], &[u8])>
-    ensures { option_map (λ parts. (parts.0.now, parts.1.now)) result ≡ split_text input.now }
+/// Returns the script before the first line of `input` that is the mark or a header, the form in which the policy is given, and its text.
+/// Returns nothing if there is no such line.
+fn split_input(input: &[u8]) -> Option<(&[u8], Given, &[u8])>
+    ensures { option_map (λ parts. (parts.0.now, parts.1, parts.2.now)) result ≡ split_text input.now }
 {
     physical_lines_join();
     let mut at = 0;
@@ -84,11 +97,45 @@ fn split_mark(input: &[u8]) -> Option<(&[u8], &[u8])>
         let rest = &input[at..];
         let (line, after) = rest.split_at(first_line_len(rest));
         if is_mark(line) {
-            return Some((&input[..at], after));
+            return Some((&input[..at], Given::Alone, after));
+        }
+        if is_header(line) {
+            return Some((&input[..at], Given::Bundle, rest));
         }
         at += line.len();
     }
     None
+}
+
+/// Returns whether the line `line` is the header of a file.
+fn is_header(line: &[u8]) -> bool
+    ensures { result ≡ is_header_line line.now }
+{
+    line.starts_with(HEADER) && ends_in_lf(line)
+}
+
+/// Returns the files that are given in the form `form` by the text `text`.
+fn files_given(alloc: Global, form: Given, text: &[u8]) -> Result<Vec<NamedFile>, ToolFault>
+    ensures ok { IfOk result (λ files. the_files_given form text.now ≡ Ok files.items) }
+    ensures fault { IfErr result (λ fault. (fault ≡ ToolFault.Layer LayerFault.NoMemory)
+        ⊎ ((file : ℕ) × (fault ≡ ToolFault.BadBundle file) × (the_files_given form text.now ≡ Err fault))) }
+{
+    match form {
+        Given::Alone => Ok(one_file(alloc, text)?),
+        Given::Bundle => Ok(read_bundle(alloc, text)?),
+    }
+}
+
+/// Returns the list of the file `policy`, which has the bytes `text`.
+fn one_file(alloc: Global, text: &[u8]) -> Result<Vec<NamedFile>, LayerFault>
+    ensures { MatchResult result (λ files. files.items ≡ the_one_file text.now) (λ fault. fault ≡ LayerFault.NoMemory) }
+{
+    let mut files = Vec::with_capacity(alloc, 1)?;
+    files.push(NamedFile {
+        name: Items::from_slice(alloc, ALONE)?,
+        bytes: Items::from_slice(alloc, text)?,
+    })?;
+    Ok(files)
 }
 
 /// Returns whether the line `line` is the mark.
@@ -101,37 +148,38 @@ fn is_mark(line: &[u8]) -> bool
     }
 }
 
-/// Returns the inverse script, the mark and the edited policy, for the script `script` and the policy `policy`, and for `undo` and
-/// `redo`.
+/// Returns the inverse script and the edited policy, for the script `script` and the files `files`, and for `undo` and `redo`.
 fn edit_output(
     alloc: Global,
+    form: Given,
     script: &[u8],
-    policy: &[u8],
+    files: &[NamedFile],
     undo: u32,
     redo: u32,
 ) -> Result<Vec<u8>, LayerFault>
-    ensures output { MatchResult result (λ out. output_of_edit undo redo script.now policy.now ≡ Ok out.items)
-        (λ fault. TellsLayer fault (output_of_edit undo redo script.now policy.now)) }
+    ensures output { MatchResult result (λ out. output_of_edit form undo redo script.now files.now ≡ Ok out.items)
+        (λ fault. TellsLayer fault (output_of_edit form undo redo script.now files.now)) }
     ensures named { IfErr result IsInputFault }
 {
     named_are_written();
     let edits = read_script(alloc, script)?;
-    let policy = OneFile::read(alloc, policy)?;
-    edited(alloc, edits.as_slice(), policy, undo, redo)
+    let policy = load_found(alloc, files)??;
+    edited(alloc, form, edits.as_slice(), policy, undo, redo)
 }
 
 /// Applies `edits` to `policy`, takes back up to `undo` of them, and makes up to `redo` of these again. Returns the inverse script of
-/// the edits that then stand, the mark and the edited policy.
+/// the edits that then stand, and the edited policy.
 fn edited(
     alloc: Global,
+    form: Given,
     edits: &[Edit],
-    policy: OneFile,
+    policy: Policy,
     undo: u32,
     redo: u32,
 ) -> Result<Vec<u8>, LayerFault>
     requires { AreNamed edits.now }
-    ensures output { MatchResult result (λ out. edited_output undo redo edits.now (texts policy) ≡ Ok out.items)
-        (λ fault. TellsLayer fault (edited_output undo redo edits.now (texts policy))) }
+    ensures output { MatchResult result (λ out. edited_output form undo redo edits.now policy ≡ Ok out.items)
+        (λ fault. TellsLayer fault (edited_output form undo redo edits.now policy)) }
     ensures named { IfErr result IsInputFault }
 {
     let mut editor = Editor::new(policy);
@@ -140,19 +188,52 @@ fn edited(
     redo_up_to(&mut editor, redo)?;
     let inverse = editor.inverse()?;
     named_are_written();
-    output(alloc, &inverse, editor.policy())
+    output(alloc, form, &inverse, editor.policy())
 }
 
-/// Returns the script of `inverse`, the mark and the text of `policy`.
-fn output(alloc: Global, inverse: &Edits, policy: &OneFile) -> Result<Vec<u8>, LayerFault>
+/// Returns the script of `inverse`, and the files of `policy` in the form `form`.
+fn output(
+    alloc: Global,
+    form: Given,
+    inverse: &Edits,
+    policy: &Policy,
+) -> Result<Vec<u8>, LayerFault>
     requires { AreNamed inverse.now }
-    ensures output { MatchResult result (λ out. output_text inverse.now (texts policy.now) ≡ Ok out.items)
-        (λ fault. TellsLayer fault (output_text inverse.now (texts policy.now))) }
+    ensures output { MatchResult result (λ out. output_text form inverse.now policy.now ≡ Ok out.items)
+        (λ fault. TellsLayer fault (output_text form inverse.now policy.now)) }
     ensures named { IfErr result IsInputFault }
 {
     named_are_written();
     let mut out = write_script(alloc, inverse.as_slice())?;
-    out.extend_from_slice(MARK)?;
-    out.extend_from_slice(policy.text()?.as_slice())?;
+    let files = policy.named_files()?;
+    append_given(alloc, &mut out, form, files.as_slice())?;
     Ok(out)
+}
+
+/// Appends the files `files` in the form `form`.
+fn append_given(
+    alloc: Global,
+    out: &mut Vec<u8>,
+    form: Given,
+    files: &[NamedFile],
+) -> Result<(), AllocError>
+    ensures { OnOk result (out.new.items ≡ out.old.items ++ given_back form files.now) }
+{
+    match form {
+        Given::Alone => {
+            out.extend_from_slice(MARK)?;
+            append_bytes(out, files)
+        }
+        Given::Bundle => append_bundle(alloc, out, files),
+    }
+}
+
+/// Appends the bytes of the files `files`.
+fn append_bytes(out: &mut Vec<u8>, files: &[NamedFile]) -> Result<(), AllocError>
+    ensures { OnOk result (out.new.items ≡ out.old.items ++ flat_map (λ file. file.bytes) files.now) }
+{
+    for file in files {
+        out.extend_from_slice(file.bytes.as_slice())?;
+    }
+    Ok(())
 }

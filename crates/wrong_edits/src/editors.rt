@@ -2,8 +2,9 @@
 
 ghost use Rattle.std.specs.Prelude.{◌≡◌, ◌<◌, [], length, take, Some, Ok, IfOk, IfErr, OnOk, OnErr, MatchResult, true, false};
 ghost use Rattle.sudoers_edit.specs.declared.fault.EditFault.TheVariants as EditFault;
-ghost use Rattle.sudoers_edit.specs.Editing.{first_of, run, run_all, step, Refuses, StopsAt};
-ghost use Rattle.sudoers_edit.specs.Undoing.{TakesLast};
+ghost use Rattle.sudoers_edit.specs.Editing.{Refuses};
+ghost use Rattle.sudoers_edit.specs.files.Editing.{first_of, run, run_all, step, StopsAt};
+ghost use Rattle.sudoers_edit.specs.files.Undoing.{TakesLast};
 
 use std::alloc::AllocError;
 use sudoers_edit::{Edit, EditFault, Editor, Edits};
@@ -14,8 +15,8 @@ use sudoers_edit::{Edit, EditFault, Editor, Edits};
 ///
 /// The first cause for which the edit is refused, or memory ran out.
 pub fn apply_edit(editor: &mut Editor, edit: &Edit) -> Result<(), EditFault>
-    ensures step { OnOk result (step edit.now editor.old.lines ≡ Ok editor.new.lines) }
-    ensures refused { IfErr result (λ fault. Refuses fault (step edit.now editor.old.lines)) }
+    ensures step { OnOk result (step edit.now editor.old.policy ≡ Ok editor.new.policy) }
+    ensures refused { IfErr result (λ fault. Refuses fault (step edit.now editor.old.policy)) }
 {
     editor.apply(edit)
 }
@@ -26,10 +27,10 @@ pub fn apply_edit(editor: &mut Editor, edit: &Edit) -> Result<(), EditFault>
 ///
 /// The place of the first edit that is refused, with the cause. The edits before it stay.
 pub fn apply_edits(editor: &mut Editor, edits: &[Edit]) -> Result<(), (usize, EditFault)>
-    ensures lines { MatchResult result (λ _. run edits.now editor.old.lines ≡ Some editor.new.lines)
-        (λ refused. run (take refused.0 edits.now) editor.old.lines ≡ Some editor.new.lines) }
-    ensures accepted { OnOk result (run_all 0 edits.now editor.old.lines ≡ Ok editor.new.lines) }
-    ensures refused { IfErr result (λ refused. StopsAt refused.0 refused.1 edits.now editor.old.lines) }
+    ensures policy { MatchResult result (λ _. run edits.now editor.old.policy ≡ Some editor.new.policy)
+        (λ refused. run (take refused.0 edits.now) editor.old.policy ≡ Some editor.new.policy) }
+    ensures accepted { OnOk result (run_all 0 edits.now editor.old.policy ≡ Ok editor.new.policy) }
+    ensures refused { IfErr result (λ refused. StopsAt refused.0 refused.1 edits.now editor.old.policy) }
     ensures place { IfErr result (λ refused. refused.0 < length edits.now) }
 {
     editor.apply_all(edits)
@@ -41,7 +42,7 @@ pub fn apply_edits(editor: &mut Editor, edits: &[Edit]) -> Result<(), (usize, Ed
 ///
 /// Memory ran out.
 pub fn edits_back(editor: &Editor) -> Result<Edits, AllocError>
-    ensures restores { IfOk result (λ edits. run edits editor.now.lines ≡ Some (first_of editor.now)) }
+    ensures restores { IfOk result (λ edits. run edits editor.now.policy ≡ Some (first_of editor.now)) }
 {
     editor.inverse()
 }

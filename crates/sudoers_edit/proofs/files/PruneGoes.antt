@@ -67,7 +67,7 @@ then_is r lines next policy is leads = rw is leads
 
 -- ---- one of some lines
 
-without_one : (front : List Line) (line : Line) (after : List Line) → remove (texts (front ++ line ∷ after)) (length front) ≡ texts (front ++ after)
+pub without_one : (front : List Line) (line : Line) (after : List Line) → remove (texts (front ++ line ∷ after)) (length front) ≡ texts (front ++ after)
 without_one [] line after = refl
 without_one (first ∷ front) line after = ap (λ (ls : Lines). first.text ∷ ls) (without_one front line after)
 
@@ -75,7 +75,7 @@ with_one : (front : List Line) (line : Line) (after : List Line) → insert (tex
 with_one [] line after = refl
 with_one (first ∷ front) line after = ap (λ (ls : Lines). first.text ∷ ls) (with_one front line after)
 
-other_one : (front : List Line) (line new : Line) (after : List Line)
+pub other_one : (front : List Line) (line new : Line) (after : List Line)
     → replaced (length front) new.text (texts (front ++ line ∷ after)) ≡ texts (front ++ new ∷ after)
 other_one [] line new after = refl
 other_one (first ∷ front) line new after = ap (λ (ls : Lines). first.text ∷ ls) (other_one front line new after)
@@ -89,13 +89,13 @@ count_front [] after = omega arith
 count_front (first ∷ front) after = omega (arith, count_front front after)
 
 -- The line of this number, and those before and behind it.
-record Split (lines : List Line) (n : ℕ) (line : Line) : Type 0 where
-  front : List Line
-  after : List Line
-  is : lines ≡ front ++ line ∷ after
-  place : length front ≡ n
+pub record Split (lines : List Line) (n : ℕ) (line : Line) : Type 0 where
+  pub front : List Line
+  pub after : List Line
+  pub is : lines ≡ front ++ line ∷ after
+  pub place : length front ≡ n
 
-split : (lines : List Line) (n : ℕ) (line : Line) → slice_get lines n ≡ Some line → Split lines n line
+pub split : (lines : List Line) (n : ℕ) (line : Line) → slice_get lines n ≡ Some line → Split lines n line
 split lines n line here =
     let c : Cut lines n = cut_at lines n (slice_get_within lines n line here) in
     let same : Some line ≡ Some c.one =

@@ -1,25 +1,19 @@
 -- Lines of the files of a policy are taken out or replaced: which lines have come of which.
-use Rattle.std.proofs.Common.{◌≡◌, ◌∙◌, ℕ, ◌+◌, ◌≤◌, ◌<◌, ◌==◌, ◌&&◌, Bool, true, false, List, [], ◌∷◌, ◌++◌, length, remove, Some, None, Ok, refl, sym, ap, ap₂, subst, arith, if◌then◌else◌}
+use Rattle.std.proofs.Common.{◌≡◌, ◌∙◌, ℕ, ◌+◌, ◌≤◌, ◌<◌, ◌==◌, ◌&&◌, Bool, true, false, List, [], ◌∷◌, ◌++◌, length, Some, None, Ok, refl, sym, ap, ap₂, subst, arith, if◌then◌else◌}
 use Rattle.std.proofs.lemmas.Bool.{and_parts, eq-eqb, eqb-true, eqb-false}
-use Rattle.std.proofs.lemmas.Option.{slice_get_within}
 use Rattle.std.specs.List.{AllByRecursion}
 use Rattle.std.specs.Prelude.{slice_get}
-use Rattle.sudoers_line_reader.specs.Outcome.{outcome_of}
-use Rattle.sudoers_line.specs.Line.{ReadsLine}
-use Rattle.sudoers_line.specs.Node.{Node}
 use Rattle.sudoers_tree.specs.declared.load.NamedFile.{NamedFile}
-use Rattle.sudoers_tree.specs.Changed.{replaced}
-use Rattle.sudoers_tree.specs.Files.{FileReading, fault_of, lines_of, name_of}
+use Rattle.sudoers_tree.specs.Files.{lines_of, name_of}
 use Rattle.sudoers_tree.specs.Lead.{lead_of}
 use Rattle.sudoers_tree.specs.Line.{Line}
 use Rattle.sudoers_tree.specs.Load.{Loaded, files_of, load_of}
-use Rattle.sudoers_tree.specs.Mapped.{AreMapped, IsMappedWalk, KeepsLead, KeepLeads, Mapping, file_names, mapped_at, mapped_from, nowhere, one}
+use Rattle.sudoers_tree.specs.Mapped.{KeepsLead, KeepLeads, Mapping, file_names, mapped_from, nowhere, one}
 use Rattle.sudoers_tree.specs.Policy.{SaysSo, texts}
-use Rattle.sudoers_tree.specs.Walk.{Walked, is_on, walk_of}
+use Rattle.sudoers_tree.specs.Walk.{is_on}
 use Rattle.sudoers_edit.specs.internal.FileDrafts.{IsOther}
+use Rattle.sudoers_edit.proofs.files.PruneGoes.{Split, split}
 use Rattle.sudoers_edit.proofs.files.PruneLists.{says_both, says_parts}
-use Rattle.sudoers_edit.proofs.Whole.{here_at}
-use Rattle.sudoers_edit.proofs.WithoutLine.{Cut, cut_at}
 
 -- ---- mappings
 
@@ -54,32 +48,6 @@ mapped_split g f n m [] line after kept place =
     ap (λ i. g f i line ++ mapped_from g f (i + 1) after) (let e : m ≡ n = omega (arith, place) in e)
 mapped_split g f n m (first ∷ front) line after kept place =
     ap₂ (λ (xs ys : List Line). xs ++ ys) (kept m first (omega (arith, place))) (mapped_split g f n (m + 1) front line after kept (omega (arith, place)))
-
--- ---- one line
-
--- The line of this number, and those before and behind it.
-pub record Split (lines : List Line) (n : ℕ) (line : Line) : Type 0 where
-  pub front : List Line
-  pub after : List Line
-  pub is : lines ≡ front ++ line ∷ after
-  pub place : length front ≡ n
-
-pub split : (lines : List Line) (n : ℕ) (line : Line) → slice_get lines n ≡ Some line → Split lines n line
-split lines n line here =
-    let c : Cut lines n = cut_at lines n (slice_get_within lines n line here) in
-    let same : Some line ≡ Some c.one =
-    sym here ∙ ap (λ ls. slice_get ls n) c.is ∙ ap (slice_get (c.front ++ c.one ∷ c.rest)) (sym c.place) ∙ here_at c.front c.one c.rest in
-    let one : c.one ≡ line = cc in
-    record { front = c.front; after = c.rest; is = c.is ∙ ap (λ (x : Line). c.front ++ x ∷ c.rest) one; place = c.place }
-
-pub without_one : (front : List Line) (line : Line) (after : List Line) → remove (texts (front ++ line ∷ after)) (length front) ≡ texts (front ++ after)
-without_one [] line after = refl
-without_one (first ∷ front) line after = ap (λ (ls : List (List ℕ)). first.text ∷ ls) (without_one front line after)
-
-pub other_one : (front : List Line) (line new : Line) (after : List Line)
-    → replaced (length front) new.text (texts (front ++ line ∷ after)) ≡ texts (front ++ new ∷ after)
-other_one [] line new after = refl
-other_one (first ∷ front) line new after = ap (λ (ls : List (List ℕ)). first.text ∷ ls) (other_one front line new after)
 
 -- ---- stages
 

@@ -1,7 +1,7 @@
 -- What comes of one removal, and of those of one line.
-use Rattle.std.proofs.Common.{◌≡◌, ◌∙◌, ℕ, ◌+◌, ◌≤◌, ◌<◌, Bool, true, false, not, List, [], ◌∷◌, ◌++◌, length, map, remove, reverse, Some, None, Result, Ok, Err, refl, sym, ap, ap₂, subst, arith, if◌then◌else◌, append_assoc}
+use Rattle.std.proofs.Common.{◌≡◌, ◌∙◌, ℕ, ◌+◌, ◌≤◌, Bool, true, false, not, List, [], ◌∷◌, ◌++◌, length, map, remove, reverse, Some, None, Result, Ok, Err, refl, sym, ap, ap₂, subst, arith, if◌then◌else◌, append_assoc}
 use Rattle.std.proofs.lemmas.List.{length-append, map-append, reverse-append}
-use Rattle.std.specs.List.{AllByRecursion, filter}
+use Rattle.std.specs.List.{filter}
 use Rattle.std.specs.Prelude.{slice_get}
 use Rattle.sudoers_line.specs.Node.{Def, Node}
 use Rattle.sudoers_line.specs.Node as node
@@ -27,12 +27,12 @@ use Rattle.sudoers_edit.specs.files.Landing.{and_then}
 use Rattle.sudoers_edit.specs.internal.FileDrafts.{CutDef, DefGoes, LineGoes}
 use Rattle.sudoers_edit.proofs.DropDef.{Less, less_of}
 use Rattle.sudoers_edit.proofs.Whole.{here_at}
-use Rattle.sudoers_edit.proofs.files.PruneGoes.{line_goes, says_of}
+use Rattle.sudoers_edit.proofs.files.PruneGoes.{Split, line_goes, other_one, says_of, split, without_one}
 use Rattle.sudoers_edit.proofs.files.PruneOut.{is_on_too}
 use Rattle.sudoers_edit.proofs.files.PrunePut.{FileLaws}
 use Rattle.sudoers_edit.proofs.files.PruneRefused.{Drops, drop_comes, gone, refused}
 use Rattle.sudoers_edit.proofs.files.PrunedAlike.{count_alike, defs_then, remove_alike, remove_there}
-use Rattle.sudoers_edit.proofs.files.PrunedStage.{AreKept, Split, Stage, TextsTell, lines_are, other_one, renewed, renewed_here, renewed_there, split, stage_more, without_one}
+use Rattle.sudoers_edit.proofs.files.PrunedStage.{AreKept, Stage, TextsTell, lines_are, renewed, renewed_here, renewed_there, stage_more}
 
 -- the policy is at a stage of which this holds, or the refusal is for a splice
 abbrev pub Comes : Loaded → (Mapping → Type 0) → Result Loaded EditFault → Type 0

@@ -1,5 +1,5 @@
 -- What a prune leaves of each line of the walk, and why it is refused.
-use Rattle.std.proofs.Common.{◌≡◌, ◌∙◌, ℕ, ◌+◌, ◌≤◌, ◌<◌, ◌==◌, Bool, true, false, not, List, [], ◌∷◌, ◌++◌, length, map, reverse, slice_index_or, Some, None, Result, Ok, Err, refl, sym, ap, ap₂, subst, arith, if◌then◌else◌, append_assoc}
+use Rattle.std.proofs.Common.{◌≡◌, ◌∙◌, ℕ, ◌+◌, ◌≤◌, ◌<◌, ◌==◌, Bool, true, false, not, List, [], ◌∷◌, ◌++◌, length, map, reverse, slice_index_or, Some, Ok, Err, refl, sym, ap, ap₂, subst, arith, if◌then◌else◌, append_assoc}
 use Rattle.std.proofs.lemmas.Bool.{eqb-false, eqb-true}
 use Rattle.std.proofs.lemmas.List.{length-append, length-map}
 use Rattle.std.specs.List.{AllByRecursion, filter}
@@ -9,8 +9,7 @@ use Rattle.sudoers_line.specs.Node as node
 use Rattle.sudoers_line.specs.declared.node.Kind.{Kind}
 use Rattle.sudoers_tree.specs.declared.place.Spot.{Spot}
 use Rattle.sudoers_tree.specs.Definition.{Definition, definitions_from, definitions_in}
-use Rattle.sudoers_tree.specs.Files.{FileReading, fault_of, lines_of}
-use Rattle.sudoers_tree.specs.Lead.{lead_of}
+use Rattle.sudoers_tree.specs.Files.{FileReading, lines_of}
 use Rattle.sudoers_tree.specs.Line.{Line}
 use Rattle.sudoers_tree.specs.Load.{Loaded, StandAt, files_of, load_of}
 use Rattle.sudoers_tree.specs.Mapped.{AreMapped, IsMappedWalk, Mapping, mapped_at}
@@ -28,12 +27,11 @@ use Rattle.sudoers_edit.specs.files.Pruning.{removals, removals_of, removals_sin
 use Rattle.sudoers_edit.proofs.files.PruneFalls.{all_parts, at_is}
 use Rattle.sudoers_edit.proofs.files.PruneGoes.{alias_leads}
 use Rattle.sudoers_edit.proofs.files.PruneLists.{no_faults}
-use Rattle.sudoers_edit.proofs.files.PrunePlaces.{from_length}
 use Rattle.sudoers_edit.proofs.files.PrunePut.{FileLaws}
 use Rattle.sudoers_edit.proofs.files.PruneWalk.{Ascend, IsBefore, IsOrdered, walk_ordered}
 use Rattle.sudoers_edit.proofs.files.PrunedAlike.{defs_self}
 use Rattle.sudoers_edit.proofs.files.PrunedStage.{AreKept, Stage, TextsTell, first_stage, same_line}
-use Rattle.sudoers_edit.proofs.files.PrunedSteps.{Comes, Has, Lessened, SameElse, Subject, all_then, comes_then, comes_weaker, defs_come, line_comes}
+use Rattle.sudoers_edit.proofs.files.PrunedSteps.{Comes, Lessened, SameElse, Subject, all_then, comes_then, comes_weaker, defs_come, line_comes}
 
 -- ---- one line
 

@@ -132,6 +132,11 @@ inv_run (edit ∷ edits) policy = inv_run edits (after edit policy) ++ inv edit 
 abbrev pub prune_list : Loaded → List Edit
 prune_list policy = map edit_of (removals policy.walk)
 
+-- the outcome of a run, but for the place of a refusal
+abbrev pub without_place : Result Loaded (ℕ × EditFault) → Result Loaded EditFault
+without_place (Ok policy) = Ok policy
+without_place (Err refused) = Err refused.1
+
 -- THE EDITOR
 
 -- The entries, the newest first, are undone in turn from the present policy on: each inverse is defined there, and leads to the policy

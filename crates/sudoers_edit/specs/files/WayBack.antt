@@ -1,5 +1,5 @@
 -- Where edits of a policy lead, and where what takes them back leads.
-use Rattle.std.specs.Prelude.{◌≡◌, ℕ, ◌+◌, List, [], ◌∷◌, length, Ok}
+use Rattle.std.specs.Prelude.{◌≡◌, ℕ, ◌+◌, List, [], ◌∷◌, length, map, Ok}
 use Rattle.sudoers_tree.specs.Load.{Loaded, files_of, load_of}
 use Rattle.sudoers_tree.specs.declared.load.NamedFile.{NamedFile}
 use Rattle.sudoers_edit_script.specs.Script.{AreNumbered}
@@ -17,3 +17,7 @@ pub record IsTakenBack (edits : List Edit) (policy new : Loaded) : Type 0 where
 abbrev pub bytes_in : List NamedFile → ℕ
 bytes_in [] = 0
 bytes_in (file ∷ files) = length file.bytes + bytes_in files
+
+-- the names of files
+abbrev pub names_in : List NamedFile → List (List ℕ)
+names_in files = map (λ (file : NamedFile). file.name) files

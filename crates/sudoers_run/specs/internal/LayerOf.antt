@@ -3,10 +3,10 @@ use Rattle.std.specs.Prelude.{Result, Ok, Err}
 use Rattle.sudoers_run.specs.declared.fault.ToolFault.{ToolFault}
 use Rattle.sudoers_run.specs.declared.fault.ToolFault.TheVariants as tool
 use Rattle.std.specs.Prelude.{ℕ}
-use Rattle.sudoers_tree.specs.declared.fault.ReadFault.{ReadFault}
-use Rattle.sudoers_tree.specs.declared.fault.ReadFault.TheVariants as read
 use Rattle.sudoers_tree.specs.declared.load_fault.LoadFault.{LoadFault}
 use Rattle.sudoers_tree.specs.declared.load_fault.LoadFault.TheVariants as load
+use Rattle.sudoers_bundle.specs.declared.fault.BundleFault.{BundleFault}
+use Rattle.sudoers_bundle.specs.declared.fault.BundleFault.TheVariants as bundle
 use Rattle.sudoers_files.specs.declared.fault.GatherFault.{GatherFault}
 use Rattle.sudoers_files.specs.declared.fault.GatherFault.TheVariants as gather
 use Rattle.sudoers_edit.specs.declared.fault.EditFault.{EditFault}
@@ -30,17 +30,6 @@ use Rattle.sudoers_run.specs.declared.fault.LayerFault.TheVariants as layer
 abbrev pub by_layer : {A : Type 0} → Result A LayerFault → Result A ToolFault
 by_layer (Ok x) = Ok x
 by_layer (Err fault) = Err (tool.Layer fault)
-
-abbrev pub layer_of_read : ReadFault → LayerFault
-layer_of_read (read.Text fault) = layer.Policy (read.Text fault)
-layer_of_read (read.Syntax line col why) = layer.Policy (read.Syntax line col why)
-layer_of_read (read.Reserved kind name) = layer.Policy (read.Reserved kind name)
-layer_of_read (read.Duplicate kind name) = layer.Policy (read.Duplicate kind name)
-layer_of_read (read.TooMany kind) = layer.Policy (read.TooMany kind)
-layer_of_read (read.NotLoaded line name) = layer.Policy (read.NotLoaded line name)
-layer_of_read (read.Twice line name) = layer.Policy (read.Twice line name)
-layer_of_read (read.TooDeep line) = layer.Policy (read.TooDeep line)
-layer_of_read read.NoMemory = layer.NoMemory
 
 abbrev pub layer_of_gather : GatherFault → LayerFault
 layer_of_gather gather.NoRoot = layer.Gather gather.NoRoot
@@ -104,3 +93,7 @@ abbrev pub layer_of_ask : AskFault → LayerFault
 layer_of_ask ask.Cycle = layer.Ask ask.Cycle
 layer_of_ask ask.TooLong = layer.Ask ask.TooLong
 layer_of_ask ask.NoMemory = layer.NoMemory
+
+abbrev pub tool_of_bundle : BundleFault → ToolFault
+tool_of_bundle (bundle.BadFile file) = tool.BadBundle file
+tool_of_bundle bundle.NoMemory = tool.Layer layer.NoMemory

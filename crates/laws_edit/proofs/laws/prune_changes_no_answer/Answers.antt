@@ -1,43 +1,33 @@
-use Rattle.sudoers_tree.specs.Line.{Line}
-use Rattle.sudoers_tree.specs.Policy.{texts}
-use Rattle.sudoers_tree.specs.Reading.{read_of}
-use Rattle.sudoers_text.specs.Line.{join}
-use Rattle.std.proofs.Common.{◌≡◌, ℕ, List, Ok}
+use Rattle.std.proofs.Common.{◌≡◌, [], ◌∷◌, ap, Ok}
+use Rattle.sudoers_tree.specs.Load.{Loaded, files_of, load_of}
 use Rattle.sudoers_edit_script.specs.declared.edit.Edit.TheVariants.{Prune}
-use Rattle.sudoers_edit.specs.Editing.{step}
+use Rattle.sudoers_edit.specs.files.Editing.{run_all, step, then_or}
+use Rattle.sudoers_match.specs.Beside.{KeepsReachable}
 use Rattle.laws_edit.proofs.LeftDefinitions.{left_keeps}
-use Rattle.laws_edit.proofs.PruneSplice.{Pruned, prune_leaves}
+use Rattle.laws_edit.proofs.PrunedLines.{pruned_left}
 use Rattle.laws_edit.proofs.laws.prune_changes_no_answer.Goals as goal
 
 -- what a prune leaves
-pruned : (c : goal.After-unreachable_definitions_change_no_answer) → (policy next : List Line) (new : List (List ℕ)) → read_of (join (texts policy)) ≡ Ok policy
-    → step Prune (texts policy) ≡ Ok new → read_of (join new) ≡ Ok next → Pruned policy next
-pruned c = prune_leaves (record {
-  cuts = c.cut_is.ensures;
-  joined = c.lines_of_join.ensures;
-  alone = c.lines_stand_alone.ensures;
-  size = c.line_alone_size.ensures;
-  whole = c.line_alone_is_whole.ensures.alone;
-  outcome = c.outcome_is.ensures;
-  ascend = c.definitions_ascend.ensures;
-  reads = c.read_is.ensures;
-  one = c.one_outcome.ensures;
-  policy_cut = c.policy_is_cut.ensures;
-}) c.chains_are.ensures.unused c.chains_are.ensures.used
+keeps : (c : goal.After-unreachable_definitions_change_no_answer) → (policy new : Loaded) → load_of (files_of policy) ≡ Ok policy → step Prune policy ≡ Ok new
+    → KeepsReachable policy.walk.lines new.walk.lines
+keeps c policy new loaded is =
+    left_keeps policy.walk.lines new.walk.lines
+    (pruned_left policy.walk.lines c.chains_are.ensures.unused c.chains_are.ensures.used new.walk.lines (c.prune_leaves_the_used.ensures policy new loaded is)).left
 
 pub returns-clause-answer : goal.returns-clause-answer
-returns-clause-answer c policy next new read is reads =
-    c.unreachable_definitions_change_no_answer.ensures.answer policy next (left_keeps policy next (pruned c policy next new read is reads).left)
+returns-clause-answer c policy new loaded is =
+    c.unreachable_definitions_change_no_answer.ensures.answer policy.walk.lines new.walk.lines (keeps c policy new loaded is)
 
 pub returns-clause-default : goal.returns-clause-default
-returns-clause-default c policy next new read is reads =
-    c.unreachable_definitions_change_no_answer.ensures.default policy next (left_keeps policy next (pruned c policy next new read is reads).left)
+returns-clause-default c policy new loaded is =
+    c.unreachable_definitions_change_no_answer.ensures.default policy.walk.lines new.walk.lines (keeps c policy new loaded is)
 
 pub returns-clause-groups : goal.returns-clause-groups
-returns-clause-groups c policy next new read is reads =
-    c.unreachable_definitions_change_no_answer.ensures.groups policy next (left_keeps policy next (pruned c policy next new read is reads).left)
+returns-clause-groups c policy new loaded is =
+    c.unreachable_definitions_change_no_answer.ensures.groups policy.walk.lines new.walk.lines (keeps c policy new loaded is)
 
 pub returns-clause-cycle : goal.returns-clause-cycle
-returns-clause-cycle c policy next new read is reads =
-    let is_pruned = pruned c policy next new read is reads in
-    c.unreachable_definitions_change_no_answer.ensures.cycle policy next (left_keeps policy next is_pruned.left) is_pruned.was.walk is_pruned.whole.walk
+returns-clause-cycle c policy new loaded is =
+    c.unreachable_definitions_change_no_answer.ensures.cycle policy.walk.lines new.walk.lines (keeps c policy new loaded is)
+    (c.loaded_is_walk.ensures (files_of policy) policy loaded)
+    (c.loaded_is_walk.ensures (files_of new) new (c.inverse_leads_back.ensures.back (Prune ∷ []) policy new loaded (ap (then_or (run_all 1 []) 0) is)).loaded)

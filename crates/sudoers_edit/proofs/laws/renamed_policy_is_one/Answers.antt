@@ -1,6 +1,6 @@
 use Rattle.sudoers_edit.proofs.files.RenameOutcomes.{renamed_is_one}
 use Rattle.sudoers_edit.proofs.files.RenameSizes.{Loads, SizeLaws}
-use Rattle.sudoers_edit.proofs.renaming.renamed_policy_is_one.Goals as goal
+use Rattle.sudoers_edit.proofs.laws.renamed_policy_is_one.Goals as goal
 
 laws : goal.After-renamed_line → SizeLaws
 laws c = record {

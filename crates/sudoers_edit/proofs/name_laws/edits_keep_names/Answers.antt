@@ -1,0 +1,5 @@
+use Rattle.sudoers_edit.proofs.files.NameLemmas.{run_named}
+use Rattle.sudoers_edit.proofs.name_laws.edits_keep_names.Goals as goal
+
+pub returns : goal.returns
+returns c = run_named c.loaded_files_are.ensures.bytes 0
