@@ -5,7 +5,7 @@ use laws_edit::answer_of;
 use std::alloc::{AllocError, Global};
 use sudoers_edit::{Edit, Editor, read_script};
 use sudoers_match::Request;
-use sudoers_tree::{OneFile, ReadFault};
+use sudoers_tree::{LoadFault, Policy};
 
 /// Adds what the policy `text` answers to `request` after the edits of `script`; `no policy` or `no script` if it is none, `refused` if
 /// an edit is.
@@ -16,9 +16,9 @@ pub fn push_edited(
     request: &Request,
     answers: &mut String,
 ) -> Result<(), AllocError> {
-    match OneFile::read(alloc, text) {
+    match Policy::read(alloc, text) {
         Ok(policy) => push_of_policy(alloc, policy, script, request, answers),
-        Err(ReadFault::NoMemory) => Err(AllocError),
+        Err(LoadFault::NoMemory) => Err(AllocError),
         Err(_) => answers.push_str("no policy"),
     }
 }
@@ -26,7 +26,7 @@ pub fn push_edited(
 /// Adds what `policy` answers to `request` after the edits of `script`; `no script` if it is none, `refused` if an edit is.
 fn push_of_policy(
     alloc: Global,
-    policy: OneFile,
+    policy: Policy,
     script: &[u8],
     request: &Request,
     answers: &mut String,

@@ -1,14 +1,26 @@
--- The first mark of a text that was written stands behind its script.
-use Rattle.laws_program.proofs.Common.{◌≡◌, ◌≢◌, ◌∙◌, ℕ, false, ◌==◌, List, [], ◌∷◌, ◌++◌, slice_index, Some, refl, ap, ap₂, append_assoc, AllByRecursion, join}
+-- The policy of a text that was written stands behind its script.
+use Rattle.laws_program.proofs.Common.{◌≡◌, ◌≢◌, ◌∙◌, ◌+◌, ℕ, zero, suc, Bool, true, false, ◌==◌, ◌&&◌, List, [], ◌∷◌, ◌++◌, slice_index, Option, Some, None, refl, sym, ap, ap₂, append_assoc, AllByRecursion, join, bytes_eq, codes, list_any, if◌then◌else◌}
 use Rattle.laws_program.proofs.Common.{physical_lines, split_text}
-use Rattle.std.proofs.Common.{ne_eqb}
+use Rattle.std.proofs.Common.{length, ne_eqb, take, eqb-true, ◌<◌, ◌^◌, arith}
+use Rattle.std.proofs.lemmas.Bool.{or_parts, eq-eqb}
+use Rattle.std.proofs.lemmas.Slice.Eq.{bytes_eq-Decides}
+use Rattle.std.specs.Fmt.{decimal}
 use Rattle.std.specs.Option.{option_map}
-use Rattle.sudoers_run.specs.Program.{is_mark, split_lines}
+use Rattle.std.specs.Prelude.{◌≤◌}
+use Rattle.sudoers_text.specs.Ended.{ends_in_lf}
+use Rattle.sudoers_tree.specs.declared.load.NamedFile.{NamedFile}
+use Rattle.sudoers_bundle.specs.Bundle.{CanBeHeld, bundle, header}
+use Rattle.sudoers_bundle.proofs.NumberLemmas.{decimal_lacks}
+use Rattle.sudoers_bundle.proofs.PartLemmas.{lacks_both}
+use Rattle.sudoers_edit_script.specs.Physical.{onto}
+use Rattle.sudoers_run.specs.Program.{is_header, is_mark, split_lines}
+use Rattle.sudoers_run.specs.declared.given.Given.{Given}
+use Rattle.sudoers_run.specs.declared.given.Given.TheVariants as given
 
 abbrev pub IsPlain : List ℕ → Type 0
 IsPlain line = slice_index line 0 ≢ 37
 
--- a line that does not begin with `%` is no mark
+-- a line that does not begin with `%` is no mark, and no header
 no_mark : (line : List ℕ) → IsPlain line → is_mark line ≡ false
 no_mark [] plain = refl
 no_mark (a ∷ []) plain = refl
@@ -16,22 +28,105 @@ no_mark (a ∷ b ∷ []) plain = refl
 no_mark (a ∷ b ∷ c ∷ []) plain = let other : (a == 37) ≡ false = ne_eqb a 37 plain in rw other refl
 no_mark (a ∷ b ∷ c ∷ d ∷ line) plain = refl
 
+and_false : (a b : Bool) → a ≡ false → (a && b) ≡ false
+and_false true b is = absurd cc
+and_false false b is = refl
+
+first_differs : (line : List ℕ) → IsPlain line → take 3 line ≡ codes "%% " → ⊥
+first_differs [] plain is = absurd cc
+first_differs (a ∷ line) plain is = plain (ap (λ (l : List ℕ). slice_index l 0) is)
+
+no_header : (line : List ℕ) → IsPlain line → is_header line ≡ false
+no_header line plain = and_false (bytes_eq (take 3 line) (codes "%% ")) (ends_in_lf line) (by (bytes_eq (take 3 line) (codes "%% ")) refl)
+  where
+    by : (b : Bool) → bytes_eq (take 3 line) (codes "%% ") ≡ b → b ≡ false
+    by true is = absurd (first_differs line plain ((bytes_eq-Decides (take 3 line) (codes "%% ")).0 is))
+    by false is = refl
+
 abbrev pub mark : List ℕ
 mark = 37 ∷ 37 ∷ 10 ∷ []
 
--- the first mark behind lines that are none
-first_mark : (ls ks : List (List ℕ)) → AllByRecursion IsPlain ls → split_lines (ls ++ mark ∷ ks) ≡ Some (ls, ks)
-first_mark [] ks plain = refl
-first_mark (l ∷ ls) ks plain =
-    rw (no_mark l plain.0) (ap (option_map {U = List (List ℕ) × List (List ℕ)} (λ (parts : List (List ℕ) × List (List ℕ)). (l ∷ parts.0, parts.1))) (first_mark ls ks plain.1))
+abbrev Parts : Type 0
+Parts = List (List ℕ) × Given × List (List ℕ)
 
--- the mark behind a text that is lines of its own, whatever follows it
+-- the lines that split is told of behind lines that are neither
+first_told : (ls rest : List (List ℕ)) (told : Given) (ks : List (List ℕ)) → AllByRecursion IsPlain ls → split_lines rest ≡ Some ([], told, ks)
+    → split_lines (ls ++ rest) ≡ Some (ls, told, ks)
+first_told [] rest told ks plain is = is
+first_told (l ∷ ls) rest told ks plain is =
+    rw (no_mark l plain.0, no_header l plain.0)
+    (ap (option_map {U = Parts} (λ (parts : Parts). (l ∷ parts.0, parts.1, parts.2))) (first_told ls rest told ks plain.1 is))
+
+-- what follows a script that is lines of its own
+split_behind : ((text : List ℕ) → join (physical_lines text) ≡ text) → (script rest policy : List ℕ) (told : Given) (ks : List (List ℕ))
+    → ((rest : List ℕ) → physical_lines (script ++ rest) ≡ physical_lines script ++ physical_lines rest)
+    → AllByRecursion IsPlain (physical_lines script) → split_lines (physical_lines rest) ≡ Some ([], told, ks) → join ks ≡ policy
+    → split_text (script ++ rest) ≡ Some (script, told, policy)
+split_behind pieces script rest policy told ks before plain is whole =
+    let cut : split_lines (physical_lines (script ++ rest)) ≡ Some (physical_lines script, told, ks) =
+        ap split_lines (before rest) ∙ first_told (physical_lines script) (physical_lines rest) told ks plain is in
+    ap (option_map {U = List ℕ × Given × List ℕ} (λ (parts : Parts). (join parts.0, parts.1, join parts.2))) cut
+    ∙ ap₂ (λ (x y : List ℕ). Some (x, told, y)) (pieces script) whole
+
+-- the mark behind it
 pub split_at_mark : ((text : List ℕ) → join (physical_lines text) ≡ text) → (script policy : List ℕ)
     → ((rest : List ℕ) → physical_lines (script ++ rest) ≡ physical_lines script ++ physical_lines rest)
-    → AllByRecursion IsPlain (physical_lines script) → split_text (script ++ mark ++ policy) ≡ Some (script, policy)
+    → AllByRecursion IsPlain (physical_lines script) → split_text (script ++ 37 ∷ 37 ∷ 10 ∷ policy) ≡ Some (script, given.Alone, policy)
 split_at_mark pieces script policy before plain =
-    let cut : split_lines (physical_lines (script ++ mark ++ policy)) ≡ Some (physical_lines script, physical_lines policy) =
-    ap (λ (z : List ℕ). split_lines (physical_lines z)) (append_assoc script mark policy)
-    ∙ ap split_lines (before (mark ++ policy)) ∙ first_mark (physical_lines script) (physical_lines policy) plain in
-    ap (option_map {U = List ℕ × List ℕ} (λ (parts : List (List ℕ) × List (List ℕ)). (join parts.0, join parts.1))) cut
-    ∙ ap₂ (λ (x y : List ℕ). Some (x, y)) (pieces script) (pieces policy)
+    split_behind pieces script (37 ∷ 37 ∷ 10 ∷ policy) policy given.Alone (physical_lines policy) before plain refl (pieces policy)
+
+-- HEADERS
+
+-- a line without LF, and one behind it
+pub first_line : (front rest : List ℕ) → list_any (λ b. b == 10) front ≡ false → physical_lines (front ++ 10 ∷ rest) ≡ (front ++ 10 ∷ []) ∷ physical_lines rest
+first_line [] rest lacks = refl
+first_line (b ∷ front) rest lacks =
+    let both = or_parts (b == 10) (list_any (λ c. c == 10) front) lacks in
+    rw both.0 (ap (onto b) (first_line front rest both.1))
+
+ends : (front : List ℕ) → ends_in_lf (front ++ 10 ∷ []) ≡ true
+ends [] = refl
+ends (b ∷ []) = refl
+ends (b ∷ c ∷ front) = ends (c ∷ front)
+
+no_short_mark : (rest : List ℕ) → is_mark (37 ∷ 37 ∷ 32 ∷ rest) ≡ false
+no_short_mark [] = refl
+no_short_mark (b ∷ rest) = refl
+
+-- a bundle behind it
+pub split_at_bundle : ((text : List ℕ) → join (physical_lines text) ≡ text) → (script : List ℕ) (file : NamedFile) (files : List NamedFile) → CanBeHeld file
+    → ((rest : List ℕ) → physical_lines (script ++ rest) ≡ physical_lines script ++ physical_lines rest)
+    → AllByRecursion IsPlain (physical_lines script) → split_text (script ++ bundle (file ∷ files)) ≡ Some (script, given.Bundle, bundle (file ∷ files))
+split_at_bundle pieces script file files held before plain =
+    split_behind pieces script (bundle (file ∷ files)) (bundle (file ∷ files)) given.Bundle (physical_lines (bundle (file ∷ files))) before plain
+    (ap split_lines lines ∙ told ∙ ap (λ (ks : List (List ℕ)). Some ([], given.Bundle, ks)) (sym lines)) (pieces (bundle (file ∷ files)))
+  where
+    n : ℕ
+    n = length file.bytes
+
+    behind : List ℕ
+    behind = decimal n ++ 32 ∷ file.name
+
+    small : n < 2 ^ 64
+    small = omega (arith, held.short)
+
+    front : List ℕ
+    front = codes "%% " ++ behind
+
+    lacks : list_any (λ b. b == 10) front ≡ false
+    lacks = lacks_both 10 (decimal n) (32 ∷ file.name) (decimal_lacks 10 n (omega arith) small) held.line
+
+    whole : bundle (file ∷ files) ≡ front ++ 10 ∷ (file.bytes ++ bundle files)
+    whole =
+        append_assoc (header file) file.bytes (bundle files)
+        ∙ ap (λ (t : List ℕ). codes "%% " ++ t)
+          (append_assoc (decimal n) (32 ∷ (file.name ++ 10 ∷ [])) (file.bytes ++ bundle files)
+          ∙ ap (λ (t : List ℕ). decimal n ++ 32 ∷ t) (append_assoc file.name (10 ∷ []) (file.bytes ++ bundle files))
+          ∙ sym (append_assoc (decimal n) (32 ∷ file.name) (10 ∷ (file.bytes ++ bundle files))))
+
+    lines : physical_lines (bundle (file ∷ files)) ≡ (front ++ 10 ∷ []) ∷ physical_lines (file.bytes ++ bundle files)
+    lines = ap physical_lines whole ∙ first_line front (file.bytes ++ bundle files) lacks
+
+    told : split_lines ((front ++ 10 ∷ []) ∷ physical_lines (file.bytes ++ bundle files))
+        ≡ Some ([], given.Bundle, (front ++ 10 ∷ []) ∷ physical_lines (file.bytes ++ bundle files))
+    told = rw (no_short_mark (behind ++ 10 ∷ []), ends front) refl

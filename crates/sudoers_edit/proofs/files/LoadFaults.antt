@@ -7,11 +7,9 @@ use Rattle.sudoers_text.specs.Fault.{line_limit, lf_count, text_limit}
 use Rattle.sudoers_text.specs.Word.{is_reserved}
 use Rattle.sudoers_text.specs.declared.fault.TextFault.{TextFault}
 use Rattle.sudoers_text.specs.declared.fault.TextFault.TheVariants as text
-use Rattle.sudoers_line.specs.Node.{Node}
 use Rattle.sudoers_tree.specs.Definition.{Definition, defined, definitions, definitions_in}
 use Rattle.sudoers_tree.specs.Fault.{is_some, name_fault, syntax_fault}
-use Rattle.sudoers_tree.specs.Files.{FileReading, fault_of, lines_of as file_lines_of, name_of, reading_of}
-use Rattle.sudoers_tree.specs.Lead.{lead_of}
+use Rattle.sudoers_tree.specs.Files.{FileReading, fault_of, lines_of as file_lines_of, name_of}
 use Rattle.sudoers_tree.specs.Line.{Line}
 use Rattle.sudoers_tree.specs.Load.{Loaded, cut_file, fault_off, file_limit, first_repeated, first_reserved, load_of, loaded_over, readings, reserved_in, unless_off, unless_same, walked_over}
 use Rattle.sudoers_tree.specs.Policy.{alias_limit, count_of}
@@ -24,7 +22,7 @@ use Rattle.sudoers_tree.specs.declared.fault.SyntaxFault.{SyntaxFault}
 use Rattle.sudoers_tree.specs.declared.lead.Lead.{Lead}
 use Rattle.sudoers_tree.specs.declared.load.NamedFile.{NamedFile}
 use Rattle.sudoers_tree.specs.declared.load_fault.LoadFault.{LoadFault}
-use Rattle.sudoers_tree.specs.declared.load_fault.LoadFault.TheVariants.{InFile, SameName, TooManyFiles}
+use Rattle.sudoers_tree.specs.declared.load_fault.LoadFault.TheVariants.{TooManyFiles}
 use Rattle.sudoers_tree.specs.declared.place.Spot.{Spot}
 use Rattle.sudoers_edit.specs.files.Memory.{IsOfFiles, IsOfText}
 

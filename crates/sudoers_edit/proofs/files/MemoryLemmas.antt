@@ -42,7 +42,7 @@ use Rattle.sudoers_edit.specs.Editing.{Refuses}
 use Rattle.sudoers_edit.specs.files.Editing.{at_alias, in_file, place_in_file, removed, removed_all, step}
 use Rattle.sudoers_edit.specs.files.Landing.{Lines, and_then, by_load, edit_of_load, landed, policy_or_refusal, with_bytes}
 use Rattle.sudoers_edit.specs.files.LineEdits.{with_line, without_line, with_move, with_ended}
-use Rattle.sudoers_edit.specs.files.Memory.{IsOfFiles, IsOfText, TellsMemoryAlone}
+use Rattle.sudoers_edit.specs.files.Memory.{IsOfFiles, TellsMemoryAlone}
 use Rattle.sudoers_edit.specs.files.Pruning.{removals}
 use Rattle.sudoers_edit.specs.files.Renaming.{rename, renamed_files}
 use Rattle.sudoers_edit.specs.files.SpliceEdits.{add_def, add_member, cut_out, drop_def, drop_member, if_spliced, put_in, with_changed}
