@@ -11,11 +11,9 @@ use Rattle.sudoers_tree.specs.Load.{Loaded}
 use Rattle.sudoers_edit_script.specs.declared.edit.Edit.TheVariants.{Rename}
 use Rattle.sudoers_edit.specs.declared.fault.EditFault.{EditFault}
 use Rattle.sudoers_edit.specs.declared.fault.EditFault.TheVariants.{NoAlias, BadName, NameTaken, TooLarge}
-use Rattle.sudoers_edit.specs.Landing.{refuse_if, is_too_long}
-use Rattle.sudoers_edit.specs.Renaming.{renamed, is_taken}
-use Rattle.sudoers_edit.specs.files.Editing.{step}
-use Rattle.sudoers_edit.specs.files.Landing.{policy_or_refusal}
-use Rattle.sudoers_edit.specs.files.Renaming.{rename, renamed_files}
+use Rattle.sudoers_edit.specs.Landing.{refuse_if, is_too_long, policy_or_refusal}
+use Rattle.sudoers_edit.specs.Renaming.{renamed, is_taken, rename, renamed_files}
+use Rattle.sudoers_edit.specs.Editing.{step}
 
 not_refused : (b : Bool) (fault : EditFault) (r : Result Loaded EditFault) (new : Loaded) → refuse_if b fault r ≡ Ok new → (b ≡ false) × (r ≡ Ok new)
 not_refused true fault r new is = absurd cc

@@ -4,8 +4,7 @@ ghost use Rattle.std.specs.Prelude.{◌≡◌, ◌⊎◌, ◌<◌, ◌≤◌, le
 ghost use Rattle.std.specs.Option.{option_map};
 ghost use Rattle.sudoers_check.specs.Chains.{HasReachableCycle};
 ghost use Rattle.sudoers_match_list.specs.declared.verdict.AskFault.TheVariants.{Cycle, TooLong, NoMemory};
-ghost use Rattle.sudoers_edit.specs.Editing.{edits_of};
-ghost use Rattle.sudoers_edit.specs.files.Editing.{first_of, run};
+ghost use Rattle.sudoers_edit.specs.Editing.{edits_of, first_of, run};
 ghost use Rattle.sudoers_match.specs.Answer.{IsAnswer, answer_shown, argument_limit, joined};
 
 use std::alloc::Global;

@@ -16,7 +16,7 @@ ghost use Rattle.sudoers_match.specs.Default.{IsRunasDefault};
 ghost use Rattle.sudoers_match.specs.Groups.{AreHostGroups};
 ghost use Rattle.sudoers_match.specs.declared.groups.GroupPlace.{GroupPlace as GroupPlaceOf};
 ghost use Rattle.sudoers_edit_script.specs.declared.edit.Edit.TheVariants.{Rename};
-ghost use Rattle.sudoers_edit.specs.files.Editing.{step as step_of};
+ghost use Rattle.sudoers_edit.specs.Editing.{step as step_of};
 ghost use Rattle.sudoers_edit.specs.Renaming.{is_taken};
 ghost use Rattle.sudoers_edit.specs.Renamed.{renamed_lines};
 ghost use Rattle.laws_edit.specs.Pruned.{LeavesTheReachable};

@@ -21,9 +21,9 @@ use Rattle.sudoers_edit_script.specs.ScriptReading.{reading}
 use Rattle.sudoers_edit_script.specs.declared.edit.Edit.{Edit}
 use Rattle.sudoers_edit_script.specs.declared.script.ScriptFault.{ScriptFault}
 use Rattle.sudoers_edit_script.specs.declared.script.ScriptFault.TheVariants as script
-use Rattle.sudoers_edit.specs.files.Editing.{run_all, inv_run}
+use Rattle.sudoers_edit.specs.Editing.{run_all, inv_run}
 use Rattle.sudoers_edit.specs.Named.{AreNamed}
-use Rattle.sudoers_edit.specs.files.WayBack.{IsTakenBack, names_in}
+use Rattle.sudoers_edit.specs.WayBack.{IsTakenBack, names_in}
 use Rattle.sudoers_edit.specs.declared.fault.EditFault.{EditFault}
 use Rattle.sudoers_run.specs.declared.fault.LayerFault.{LayerFault}
 use Rattle.sudoers_run.specs.declared.fault.LayerFault.TheVariants as layer

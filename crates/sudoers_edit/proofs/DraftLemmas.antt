@@ -4,7 +4,7 @@ use Rattle.std.specs.Prelude.{option_to_list, slice_get}
 use Rattle.sudoers_tree.specs.Changed.{changed, changed_from, place_of, next_place, text_brought, replaced, AreInOrder}
 use Rattle.sudoers_tree.specs.declared.line_change.LineChange.{LineChange}
 use Rattle.sudoers_tree.specs.declared.line_change.LineChange.TheVariants.{Swap, Take}
-use Rattle.sudoers_edit.specs.files.Landing.{Lines}
+use Rattle.sudoers_edit.specs.Landing.{Lines}
 use Rattle.sudoers_edit.proofs.PlanLemmas.{NoneLaw, FirstLaw}
 use Rattle.sudoers_edit.proofs.UndoneLemmas.{both_parts, left_behind, next_place_after, suc_more, within_order, zero_more}
 

@@ -1,19 +1,16 @@
-pub mod files
 mod AlikeLemmas
 mod ChangedLemmas
-mod BackLemmas
+mod ExtentLemmas
 mod EditLemmas
 mod LastLemmas
-mod MemberLemmas
+mod MemberMore
 mod MoreLemmas
 mod PlaceLemmas
-mod PlanLemmas
 mod PolicyLemmas
 pub mod RenameLemmas
 mod ReplacedLemmas
 mod SeamLemmas
 mod StartLemmas
-mod UndoneLemmas
 mod DraftLemmas
 mod SpliceLemmas
 mod WayBackLemmas
@@ -37,3 +34,55 @@ mod RenamedTexts
 pub mod Whole
 pub mod WithoutLine
 pub mod DropDef
+pub mod AcceptedLines
+pub mod AcceptedSplices
+pub mod BackLemmas
+pub mod DefLemmas
+pub mod EndLemmas
+pub mod HistoryLemmas
+pub mod InverseLaw
+pub mod JournalLemmas
+pub mod KnownLemmas
+pub mod LandLemmas
+pub mod LineLemmas
+pub mod LoadFaults
+pub mod MemberLemmas
+pub mod MemoryLemmas
+pub mod MoveLemmas
+pub mod NameLemmas
+pub mod NamedLaw
+pub mod PayloadLaw
+pub mod PruneCut
+pub mod PruneDone
+pub mod PruneFalls
+pub mod PruneGoes
+pub mod PruneList
+pub mod PruneLists
+pub mod PruneOrder
+pub mod PruneOut
+pub mod PrunePlaces
+pub mod PrunePut
+pub mod PruneRefused
+pub mod PruneSort
+pub mod PruneWalk
+pub mod PrunedAlike
+pub mod PrunedStage
+pub mod PrunedSteps
+pub mod PrunedWalk
+pub mod RedoLemmas
+pub mod RemovalNumbers
+pub mod RenameCovers
+pub mod RenameFiles
+pub mod RenameLaws
+pub mod RenameLeads
+pub mod RenameLines
+pub mod RenameLong
+pub mod RenameOutcomes
+pub mod RenameReadings
+pub mod RenameSizes
+pub mod RenameSwaps
+pub mod ReplaceLemmas
+pub mod SpotLemmas
+pub mod SwapLemmas
+pub mod UndoneLemmas
+pub mod PlanLemmas

@@ -8,7 +8,7 @@ use Rattle.sudoers_tree.specs.declared.place.Place.{Place}
 use Rattle.sudoers_tree.specs.Definition.{Definition, is_kind, definitions_from, defines, defined}
 use Rattle.sudoers_edit.specs.Alike.{are_alike, is_same_def}
 use Rattle.sudoers_edit.specs.Splice.{changed_at, less_member}
-use Rattle.sudoers_edit.proofs.BackLemmas.{both}
+use Rattle.sudoers_edit.proofs.ExtentLemmas.{both}
 
 -- NAMES
 

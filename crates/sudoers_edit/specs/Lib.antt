@@ -6,8 +6,13 @@ pub mod LineEdits
 pub mod SpliceEdits
 pub mod Renaming
 pub mod Renamed
+pub mod Pruning
+pub mod Pruned
 pub mod Editing
+pub mod Memory
+pub mod Undoing
+pub mod Redoing
+pub mod WayBack
 pub mod Named
 pub mod Payload
-pub mod files
 pub mod internal

@@ -52,7 +52,7 @@ impl Step {
 
 impl Model for Editor {
     ghost use Rattle.std.specs.Prelude.{reverse};
-    ghost use Rattle.sudoers_edit.specs.files.Editing.{Desk, IsUndoable, IsRedoable};
+    ghost use Rattle.sudoers_edit.specs.Editing.{Desk, IsUndoable, IsRedoable};
     ghost use Rattle.sudoers_edit.specs.internal.FileUndone.{AreBacks, entries_of};
 
     ghost Value = { Desk };
@@ -65,11 +65,10 @@ impl Model for Editor {
 }
 
 impl Editor {
-    ghost use Rattle.sudoers_edit.specs.Editing.{Refuses, edits_of};
-    ghost use Rattle.sudoers_edit.specs.files.Editing.{Desk, step, inv, run, run_all, inv_run, first_of, StopsAt};
-    ghost use Rattle.sudoers_edit.specs.files.Memory.{TellsMemoryAlone};
-    ghost use Rattle.sudoers_edit.specs.files.Undoing.{TakesLast};
-    ghost use Rattle.sudoers_edit.specs.files.Redoing.{MakesAgain, undone_behind};
+    ghost use Rattle.sudoers_edit.specs.Editing.{Refuses, edits_of, Desk, step, inv, run, run_all, inv_run, first_of, StopsAt};
+    ghost use Rattle.sudoers_edit.specs.Memory.{TellsMemoryAlone};
+    ghost use Rattle.sudoers_edit.specs.Undoing.{TakesLast};
+    ghost use Rattle.sudoers_edit.specs.Redoing.{MakesAgain, undone_behind};
 
     /// Returns an editor of `policy` with an empty journal, and with nothing to make again.
     pub fn new(policy: Policy) -> Editor

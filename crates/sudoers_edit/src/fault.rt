@@ -76,7 +76,7 @@ impl<T: Drop> From<AllocFailed<T>> for EditFault {
 
 impl From<LoadFault> for EditFault {
     ghost use Rattle.std.specs.Prelude.{◌≡◌};
-    ghost use Rattle.sudoers_edit.specs.files.Landing.{edit_of_load};
+    ghost use Rattle.sudoers_edit.specs.Landing.{edit_of_load};
 
     ghost from_gives = { λ fault e. e ≡ edit_of_load fault };
 

@@ -2,8 +2,8 @@
 
 ghost use Rattle.std.specs.Prelude.{◌≡◌, List, Ok};
 ghost use Rattle.sudoers_tree.specs.Load.{Loaded, files_of};
-ghost use Rattle.sudoers_edit.specs.files.Editing.{run_all};
-ghost use Rattle.sudoers_edit.specs.files.WayBack.{names_in};
+ghost use Rattle.sudoers_edit.specs.Editing.{run_all};
+ghost use Rattle.sudoers_edit.specs.WayBack.{names_in};
 ghost use Rattle.sudoers_edit_script.specs.declared.edit.Edit.{Edit as AnEdit};
 
 use sudoers_tree::laws::loaded_files_are;

@@ -7,7 +7,7 @@ ghost use Rattle.sudoers_tree.specs.Load.{Loaded, files_of, load_of};
 ghost use Rattle.sudoers_tree.specs.declared.line_change.LineChange.{LineChange as LineChangeOf};
 ghost use Rattle.sudoers_edit_script.specs.declared.edit.Edit.{Edit as AnEdit};
 ghost use Rattle.sudoers_edit.specs.Editing.{Refuses};
-ghost use Rattle.sudoers_edit.specs.files.Landing.{policy_or_refusal, with_bytes as the_files_with};
+ghost use Rattle.sudoers_edit.specs.Landing.{policy_or_refusal, with_bytes as the_files_with};
 ghost use Rattle.sudoers_edit.specs.internal.FileLeading.{Leads};
 ghost use Rattle.sudoers_edit.specs.internal.LeadingInFile.{AreFileLines, FitIn, LandsIn, texts_of};
 ghost use Rattle.sudoers_edit.specs.internal.MadeInFiles.{Makes};

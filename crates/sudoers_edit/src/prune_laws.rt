@@ -12,8 +12,8 @@ ghost use Rattle.sudoers_tree.specs.Walk.{is_on};
 ghost use Rattle.sudoers_edit_script.specs.declared.edit.Edit.TheVariants.{Delete, DropDef, Prune};
 ghost use Rattle.sudoers_edit.specs.declared.fault.EditFault.{EditFault as AFault};
 ghost use Rattle.sudoers_edit.specs.declared.fault.EditFault.TheVariants.{BadSplice};
-ghost use Rattle.sudoers_edit.specs.files.Editing.{step as step_of};
-ghost use Rattle.sudoers_edit.specs.files.Pruned.{AreLeftOf};
+ghost use Rattle.sudoers_edit.specs.Editing.{step as step_of};
+ghost use Rattle.sudoers_edit.specs.Pruned.{AreLeftOf};
 
 use sudoers_line::laws::{definitions_ascend, no_fault};
 use sudoers_line_reader::laws::{one_reading, outcome_is};

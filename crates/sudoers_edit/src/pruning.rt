@@ -7,7 +7,7 @@ ghost use Rattle.sudoers_tree.specs.declared.place.Place.{Place as APlace};
 ghost use Rattle.sudoers_tree.specs.Definition.{Definition, definitions, definitions_in};
 ghost use Rattle.sudoers_tree.specs.Policy.{alias_limit};
 ghost use Rattle.sudoers_tree.specs.Walk.{spot_at as the_spot};
-ghost use Rattle.sudoers_edit.specs.files.Pruning.{removals as the_removals};
+ghost use Rattle.sudoers_edit.specs.Pruning.{removals as the_removals};
 ghost use Rattle.sudoers_edit.specs.internal.FilePruneOrder.{front_count, removals_at};
 
 use std::alloc::{AllocError, Global};

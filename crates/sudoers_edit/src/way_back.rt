@@ -7,7 +7,7 @@ ghost use Rattle.sudoers_tree.specs.Files.{lines_of};
 ghost use Rattle.sudoers_tree.specs.Load.{Loaded, files_of, load_of};
 ghost use Rattle.sudoers_tree.specs.Policy.{texts};
 ghost use Rattle.sudoers_tree.specs.declared.line_change.LineChange.{LineChange as LineChangeOf};
-ghost use Rattle.sudoers_edit.specs.files.Editing.{line_at as the_line_at, run};
+ghost use Rattle.sudoers_edit.specs.Editing.{line_at as the_line_at, run};
 ghost use Rattle.sudoers_edit.specs.internal.FileUndone.{ChangesBack, LeadsBack, undone};
 ghost use Rattle.sudoers_edit.specs.internal.UndoneLines.{one_undone};
 

@@ -23,7 +23,7 @@ use Rattle.sudoers_run.specs.declared.fault.LayerFault.{LayerFault}
 use Rattle.sudoers_run.specs.declared.fault.LayerFault.TheVariants as layer
 use Rattle.sudoers_run.specs.declared.fault.ToolFault.{ToolFault}
 use Rattle.sudoers_run.specs.Faults.{IsPairFault, WriteOr}
-use Rattle.sudoers_edit.specs.files.Memory.{IsOfFiles}
+use Rattle.sudoers_edit.specs.Memory.{IsOfFiles}
 use Rattle.sudoers_run.specs.Policy.{IsUnloaded, TellsFiles, of_files}
 
 -- rules as the text of a policy, if it is within the limits; or as JSON, if all their texts are UTF-8

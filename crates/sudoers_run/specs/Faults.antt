@@ -1,7 +1,7 @@
 -- What is said of the faults of a command.
 use Rattle.sudoers_edit.specs.declared.fault.EditFault.{EditFault}
 use Rattle.sudoers_edit.specs.declared.fault.EditFault.TheVariants as edit
-use Rattle.sudoers_edit.specs.files.Memory.{TellsMemoryAlone}
+use Rattle.sudoers_edit.specs.Memory.{TellsMemoryAlone}
 use Rattle.sudoers_cvt_rewrite.specs.declared.filter_text.FilterFault.{FilterFault}
 use Rattle.sudoers_cvt_rewrite.specs.declared.filter_text.FilterFault.TheVariants as filter
 use Rattle.sudoers_edit_script.specs.declared.script.ScriptFault.{ScriptFault}

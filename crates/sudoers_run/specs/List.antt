@@ -24,7 +24,7 @@ use Rattle.sudoers_list_people.specs.declared.fault.WhoFault.{WhoFault}
 use Rattle.sudoers_list.specs.Listing.{IsListing}
 use Rattle.sudoers_list.specs.Reason.{IsReason}
 use Rattle.sudoers_run.specs.Device.{Meter}
-use Rattle.sudoers_edit.specs.files.Memory.{IsOfFiles}
+use Rattle.sudoers_edit.specs.Memory.{IsOfFiles}
 use Rattle.sudoers_run.specs.Policy.{IsOutside, IsUnloaded}
 use Rattle.sudoers_run.specs.Reading.{Failed, GivenUp, IsAfter, IsTextOf, OutOfMemory, ReadingEnd, ReadsFile, TooLarge, Unread, WasRead, Whole}
 use Rattle.sudoers_run.specs.Faults.{DeviceOr, IsPeopleFault, IsQuestionFault, IsWhoFault}

@@ -17,12 +17,12 @@ use Rattle.sudoers_run.specs.declared.fault.LayerFault.{LayerFault}
 use Rattle.sudoers_run.specs.declared.fault.LayerFault.TheVariants as layer
 use Rattle.sudoers_run.specs.declared.fault.ToolFault.{ToolFault}
 use Rattle.sudoers_run.specs.declared.fault.ToolFault.TheVariants as tool
-use Rattle.sudoers_edit.specs.files.Memory.{IsOfFiles}
+use Rattle.sudoers_edit.specs.Memory.{IsOfFiles}
 use Rattle.sudoers_run.specs.declared.given.Given.{Given}
 use Rattle.sudoers_run.specs.declared.given.Given.TheVariants as given
 use Rattle.sudoers_run.specs.Faults.{IsScriptFault, IsRefusal}
 use Rattle.sudoers_edit_script.specs.Physical.{physical_lines}
-use Rattle.sudoers_edit.specs.files.Editing.{run_all, inv_run}
+use Rattle.sudoers_edit.specs.Editing.{run_all, inv_run}
 use Rattle.sudoers_edit_script.specs.Script.{edit_limit, spelling}
 use Rattle.sudoers_edit_script.specs.ScriptReading.{reading}
 

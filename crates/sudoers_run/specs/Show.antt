@@ -6,7 +6,7 @@ use Rattle.sudoers_tree.specs.Load.{Loaded}
 use Rattle.sudoers_run.specs.declared.fault.LayerFault.{LayerFault}
 use Rattle.sudoers_run.specs.declared.fault.LayerFault.TheVariants as layer
 use Rattle.sudoers_run.specs.declared.fault.ToolFault.{ToolFault}
-use Rattle.sudoers_edit.specs.files.Memory.{IsOfFiles}
+use Rattle.sudoers_edit.specs.Memory.{IsOfFiles}
 use Rattle.sudoers_run.specs.Policy.{IsUnloaded, TellsFiles, of_files}
 use Rattle.sudoers_run.specs.Faults.{WriteOr}
 use Rattle.sudoers_run.specs.Shown.{shown}

@@ -2,7 +2,7 @@
 ghost use Rattle.std.specs.Prelude.{ℕ, List, ◌≡◌, ◌≢◌, ◌⊎◌, ◌+◌, ◌<◌, ◌≤◌, length, Ok, Err, IfOk, IfErr, IfSome, IsOkAnd, MatchResult, min, ◌-◌, ◌^◌};
 ghost use Rattle.std.specs.Io.KnownBytes.{Keeps, Appends};
 ghost use Rattle.sudoers_run.specs.Device.{Writes, AppendsFront};
-ghost use Rattle.sudoers_edit.specs.files.Memory.{IsOfFiles};
+ghost use Rattle.sudoers_edit.specs.Memory.{IsOfFiles};
 ghost use Rattle.sudoers_run.specs.Policy.{Searches};
 ghost use Rattle.sudoers_run.specs.Program.{TellsLayer};
 ghost use Rattle.std.specs.Borrow.{Bor};

@@ -2,7 +2,7 @@
 ghost use Rattle.std.specs.Prelude.{◌≡◌, ◌≢◌, ◌⊎◌, ◌+◌, ◌<◌, ◌≤◌, ℕ, List, length, true, Ok, Err, IfOk, IfErr, IfSome, OnOk, MatchResult, if◌then◌else◌, min, ◌-◌, ◌^◌};
 ghost use Rattle.std.specs.Io.KnownBytes.{Keeps, Appends};
 ghost use Rattle.std.specs.Option.{option_map, is_some};
-ghost use Rattle.sudoers_edit.specs.files.Memory.{IsOfFiles};
+ghost use Rattle.sudoers_edit.specs.Memory.{IsOfFiles};
 ghost use Rattle.sudoers_run.specs.Policy.{Searches};
 ghost use Rattle.sudoers_check.specs.Chains.{HasReachableCycle};
 ghost use Rattle.sudoers_match.specs.Answer.{IsAnswer};

@@ -3,7 +3,7 @@
 ghost use Rattle.std.specs.Prelude.{◌≡◌, false, Ok, IfErr, IfOk, IfSome, MatchResult};
 ghost use Rattle.sudoers_files.specs.Gather.{gathered};
 ghost use Rattle.sudoers_tree.specs.Load.{load_of};
-ghost use Rattle.sudoers_edit.specs.files.Memory.{IsOfFiles};
+ghost use Rattle.sudoers_edit.specs.Memory.{IsOfFiles};
 ghost use Rattle.sudoers_run.specs.Policy.{IsPolicyOf, IsUnloaded, Searches, TellsGather};
 ghost use Rattle.sudoers_run.specs.internal.LayerOf.{by_layer};
 

@@ -6,7 +6,7 @@ ghost use Rattle.sudoers_text.specs.Line.{join};
 ghost use Rattle.sudoers_tree.specs.Line.{lines_shown};
 ghost use Rattle.sudoers_tree.specs.Policy.{texts};
 ghost use Rattle.sudoers_run.specs.Device.{Writes, AppendsFront};
-ghost use Rattle.sudoers_edit.specs.files.Memory.{IsOfFiles};
+ghost use Rattle.sudoers_edit.specs.Memory.{IsOfFiles};
 ghost use Rattle.sudoers_run.specs.Policy.{Searches};
 ghost use Rattle.sudoers_run.specs.Program.{TellsLayer};
 ghost use Rattle.sudoers_line_rows.specs.View.{def_shown, defs_shown, node_shown};

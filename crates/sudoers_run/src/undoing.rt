@@ -1,7 +1,6 @@
 //! Edits taken back and made again, up to a number.
 ghost use Rattle.std.specs.Prelude.{◌≡◌, ◌+◌, ◌-◌, ◌++◌, length, min, OnOk};
-ghost use Rattle.sudoers_edit.specs.Editing.{edits_of};
-ghost use Rattle.sudoers_edit.specs.files.Editing.{first_of};
+ghost use Rattle.sudoers_edit.specs.Editing.{edits_of, first_of};
 
 use std::alloc::AllocError;
 use sudoers_edit::Editor;

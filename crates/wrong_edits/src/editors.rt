@@ -2,9 +2,8 @@
 
 ghost use Rattle.std.specs.Prelude.{◌≡◌, ◌<◌, [], length, take, Some, Ok, IfOk, IfErr, OnOk, OnErr, MatchResult, true, false};
 ghost use Rattle.sudoers_edit.specs.declared.fault.EditFault.TheVariants as EditFault;
-ghost use Rattle.sudoers_edit.specs.Editing.{Refuses};
-ghost use Rattle.sudoers_edit.specs.files.Editing.{first_of, run, run_all, step, StopsAt};
-ghost use Rattle.sudoers_edit.specs.files.Undoing.{TakesLast};
+ghost use Rattle.sudoers_edit.specs.Editing.{Refuses, first_of, run, run_all, step, StopsAt};
+ghost use Rattle.sudoers_edit.specs.Undoing.{TakesLast};
 
 use std::alloc::AllocError;
 use sudoers_edit::{Edit, EditFault, Editor, Edits};

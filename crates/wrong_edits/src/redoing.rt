@@ -2,7 +2,7 @@
 
 ghost use Rattle.std.specs.Prelude.{◌≡◌, [], take, Ok, IfErr, OnOk, OnErr, MatchResult, true, false};
 ghost use Rattle.sudoers_edit.specs.declared.fault.EditFault.TheVariants as EditFault;
-ghost use Rattle.sudoers_edit.specs.files.Redoing.{MakesAgain, undone_behind};
+ghost use Rattle.sudoers_edit.specs.Redoing.{MakesAgain, undone_behind};
 
 use sudoers_edit::{Edit, EditFault, Editor};
 

@@ -23,10 +23,9 @@ use Rattle.sudoers_edit.specs.Splice.{def_extents, owned_stop, seam, slice}
 use Rattle.sudoers_edit.specs.declared.fault.EditFault.{EditFault}
 use Rattle.sudoers_edit.specs.declared.pruning.Removal.{Removal}
 use Rattle.sudoers_edit.specs.declared.pruning.Removal.TheVariants as removal
-use Rattle.sudoers_edit.specs.Editing.{Refuses}
-use Rattle.sudoers_edit.specs.files.Editing.{inv, line_at, put_all_back, removed_all, run, step}
-use Rattle.sudoers_edit.specs.files.Pruning.{edit_of}
-use Rattle.sudoers_edit.specs.files.SpliceEdits.{drop_def, with_changed}
+use Rattle.sudoers_edit.specs.Editing.{Refuses, inv, line_at, put_all_back, removed_all, run, step}
+use Rattle.sudoers_edit.specs.Pruning.{edit_of}
+use Rattle.sudoers_edit.specs.SpliceEdits.{drop_def, with_changed}
 use Rattle.sudoers_edit.specs.internal.Leading.{CutOut}
 
 -- The edit has led to the new policy, and these edits lead back.

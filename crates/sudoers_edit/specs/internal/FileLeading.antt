@@ -9,10 +9,9 @@ use Rattle.sudoers_tree.specs.Line.{Line}
 use Rattle.sudoers_tree.specs.Load.{Loaded, load_of}
 use Rattle.sudoers_tree.specs.Walk.{Walked, is_on}
 use Rattle.sudoers_edit.specs.Renaming.{put_at, starts_in}
-use Rattle.sudoers_edit.specs.files.Editing.{step, inv, run}
-use Rattle.sudoers_edit.specs.files.Landing.{policy_or_refusal}
+use Rattle.sudoers_edit.specs.Editing.{step, inv, run, Refuses}
+use Rattle.sudoers_edit.specs.Landing.{policy_or_refusal}
 use Rattle.sudoers_edit_script.specs.declared.edit.Edit.{Edit}
-use Rattle.sudoers_edit.specs.Editing.{Refuses}
 use Rattle.sudoers_edit.specs.declared.fault.EditFault.{EditFault}
 use Rattle.sudoers_edit.specs.declared.plan.Plan.{Plan}
 

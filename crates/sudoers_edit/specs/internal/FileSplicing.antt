@@ -14,10 +14,9 @@ use Rattle.sudoers_tree.specs.Line.{Line}
 use Rattle.sudoers_tree.specs.Load.{Loaded, files_of, load_of}
 use Rattle.sudoers_tree.specs.Single.{said}
 use Rattle.sudoers_tree.specs.declared.place.FilePlace.{FilePlace}
-use Rattle.sudoers_edit.specs.SpliceEdits.{defs_of}
-use Rattle.sudoers_edit.specs.files.Editing.{step, inv}
-use Rattle.sudoers_edit.specs.files.Landing.{and_then, landed, with_bytes}
-use Rattle.sudoers_edit.specs.files.SpliceEdits.{with_changed}
+use Rattle.sudoers_edit.specs.SpliceEdits.{defs_of, with_changed}
+use Rattle.sudoers_edit.specs.Editing.{step, inv}
+use Rattle.sudoers_edit.specs.Landing.{and_then, landed, with_bytes}
 use Rattle.sudoers_edit.specs.internal.LeadingInFile.{texts_of}
 use Rattle.sudoers_edit_script.specs.declared.edit.Edit.{Edit}
 

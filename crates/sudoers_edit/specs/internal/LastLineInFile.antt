@@ -6,7 +6,7 @@ use Rattle.sudoers_text.specs.Fault.{line_limit}
 use Rattle.sudoers_text.specs.Line.{join}
 use Rattle.sudoers_tree.specs.Load.{Loaded, files_of, load_of}
 use Rattle.sudoers_edit.specs.OneLine.{IsAlone}
-use Rattle.sudoers_edit.specs.files.Landing.{with_bytes}
+use Rattle.sudoers_edit.specs.Landing.{with_bytes}
 use Rattle.sudoers_edit.specs.internal.LeadingInFile.{texts_of}
 
 -- Lines that stand alone are neither empty nor too long. Where a file is loaded with other bytes, its lines are those of the bytes, and

@@ -12,8 +12,8 @@ use Rattle.sudoers_tree.specs.Changed.{AreInOrder, brought, file_of}
 use Rattle.sudoers_tree.specs.Files.{lines_of}
 use Rattle.sudoers_tree.specs.Load.{Loaded, files_of, load_of}
 use Rattle.sudoers_tree.specs.Policy.{texts}
-use Rattle.sudoers_edit.specs.files.Editing.{step, inv}
-use Rattle.sudoers_edit.specs.files.Landing.{landed, with_bytes}
+use Rattle.sudoers_edit.specs.Editing.{step, inv}
+use Rattle.sudoers_edit.specs.Landing.{landed, with_bytes}
 use Rattle.sudoers_edit_script.specs.declared.edit.Edit.{Edit}
 
 -- the texts of the lines of the file with this number

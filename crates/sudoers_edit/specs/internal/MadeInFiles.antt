@@ -3,8 +3,7 @@ use Rattle.std.specs.Prelude.{◌≡◌, List, Some, Result, Ok, Err}
 use Rattle.sudoers_tree.specs.Load.{Loaded}
 use Rattle.sudoers_edit_script.specs.declared.edit.Edit.{Edit}
 use Rattle.sudoers_edit.specs.declared.fault.EditFault.{EditFault}
-use Rattle.sudoers_edit.specs.Editing.{Refuses}
-use Rattle.sudoers_edit.specs.files.Editing.{step, inv, run}
+use Rattle.sudoers_edit.specs.Editing.{Refuses, step, inv, run}
 
 -- The edit has led to the new policy, and these edits lead back.
 pub record IsMade (edit : Edit) (inverse : List Edit) (old new : Loaded) : Type 0 where

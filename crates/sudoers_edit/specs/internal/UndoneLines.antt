@@ -2,7 +2,7 @@
 use Rattle.std.specs.Prelude.{ℕ, ◌+◌, ◌-◌, List, [], ◌∷◌, slice_index_or}
 use Rattle.sudoers_tree.specs.declared.line_change.LineChange.{LineChange}
 use Rattle.sudoers_tree.specs.declared.line_change.LineChange.TheVariants.{Put, Swap, Take}
-use Rattle.sudoers_edit.specs.files.Landing.{Lines}
+use Rattle.sudoers_edit.specs.Landing.{Lines}
 
 -- What takes a change of the lines back. Before it so many lines were put in, and so many taken out.
 abbrev pub one_undone : ℕ → ℕ → Lines → LineChange → LineChange

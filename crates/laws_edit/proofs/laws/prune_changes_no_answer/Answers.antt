@@ -1,7 +1,7 @@
 use Rattle.std.proofs.Common.{◌≡◌, [], ◌∷◌, ap, Ok}
 use Rattle.sudoers_tree.specs.Load.{Loaded, files_of, load_of}
 use Rattle.sudoers_edit_script.specs.declared.edit.Edit.TheVariants.{Prune}
-use Rattle.sudoers_edit.specs.files.Editing.{run_all, step, then_or}
+use Rattle.sudoers_edit.specs.Editing.{run_all, step, then_or}
 use Rattle.sudoers_match.specs.Beside.{KeepsReachable}
 use Rattle.laws_edit.proofs.LeftDefinitions.{left_keeps}
 use Rattle.laws_edit.proofs.PrunedLines.{pruned_left}

@@ -1,4 +1,4 @@
-use Rattle.sudoers_edit.proofs.files.PayloadLaw.{carried, none_carried}
+use Rattle.sudoers_edit.proofs.PayloadLaw.{carried, none_carried}
 use Rattle.sudoers_edit.proofs.laws.inverse_carries_what_was_taken_out.Goals as goal
 
 pub returns-clause-taken : goal.returns-clause-taken

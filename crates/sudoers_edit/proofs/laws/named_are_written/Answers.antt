@@ -1,4 +1,4 @@
-use Rattle.sudoers_edit.proofs.files.NamedLaw.{all_back, read_named, named_written}
+use Rattle.sudoers_edit.proofs.NamedLaw.{all_back, read_named, named_written}
 use Rattle.sudoers_edit.proofs.laws.named_are_written.Goals as goal
 
 pub returns-clause-read : goal.returns-clause-read

@@ -1,4 +1,4 @@
-use Rattle.sudoers_edit.proofs.files.PruneList.{prune_step, prune_inverse}
+use Rattle.sudoers_edit.proofs.PruneList.{prune_step, prune_inverse}
 use Rattle.sudoers_edit.proofs.laws.prune_is_its_list.Goals as goal
 
 pub returns-clause-step : goal.returns-clause-step

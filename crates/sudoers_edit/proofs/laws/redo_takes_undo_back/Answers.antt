@@ -1,4 +1,4 @@
-use Rattle.sudoers_edit.proofs.files.RedoLemmas.{redo_back}
+use Rattle.sudoers_edit.proofs.RedoLemmas.{redo_back}
 use Rattle.sudoers_edit.proofs.laws.redo_takes_undo_back.Goals as goal
 
 pub returns : goal.returns

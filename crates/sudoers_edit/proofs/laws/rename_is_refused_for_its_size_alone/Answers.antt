@@ -1,5 +1,5 @@
-use Rattle.sudoers_edit.proofs.files.RenameOutcomes.{refused_for_size}
-use Rattle.sudoers_edit.proofs.files.RenameSizes.{SizeLaws}
+use Rattle.sudoers_edit.proofs.RenameOutcomes.{refused_for_size}
+use Rattle.sudoers_edit.proofs.RenameSizes.{SizeLaws}
 use Rattle.sudoers_edit.proofs.laws.rename_is_refused_for_its_size_alone.Goals as goal
 
 laws : goal.After-renamed_line → SizeLaws

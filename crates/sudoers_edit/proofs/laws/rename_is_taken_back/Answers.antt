@@ -1,5 +1,5 @@
-use Rattle.sudoers_edit.proofs.files.RenameOutcomes.{made_is_renamed, made_is_taken_back, renames_within}
-use Rattle.sudoers_edit.proofs.files.RenameSizes.{SizeLaws}
+use Rattle.sudoers_edit.proofs.RenameOutcomes.{made_is_renamed, made_is_taken_back, renames_within}
+use Rattle.sudoers_edit.proofs.RenameSizes.{SizeLaws}
 use Rattle.sudoers_edit.proofs.laws.rename_is_taken_back.Goals as goal
 
 laws : goal.After-renamed_line → SizeLaws

@@ -1,5 +1,5 @@
-use Rattle.sudoers_edit.proofs.files.RenameOutcomes.{renamed_is_one}
-use Rattle.sudoers_edit.proofs.files.RenameSizes.{Loads, SizeLaws}
+use Rattle.sudoers_edit.proofs.RenameOutcomes.{renamed_is_one}
+use Rattle.sudoers_edit.proofs.RenameSizes.{Loads, SizeLaws}
 use Rattle.sudoers_edit.proofs.laws.renamed_policy_is_one.Goals as goal
 
 laws : goal.After-renamed_line → SizeLaws

@@ -6,7 +6,7 @@ use Rattle.sudoers_tree.specs.Load.{Loaded}
 use Rattle.sudoers_edit_script.specs.declared.edit.Edit.TheVariants.{EndLine, OpenEnd}
 use Rattle.sudoers_edit.specs.OneLine.{is_one_line}
 use Rattle.sudoers_edit.specs.internal.LeadingInFile.{LandsIn, texts_of}
-use Rattle.sudoers_edit.proofs.files.EndLemmas.{LacksEnd, closed_lines, closed_text, end_as_is, end_lands, end_one, end_too_long, last_within, no_end, refused_end, unloaded}
+use Rattle.sudoers_edit.proofs.EndLemmas.{LacksEnd, closed_lines, closed_text, end_as_is, end_lands, end_one, end_too_long, last_within, no_end, refused_end, unloaded}
 use Rattle.sudoers_edit.proofs.line_edits.end_closed.Goals as goal
 
 pub returns-in_default : goal.returns-in_default

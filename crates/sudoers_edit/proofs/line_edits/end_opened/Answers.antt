@@ -6,7 +6,7 @@ use Rattle.sudoers_tree.specs.Load.{Loaded}
 use Rattle.sudoers_edit_script.specs.declared.edit.Edit.TheVariants.{EndLine, OpenEnd}
 use Rattle.sudoers_edit.specs.OneLine.{is_one_line}
 use Rattle.sudoers_edit.specs.internal.LeadingInFile.{LandsIn, texts_of}
-use Rattle.sudoers_edit.proofs.files.EndLemmas.{HasEnd, last_within, no_end, open_lacks, open_lands, open_one, open_short, opened_lines, opened_text, refused_end, unloaded}
+use Rattle.sudoers_edit.proofs.EndLemmas.{HasEnd, last_within, no_end, open_lacks, open_lands, open_one, open_short, opened_lines, opened_text, refused_end, unloaded}
 use Rattle.sudoers_edit.proofs.line_edits.end_opened.Goals as goal
 use Rattle.sudoers_edit.proofs.line_edits.end_opened.Goals.{then-last-lt2-via-then-last-lt2, then-last-lt2-via-else-last-lt2+then-not-ends_in_lf}
 

@@ -1,4 +1,4 @@
-use Rattle.sudoers_edit.proofs.files.LandLemmas.{LandLaws, cut_with}
+use Rattle.sudoers_edit.proofs.LandLemmas.{LandLaws, cut_with}
 use Rattle.sudoers_edit.proofs.line_edits.ends_stay_cut.Goals as goal
 
 pub returns : goal.returns

@@ -3,7 +3,7 @@ use Rattle.sudoers_edit.specs.internal.LeadingInFile.{texts_of}
 use Rattle.sudoers_tree.specs.Files.{lines_of}
 use Rattle.sudoers_edit.proofs.EditLemmas.{open_insert, last_decides}
 use Rattle.sudoers_edit.proofs.PolicyLemmas.{at_get, count_texts}
-use Rattle.sudoers_edit.proofs.files.LineLemmas.{past_end}
+use Rattle.sudoers_edit.proofs.LineLemmas.{past_end}
 use Rattle.sudoers_edit.proofs.line_edits.leaves_unended.Goals as goal
 
 pub returns-then-at-len : goal.returns-then-at-len

@@ -4,10 +4,10 @@ use Rattle.std.specs.Prelude.{slice_get}
 use Rattle.sudoers_tree.specs.Load.{Loaded}
 use Rattle.sudoers_edit_script.specs.declared.edit.Edit.{Edit}
 use Rattle.sudoers_edit_script.specs.declared.edit.Edit.TheVariants.{Insert, Delete}
-use Rattle.sudoers_edit.specs.files.Editing.{line_at}
+use Rattle.sudoers_edit.specs.Editing.{line_at}
 use Rattle.sudoers_edit.specs.internal.LeadingInFile.{AreFileLines, LandsIn, texts_of}
 use Rattle.sudoers_edit.proofs.PolicyLemmas.{at_get}
-use Rattle.sudoers_edit.proofs.files.LineLemmas.{delete_lands}
+use Rattle.sudoers_edit.proofs.LineLemmas.{delete_lands}
 use Rattle.sudoers_edit.proofs.line_edits.line_deleted.Goals as goal
 
 pub returns : goal.returns

@@ -7,7 +7,7 @@ use Rattle.sudoers_edit.specs.OneLine.{is_one_line}
 use Rattle.sudoers_edit_script.specs.declared.edit.Edit.TheVariants.{Insert, Delete}
 use Rattle.sudoers_edit.specs.internal.LeadingInFile.{LandsIn, texts_of}
 use Rattle.sudoers_edit.proofs.PolicyLemmas.{count_texts}
-use Rattle.sudoers_edit.proofs.files.LineLemmas.{insert_lands}
+use Rattle.sudoers_edit.proofs.LineLemmas.{insert_lands}
 use Rattle.sudoers_edit.proofs.line_edits.line_inserted.Goals as goal
 
 pub returns : goal.returns

@@ -9,9 +9,9 @@ use Rattle.sudoers_edit.specs.LineEdits.{moved}
 use Rattle.sudoers_edit.specs.internal.FileLeading.{Leads}
 use Rattle.sudoers_edit.specs.internal.LeadingInFile.{LandsIn, move_changes, texts_of}
 use Rattle.sudoers_edit.proofs.PolicyLemmas.{count_texts, at_get}
-use Rattle.sudoers_edit.proofs.files.LineLemmas.{move_lands}
-use Rattle.sudoers_edit.proofs.files.MoveLemmas.{moves}
-use Rattle.sudoers_edit.proofs.files.PlanLemmas.{leads_by}
+use Rattle.sudoers_edit.proofs.LineLemmas.{move_lands}
+use Rattle.sudoers_edit.proofs.MoveLemmas.{moves}
+use Rattle.sudoers_edit.proofs.PlanLemmas.{leads_by}
 use Rattle.sudoers_edit.proofs.line_edits.line_moved.Goals as goal
 
 pub returns : goal.returns

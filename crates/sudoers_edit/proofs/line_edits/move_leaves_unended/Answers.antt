@@ -4,7 +4,7 @@ use Rattle.sudoers_edit.specs.internal.LeadingInFile.{texts_of}
 use Rattle.sudoers_tree.specs.Files.{lines_of}
 use Rattle.sudoers_edit.proofs.EditLemmas.{stays_in_place, move_before, move_behind}
 use Rattle.sudoers_edit.proofs.PolicyLemmas.{count_texts}
-use Rattle.sudoers_edit.proofs.files.LineLemmas.{past_end}
+use Rattle.sudoers_edit.proofs.LineLemmas.{past_end}
 use Rattle.sudoers_edit.proofs.line_edits.move_leaves_unended.Goals as goal
 use Rattle.sudoers_edit.proofs.line_edits.move_leaves_unended.Goals.{then-to-last, else-to-last}
 

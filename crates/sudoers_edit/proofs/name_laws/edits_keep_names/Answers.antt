@@ -1,4 +1,4 @@
-use Rattle.sudoers_edit.proofs.files.NameLemmas.{run_named}
+use Rattle.sudoers_edit.proofs.NameLemmas.{run_named}
 use Rattle.sudoers_edit.proofs.name_laws.edits_keep_names.Goals as goal
 
 pub returns : goal.returns

@@ -1,4 +1,4 @@
-use Rattle.sudoers_edit.proofs.files.LandLemmas.{LandLaws, file_lines}
+use Rattle.sudoers_edit.proofs.LandLemmas.{LandLaws, file_lines}
 use Rattle.sudoers_edit.proofs.plan.file_is_sound.Goals as goal
 
 pub returns : goal.returns

@@ -1,4 +1,4 @@
-use Rattle.sudoers_edit.proofs.files.LandLemmas.{LandLaws, one_file_leads}
+use Rattle.sudoers_edit.proofs.LandLemmas.{LandLaws, one_file_leads}
 use Rattle.sudoers_edit.proofs.plan.one_file_leads.Goals as goal
 
 pub returns : goal.returns

@@ -1,7 +1,7 @@
 use Rattle.std.proofs.Common.{◌∷◌, [], insert}
 use Rattle.sudoers_tree.specs.declared.line_change.LineChange.TheVariants.{Put}
 use Rattle.sudoers_edit.specs.internal.LeadingInFile.{texts_of}
-use Rattle.sudoers_edit.proofs.files.PlanLemmas.{leads_by, planned_by, put_fits}
+use Rattle.sudoers_edit.proofs.PlanLemmas.{leads_by, planned_by, put_fits}
 use Rattle.sudoers_edit.proofs.plan.put.Goals as goal
 
 pub returns : goal.returns

@@ -2,7 +2,7 @@ use Rattle.std.proofs.Common.{◌∷◌, []}
 use Rattle.sudoers_tree.specs.declared.line_change.LineChange.TheVariants.{Swap}
 use Rattle.sudoers_tree.specs.Changed.{replaced}
 use Rattle.sudoers_edit.specs.internal.LeadingInFile.{texts_of}
-use Rattle.sudoers_edit.proofs.files.PlanLemmas.{leads_by, planned_by, swap_fits}
+use Rattle.sudoers_edit.proofs.PlanLemmas.{leads_by, planned_by, swap_fits}
 use Rattle.sudoers_edit.proofs.plan.swap.Goals as goal
 
 pub returns : goal.returns

@@ -1,7 +1,7 @@
 use Rattle.std.proofs.Common.{◌∙◌, ◌<◌, ◌≤◌, List, length, refl, ap, sym, arith, slice_set}
 use Rattle.sudoers_tree.specs.declared.load.NamedFile.{NamedFile}
-use Rattle.sudoers_edit.specs.files.Landing.{with_bytes}
-use Rattle.sudoers_edit.proofs.files.LandLemmas.{bytes_past, bytes_set}
+use Rattle.sudoers_edit.specs.Landing.{with_bytes}
+use Rattle.sudoers_edit.proofs.LandLemmas.{bytes_past, bytes_set}
 use Rattle.sudoers_edit.proofs.plan.with_bytes.Goals as goal
 use Rattle.sudoers_edit.proofs.plan.with_bytes.Goals.{in-Some, in_default}
 

@@ -1,5 +1,5 @@
-use Rattle.sudoers_edit.proofs.files.PrunePut.{FileLaws}
-use Rattle.sudoers_edit.proofs.files.PruneRefused.{drop_refused}
+use Rattle.sudoers_edit.proofs.PrunePut.{FileLaws}
+use Rattle.sudoers_edit.proofs.PruneRefused.{drop_refused}
 use Rattle.sudoers_edit.proofs.prune_laws.drop_is_refused_for_a_splice_alone.Goals as goal
 
 pub returns : goal.returns

@@ -1,6 +1,6 @@
 use Rattle.sudoers_edit.specs.internal.FileDrafts.{LineGoes}
-use Rattle.sudoers_edit.proofs.files.PruneGoes.{line_goes}
-use Rattle.sudoers_edit.proofs.files.PrunePut.{FileLaws}
+use Rattle.sudoers_edit.proofs.PruneGoes.{line_goes}
+use Rattle.sudoers_edit.proofs.PrunePut.{FileLaws}
 use Rattle.sudoers_edit.proofs.prune_laws.policy_without_line_is_one.Goals as goal
 
 pub returns : goal.returns

@@ -1,6 +1,6 @@
 use Rattle.sudoers_tree.specs.Load.{files_of}
-use Rattle.sudoers_edit.proofs.files.PrunePut.{FileLaws}
-use Rattle.sudoers_edit.proofs.files.PrunedWalk.{prune_left}
+use Rattle.sudoers_edit.proofs.PrunePut.{FileLaws}
+use Rattle.sudoers_edit.proofs.PrunedWalk.{prune_left}
 use Rattle.sudoers_edit.proofs.prune_laws.prune_leaves_the_used.Goals as goal
 
 pub returns : goal.returns

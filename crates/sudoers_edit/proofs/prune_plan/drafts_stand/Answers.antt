@@ -1,5 +1,5 @@
-use Rattle.sudoers_edit.proofs.files.PruneGoes.{def_goes, line_goes, line_is_said}
-use Rattle.sudoers_edit.proofs.files.PrunePut.{FileLaws}
+use Rattle.sudoers_edit.proofs.PruneGoes.{def_goes, line_goes, line_is_said}
+use Rattle.sudoers_edit.proofs.PrunePut.{FileLaws}
 use Rattle.sudoers_edit.proofs.prune_plan.drafts_stand.Goals as goal
 
 pub returns-clause-line : goal.returns-clause-line

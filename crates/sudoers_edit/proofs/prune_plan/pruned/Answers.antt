@@ -8,12 +8,11 @@ use Rattle.sudoers_edit_script.specs.declared.edit.Edit.TheVariants.{Prune}
 use Rattle.sudoers_edit.specs.declared.fault.EditFault.{EditFault}
 use Rattle.sudoers_edit.specs.declared.pruning.Removal.{Removal}
 use Rattle.sudoers_edit.specs.declared.pruning.Removal.TheVariants as removal
-use Rattle.sudoers_edit.specs.Editing.{Refuses}
-use Rattle.sudoers_edit.specs.files.Editing.{removed_all, step}
-use Rattle.sudoers_edit.specs.files.Pruning.{removals}
+use Rattle.sudoers_edit.specs.Editing.{Refuses, removed_all, step}
+use Rattle.sudoers_edit.specs.Pruning.{removals}
 use Rattle.sudoers_edit.specs.internal.FileDrafts.{AreByFiles, IsPruned, IsTakenOut}
 use Rattle.sudoers_edit.specs.internal.FileLeading.{Leads}
-use Rattle.sudoers_edit.proofs.files.PruneDone.{one_pruned, refuse_more}
+use Rattle.sudoers_edit.proofs.PruneDone.{one_pruned, refuse_more}
 use Rattle.sudoers_edit.proofs.prune_plan.pruned.Goals as goal
 
 pub loop-removal-init : goal.loop-removal-init

@@ -2,7 +2,7 @@ use Rattle.sudoers_text.specs.Line.{join}
 use Rattle.sudoers_tree.specs.Files.{lines_of}
 use Rattle.sudoers_tree.specs.Load.{Loaded, files_of}
 use Rattle.sudoers_tree.specs.Policy.{texts}
-use Rattle.sudoers_edit.proofs.files.PruneDone.{none_pruned, pruned_leads}
+use Rattle.sudoers_edit.proofs.PruneDone.{none_pruned, pruned_leads}
 use Rattle.sudoers_edit.proofs.prune_plan.prunes_lead.Goals as goal
 
 pub returns-clause-none : goal.returns-clause-none

@@ -1,7 +1,7 @@
 use Rattle.std.proofs.Common.{rules}
 use Rattle.std.proofs.lemmas.List.Sorted.{IsNonDecreasingBy-from_sort_by_key, answers_always}
 use Rattle.sudoers_tree.specs.Changed.{file_of}
-use Rattle.sudoers_edit.proofs.files.PruneSort.{sorted_by_files}
+use Rattle.sudoers_edit.proofs.PruneSort.{sorted_by_files}
 use Rattle.sudoers_edit.proofs.prune_plan.sort_by_files.Goals as goal
 
 pub returns : goal.returns

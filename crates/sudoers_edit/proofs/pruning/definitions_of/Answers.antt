@@ -4,7 +4,7 @@ use Rattle.sudoers_line_rows.specs.Tables.{def_in}
 use Rattle.sudoers_line_rows.specs.View.{defs_shown, node_shown}
 use Rattle.sudoers_line_rows.specs.declared.view.Node.{Node}
 use Rattle.sudoers_tree.specs.Definition.{definitions_in}
-use Rattle.sudoers_edit.proofs.files.PrunePlaces.{from_length}
+use Rattle.sudoers_edit.proofs.PrunePlaces.{from_length}
 use Rattle.sudoers_edit.proofs.pruning.definitions_of.Goals as goal
 
 pub returns-in-Alias : goal.returns-in-Alias

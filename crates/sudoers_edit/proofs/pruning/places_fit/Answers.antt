@@ -2,7 +2,7 @@ use Rattle.std.proofs.lemmas.List.Elements.{All-from_recursion}
 use Rattle.std.proofs.Common.{◌<◌}
 use Rattle.sudoers_tree.specs.Definition.{Definition, definitions}
 use Rattle.sudoers_tree.specs.Policy.{alias_limit}
-use Rattle.sudoers_edit.proofs.files.PrunePlaces.{def_since, file_fits, line_fits}
+use Rattle.sudoers_edit.proofs.PrunePlaces.{def_since, file_fits, line_fits}
 use Rattle.sudoers_edit.proofs.pruning.places_fit.Goals as goal
 
 pub returns-clause-files : goal.returns-clause-files

@@ -1,6 +1,6 @@
-use Rattle.sudoers_edit.proofs.files.RenameLaws.{Laws}
-use Rattle.sudoers_edit.proofs.files.RenameLeads.{rename_leads}
-use Rattle.sudoers_edit.proofs.files.RenameLong.{long_same}
+use Rattle.sudoers_edit.proofs.RenameLaws.{Laws}
+use Rattle.sudoers_edit.proofs.RenameLeads.{rename_leads}
+use Rattle.sudoers_edit.proofs.RenameLong.{long_same}
 use Rattle.sudoers_edit.proofs.renaming.renames_lead.Goals as goal
 
 laws : goal.After-renamed_line → Laws

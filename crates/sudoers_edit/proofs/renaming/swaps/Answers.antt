@@ -1,5 +1,5 @@
 use Rattle.std.proofs.Common.{◌∙◌, ◌<◌, length, rules}
-use Rattle.sudoers_edit.proofs.files.RenameSwaps.{swaps_next}
+use Rattle.sudoers_edit.proofs.RenameSwaps.{swaps_next}
 use Rattle.sudoers_edit.proofs.renaming.swaps.Goals as goal
 
 pub loop-file-preserved : goal.loop-file-preserved

@@ -8,11 +8,11 @@ use Rattle.sudoers_tree.specs.Policy.{texts}
 use Rattle.sudoers_edit_script.specs.declared.edit.Edit.TheVariants.{AddDef, DropDef}
 use Rattle.sudoers_edit.specs.Editing.{Refuses}
 use Rattle.sudoers_edit.specs.declared.one_more.Among.TheVariants as among
-use Rattle.sudoers_edit.specs.files.SpliceEdits.{add_def, put_in, with_changed}
+use Rattle.sudoers_edit.specs.SpliceEdits.{add_def, put_in, with_changed}
 use Rattle.std.specs.Prelude.{slice_get}
 use Rattle.sudoers_edit.specs.internal.FileSplicing.{AreKnown, ReplacesIn}
-use Rattle.sudoers_edit.proofs.files.DefLemmas.{add_found, add_replaces, add_unfound, in_lines, refused_so, refuses_so}
-use Rattle.sudoers_edit.proofs.files.SwapLemmas.{def_begins}
+use Rattle.sudoers_edit.proofs.DefLemmas.{add_found, add_replaces, add_unfound, in_lines, refused_so, refuses_so}
+use Rattle.sudoers_edit.proofs.SwapLemmas.{def_begins}
 use Rattle.sudoers_edit.proofs.splice_edits.def_added.Goals as goal
 
 pub returns-in-Err : goal.returns-in-Err

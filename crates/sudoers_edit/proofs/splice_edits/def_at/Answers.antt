@@ -17,8 +17,8 @@ use Rattle.sudoers_tree.specs.declared.place.Place.{Place}
 use Rattle.sudoers_edit.specs.declared.fault.EditFault.{EditFault}
 use Rattle.sudoers_edit.specs.declared.fault.EditFault.TheVariants.{NoAlias}
 use Rattle.sudoers_edit.specs.SpliceEdits.{defs_of, with_def}
-use Rattle.sudoers_edit.specs.files.Editing.{at_alias}
-use Rattle.sudoers_edit.specs.files.Landing.{Lines}
+use Rattle.sudoers_edit.specs.Editing.{at_alias}
+use Rattle.sudoers_edit.specs.Landing.{Lines}
 use Rattle.sudoers_edit.proofs.splice_edits.def_at.Goals as goal
 
 -- a place behind the definitions of its line

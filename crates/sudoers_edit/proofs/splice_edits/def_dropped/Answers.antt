@@ -11,10 +11,10 @@ use Rattle.sudoers_edit_script.specs.declared.edit.Edit.TheVariants.{AddDef, Dro
 use Rattle.sudoers_edit.specs.Editing.{Refuses}
 use Rattle.sudoers_edit.specs.Splice.{slice}
 use Rattle.sudoers_edit.specs.declared.one_more.Among.TheVariants as among
-use Rattle.sudoers_edit.specs.files.SpliceEdits.{cut_out, drop_def, with_changed}
+use Rattle.sudoers_edit.specs.SpliceEdits.{cut_out, drop_def, with_changed}
 use Rattle.sudoers_edit.specs.internal.FileSplicing.{AreKnown, ReplacesIn}
-use Rattle.sudoers_edit.proofs.files.DefLemmas.{drop_found, drop_replaces, drop_unfound, in_lines, refused_so, refuses_so}
-use Rattle.sudoers_edit.proofs.files.SwapLemmas.{def_goes_on}
+use Rattle.sudoers_edit.proofs.DefLemmas.{drop_found, drop_replaces, drop_unfound, in_lines, refused_so, refuses_so}
+use Rattle.sudoers_edit.proofs.SwapLemmas.{def_goes_on}
 use Rattle.sudoers_edit.proofs.splice_edits.def_dropped.Goals as goal
 
 pub returns-in-Err : goal.returns-in-Err

@@ -7,7 +7,7 @@ use Rattle.sudoers_tree.specs.Files.{lines_of}
 use Rattle.sudoers_tree.specs.Policy.{texts}
 use Rattle.sudoers_edit.specs.internal.LeadingInFile.{LandsIn, texts_of}
 use Rattle.sudoers_edit.proofs.PolicyLemmas.{count_texts}
-use Rattle.sudoers_edit.proofs.files.ReplaceLemmas.{left_open, lands_replaced}
+use Rattle.sudoers_edit.proofs.ReplaceLemmas.{left_open, lands_replaced}
 use Rattle.sudoers_edit.proofs.splice_edits.line_replaced.Goals as goal
 
 pub returns-then-leaves_open : goal.returns-then-leaves_open

@@ -2,7 +2,7 @@ use Rattle.std.proofs.Common.{◌≡◌}
 use Rattle.sudoers_text.specs.Line.{join}
 use Rattle.sudoers_tree.specs.Files.{lines_of}
 use Rattle.sudoers_tree.specs.Policy.{texts}
-use Rattle.sudoers_edit.proofs.files.KnownLemmas.{are_known}
+use Rattle.sudoers_edit.proofs.KnownLemmas.{are_known}
 use Rattle.sudoers_edit.proofs.splice_edits.lines_are_known.Goals as goal
 
 pub returns : goal.returns

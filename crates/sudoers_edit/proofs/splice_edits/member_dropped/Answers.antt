@@ -8,17 +8,16 @@ use Rattle.sudoers_tree.specs.Line.{Line, line_shown}
 use Rattle.sudoers_tree.specs.Load.{Loaded, files_of}
 use Rattle.sudoers_tree.specs.declared.place.FilePlace.{FilePlace}
 use Rattle.sudoers_edit_script.specs.declared.edit.Edit.TheVariants.{AddMember, DropMember}
-use Rattle.sudoers_edit.specs.Editing.{Refuses}
+use Rattle.sudoers_edit.specs.Editing.{Refuses, place_in_file, step}
 use Rattle.sudoers_edit.specs.declared.fault.EditFault.{EditFault}
 use Rattle.sudoers_edit.specs.declared.one_more.Among.TheVariants as among
-use Rattle.sudoers_edit.specs.files.Editing.{place_in_file, step}
-use Rattle.sudoers_edit.specs.files.Landing.{Lines, and_then, landed}
-use Rattle.sudoers_edit.specs.files.SpliceEdits.{drop_member, cut_out}
+use Rattle.sudoers_edit.specs.Landing.{Lines, and_then, landed}
+use Rattle.sudoers_edit.specs.SpliceEdits.{drop_member, cut_out}
 use Rattle.sudoers_edit.specs.internal.FileSplicing.{IsDefIn, ReplacesIn}
-use Rattle.sudoers_edit.proofs.files.DefLemmas.{refused_so, refuses_so}
-use Rattle.sudoers_edit.proofs.files.MemberLemmas.{WalkLaws, alias_refused, at_alias_is, drop_found, drop_replaces}
+use Rattle.sudoers_edit.proofs.DefLemmas.{refused_so, refuses_so}
+use Rattle.sudoers_edit.proofs.MemberLemmas.{WalkLaws, alias_refused, at_alias_is, drop_found, drop_replaces}
 use Rattle.sudoers_edit.specs.Splice.{member_extents, owned_stop, seam, slice}
-use Rattle.sudoers_edit.proofs.files.SwapLemmas.{member_goes_on}
+use Rattle.sudoers_edit.proofs.SwapLemmas.{member_goes_on}
 use Rattle.sudoers_edit.proofs.splice_edits.member_dropped.Goals as goal
 
 pub returns-in-Err : goal.returns-in-Err

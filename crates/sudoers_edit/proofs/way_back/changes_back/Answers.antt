@@ -3,7 +3,7 @@ use Rattle.sudoers_tree.specs.Changed.{file_of, place_of}
 use Rattle.sudoers_tree.specs.Files.{lines_of}
 use Rattle.sudoers_tree.specs.declared.line_change.LineChange.{LineChange}
 use Rattle.sudoers_edit.specs.internal.UndoneLines.{put_by, taken_by}
-use Rattle.sudoers_edit.proofs.files.BackLemmas.{CountAt, next_back, place_within, puts_one}
+use Rattle.sudoers_edit.proofs.BackLemmas.{CountAt, next_back, place_within, puts_one}
 use Rattle.sudoers_edit.proofs.way_back.changes_back.Goals as goal
 use Rattle.sudoers_edit.proofs.way_back.changes_back.Goals.{then-file-last, else-file-last, in-Put, in-Swap, in-Take}
 

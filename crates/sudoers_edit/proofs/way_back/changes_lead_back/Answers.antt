@@ -1,4 +1,4 @@
-use Rattle.sudoers_edit.proofs.files.BackLemmas.{BackLaws, changes_undone}
+use Rattle.sudoers_edit.proofs.BackLemmas.{BackLaws, changes_undone}
 use Rattle.sudoers_edit.proofs.way_back.changes_lead_back.Goals as goal
 
 pub returns : goal.returns

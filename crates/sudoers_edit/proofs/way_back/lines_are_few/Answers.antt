@@ -1,6 +1,6 @@
 use Rattle.std.proofs.Common.{arith}
 use Rattle.sudoers_edit.proofs.PolicyLemmas.{count_texts}
-use Rattle.sudoers_edit.proofs.files.BackLemmas.{few_lines}
+use Rattle.sudoers_edit.proofs.BackLemmas.{few_lines}
 use Rattle.sudoers_tree.specs.Files.{lines_of}
 use Rattle.sudoers_edit.specs.internal.LeadingInFile.{texts_of}
 use Rattle.sudoers_edit.proofs.way_back.lines_are_few.Goals as goal

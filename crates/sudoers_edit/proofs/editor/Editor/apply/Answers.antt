@@ -1,7 +1,6 @@
 use Rattle.std.proofs.Common.{IfErr, rules}
-use Rattle.sudoers_edit.specs.Editing.{Refuses}
-use Rattle.sudoers_edit.specs.files.Editing.{step}
-use Rattle.sudoers_edit.proofs.files.MemoryLemmas.{refused_plain}
+use Rattle.sudoers_edit.specs.Editing.{Refuses, step}
+use Rattle.sudoers_edit.proofs.MemoryLemmas.{refused_plain}
 use Rattle.sudoers_edit.proofs.editor.Editor.apply.Goals as goal
 
 pub returns-in_err-back-clause-memory : goal.returns-in_err-back-clause-memory

@@ -3,11 +3,10 @@ use Rattle.std.proofs.lemmas.List.{take_more}
 use Rattle.sudoers_tree.specs.Load.{Loaded}
 use Rattle.sudoers_edit_script.specs.declared.edit.Edit.{Edit}
 use Rattle.sudoers_edit.specs.declared.editor.Entry.{Entry}
-use Rattle.sudoers_edit.specs.Editing.{edits_of}
-use Rattle.sudoers_edit.specs.files.Editing.{step, inv}
-use Rattle.sudoers_edit.proofs.files.HistoryLemmas.{run_more, run_all_more, edits_more}
-use Rattle.sudoers_edit.specs.files.Redoing.{undone_behind}
-use Rattle.sudoers_edit.proofs.files.RedoLemmas.{none_left}
+use Rattle.sudoers_edit.specs.Editing.{edits_of, step, inv}
+use Rattle.sudoers_edit.proofs.HistoryLemmas.{run_more, run_all_more, edits_more}
+use Rattle.sudoers_edit.specs.Redoing.{undone_behind}
+use Rattle.sudoers_edit.proofs.RedoLemmas.{none_left}
 use Rattle.sudoers_edit.proofs.editor.Editor.apply_all.Goals as goal
 
 pub loop-place-preserved : goal.loop-place-preserved

@@ -1,7 +1,6 @@
 use Rattle.std.proofs.Common.{◌≡◌, ◌++◌, take, drop, Some}
-use Rattle.sudoers_edit.specs.Editing.{edits_of}
-use Rattle.sudoers_edit.specs.files.Editing.{run, run_all, first_of}
-use Rattle.sudoers_edit.specs.files.Redoing.{undone_behind}
+use Rattle.sudoers_edit.specs.Editing.{edits_of, run, run_all, first_of}
+use Rattle.sudoers_edit.specs.Redoing.{undone_behind}
 use Rattle.sudoers_edit.proofs.editor.Editor.apply_all.Given as goal
 
 abbrev pub invariant-loop-place : goal.invariant-loop-place

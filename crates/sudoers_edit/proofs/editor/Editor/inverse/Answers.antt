@@ -3,10 +3,10 @@ use Rattle.std.proofs.lemmas.Result.{IfOk-weaker}
 use Rattle.std.specs.List.{flat_map}
 use Rattle.sudoers_edit_script.specs.declared.edit.Edit.{Edit}
 use Rattle.sudoers_edit.specs.declared.editor.Step.{Step}
-use Rattle.sudoers_edit.specs.files.Editing.{Desk}
+use Rattle.sudoers_edit.specs.Editing.{Desk}
 use Rattle.sudoers_edit.specs.internal.FileUndone.{entries_of}
-use Rattle.sudoers_edit.proofs.files.JournalLemmas.{inverses_are}
-use Rattle.sudoers_edit.proofs.files.HistoryLemmas.{TakesBack, takes_back}
+use Rattle.sudoers_edit.proofs.JournalLemmas.{inverses_are}
+use Rattle.sudoers_edit.proofs.HistoryLemmas.{TakesBack, takes_back}
 use Rattle.sudoers_edit.proofs.editor.Editor.inverse.Goals as goal
 
 -- the inverses_of edits take back all that stand

@@ -1,8 +1,7 @@
 use Rattle.std.proofs.Common.{◌≡◌, ◌∙◌, Some, reverse, ap, sym, subst}
-use Rattle.sudoers_edit.specs.Editing.{edits_of}
-use Rattle.sudoers_edit.specs.files.Editing.{Desk, run, first_of}
+use Rattle.sudoers_edit.specs.Editing.{edits_of, Desk, run, first_of}
 use Rattle.sudoers_edit.specs.internal.FileUndone.{entries_of}
-use Rattle.sudoers_edit.proofs.files.HistoryLemmas.{leads_here, run_accepted}
+use Rattle.sudoers_edit.proofs.HistoryLemmas.{leads_here, run_accepted}
 use Rattle.sudoers_edit.proofs.editor.Editor.policy.Goals as goal
 
 pub returns-clause-forth : goal.returns-clause-forth
