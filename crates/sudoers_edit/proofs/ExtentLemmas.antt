@@ -5,7 +5,8 @@ use Rattle.sudoers_line.specs.Node.{Def, Node}
 use Rattle.sudoers_line.specs.declared.node.Kind.{Kind}
 use Rattle.sudoers_line.specs.Node as node
 use Rattle.sudoers_edit.specs.Splice.{Extent, def_extents, seam, owned_stop, owns_exactly, is_def_more}
-use Rattle.sudoers_edit.specs.SpliceEdits.{Lines, place_to_add, place_to_drop}
+use Rattle.sudoers_edit.specs.Landing.{Lines}
+use Rattle.sudoers_edit.specs.SpliceEdits.{place_to_add, place_to_drop}
 use Rattle.sudoers_edit.specs.declared.fault.EditFault.{EditFault}
 use Rattle.sudoers_edit.proofs.SpliceLemmas.{is_at_true, seam_within, stop_within}
 

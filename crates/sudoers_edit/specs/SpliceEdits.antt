@@ -18,9 +18,6 @@ use Rattle.sudoers_tree.specs.Changed.{replaced}
 use Rattle.sudoers_line.specs.Node as node
 use Rattle.sudoers_edit.specs.declared.one_more.Among.TheVariants as among
 
-abbrev pub Lines : Type 0
-Lines = List (List ℕ)
-
 -- where one more may be put in, among these: at which byte
 abbrev pub place_to_add : ℕ → List Extent → (ℕ → Result Lines EditFault) → Result Lines EditFault
 place_to_add at extents next = refuse_if (nat_lt (length extents) at) NoPlace (or_refuse (seam at extents) BadSplice next)
