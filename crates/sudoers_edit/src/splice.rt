@@ -4,7 +4,8 @@ ghost use Rattle.sudoers_line.specs.Node.{Def as DefOf, Member as MemberOf};
 ghost use Rattle.sudoers_line_rows.specs.declared.rows.Tables.{Tables as TablesOf};
 ghost use Rattle.sudoers_line_rows.specs.Tables.{def_in, member_in};
 ghost use Rattle.sudoers_edit.specs.declared.fault.EditFault.{EditFault as Refusal};
-ghost use Rattle.sudoers_edit.specs.SpliceEdits.{place_to_add as to_add, place_to_drop as to_drop, Lines};
+ghost use Rattle.sudoers_edit.specs.Landing.{Lines};
+ghost use Rattle.sudoers_edit.specs.SpliceEdits.{place_to_add as to_add, place_to_drop as to_drop};
 ghost use Rattle.sudoers_edit.specs.Splice.{Extent, seam as the_seam, owned_stop as the_stop, line_with as with_splice, line_without as without_slice, slice};
 
 use crate::fault::EditFault;
