@@ -310,6 +310,6 @@ leads_back l undo redo input out e short =
       back = back;
       again = next;
       policy =
-          ap (option_map (λ (parts : Parts). (parts.1, parts.2))) split ∙ ap (λ (t : List ℕ). Some (w.form, t)) same
-          ∙ sym (ap (option_map (λ (parts : Parts). (parts.1, parts.2))) w.parts);
+          ap (option_map {U = Given × List ℕ} (λ (parts : Parts). (parts.1, parts.2))) split ∙ ap (λ (t : List ℕ). Some (w.form, t)) same
+          ∙ sym (ap (option_map {U = Given × List ℕ} (λ (parts : Parts). (parts.1, parts.2))) w.parts);
     }

@@ -1,6 +1,7 @@
 -- What `edit` writes for what it wrote.
 use Rattle.std.specs.Prelude.{◌≡◌, ℕ, List, Ok}
 use Rattle.std.specs.Option.{option_map}
+use Rattle.sudoers_run.specs.declared.given.Given.{Given}
 use Rattle.sudoers_run.specs.Program.{output_of, split_text}
 
 -- What `edit` wrote, given to it again, with no edit taken back then: it writes the first policy behind its script, in the same form, byte
@@ -8,4 +9,4 @@ use Rattle.sudoers_run.specs.Program.{output_of, split_text}
 pub record LeadsBack (input out : List ℕ) : Type 0 where
   pub back : List ℕ
   pub again : output_of 0 0 out ≡ Ok back
-  pub policy : option_map (λ parts. (parts.1, parts.2)) (split_text back) ≡ option_map (λ parts. (parts.1, parts.2)) (split_text input)
+  pub policy : option_map {U = Given × List ℕ} (λ parts. (parts.1, parts.2)) (split_text back) ≡ option_map {U = Given × List ℕ} (λ parts. (parts.1, parts.2)) (split_text input)
