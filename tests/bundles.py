@@ -16,17 +16,22 @@ def joined(script, policy):
     return script + MARK + policy
 
 
-def bundle(text):
-    """The bundle of files `NAME: TEXT` with ` | ` between two."""
-    files = [one.partition(b":") for one in text.split(b" | ")]
+def bundle(files):
+    """The bundle of files, each a name and a text."""
+    return b"".join(b"%%%% %d %s\n%s" % (len(text), name, text) for name, text in files)
+
+
+def files_of(cell):
+    """The files `NAME: TEXT` with ` | ` between two."""
+    files = [one.partition(b":") for one in cell.split(b" | ")]
     if not all(colon and rest[:1] in (b"", b" ") for _, colon, rest in files):
-        raise NoRow(f"no files: {text!r}")
-    return b"".join(b"%%%% %d %s\n%s" % (len(rest[1:]), name, rest[1:]) for name, _, rest in files)
+        raise NoRow(f"no files: {cell!r}")
+    return [(name, rest[1:]) for name, _, rest in files]
 
 
-def with_files(script, files):
-    """A script and the bundle of files after it."""
-    return joined(script, b"").removesuffix(MARK) + bundle(files)
+def with_files(script, cell):
+    """A script and the bundle of the files of a cell after it."""
+    return joined(script, b"").removesuffix(MARK) + bundle(files_of(cell))
 
 
 def refused_in_files(given, answer):
