@@ -80,10 +80,16 @@ def files_changed(files, changes):
     ]
 
 
-def frame_of(files, calls):
-    """A case: files, and calls of their policy."""
+def frame_of(files, calls, sort=SORT):
+    """A case: files, and calls of their policy, or of its editor."""
     parts = joined(*(piece for file in files for piece in file))
-    return frame(SUBJECT, SORT, part(parts) + b"".join(calls))
+    return frame(SUBJECT, sort, part(parts) + b"".join(calls))
+
+
+def queries_of(files, aliases):
+    """What is asked of a policy of files: its walk, its files, their lines, and where these aliases are defined and mentioned."""
+    lines = [call(b"a", eight(number)) for number in range(len(files))]
+    return [call(b"f"), call(b"n"), call(b"N"), *lines, *(call(byte, alias) for alias in aliases for byte in (b"d", b"m"))]
 
 
 # ---- what is answered
@@ -182,9 +188,7 @@ class Session:
         self.name = name
         self.files = files
         self.steps = steps
-        self.queries = [call(b"f"), call(b"n"), call(b"N")]
-        self.queries += [call(b"a", eight(number)) for number in range(len(files))]
-        self.queries += [call(byte, alias) for alias in aliases for byte in (b"d", b"m")]
+        self.queries = queries_of(files, aliases)
         self.texts = []
         for step in steps:
             files = files_changed(files, step.changes) if step.accepted else files

@@ -99,6 +99,16 @@ EDITS = (
     "redo_of_a_prune_makes_it_again_whole",
     "redo_makes_the_edit_first_that_was_undone_last",
     "an_edit_that_would_be_undone_is_refused",
+    "rename_in_a_bundle_of_two_files",
+    "an_include_is_turned_to_another_file_of_the_same_definition",
+    "each_file_has_its_own_end",
+    "prune_over_several_files",
+    "redo_of_a_prune_of_two_files",
+    "second_include_of_a_file",
+    "a_file_comes_back_with_a_definition_that_stands_elsewhere",
+    "edit_of_a_file_that_is_not_there",
+    "bundle_whose_last_file_is_too_short",
+    "two_files_of_one_name",
 )
 SHOWS = (
     "show_of_standard_input",

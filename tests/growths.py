@@ -3,9 +3,9 @@
 The growths of a change do not depend on how many aliases a policy has. A comment is replaced before many lines of aliases
 and before few. The growths of the same policy with a call that changes nothing are taken off.
 
-Each growth of an edit of each kind, of its undo and of its redo, is refused in turn. Then the policy, its names and the
-journal have to be as before, and the same call, made again, has to answer as with ample memory. So it is with changes of
-three files at once.
+Each growth of an edit of each kind, of its undo and of its redo, is refused in turn: on a policy of one file and on one of
+two. Then the policy, its names and the journal have to be as before, and the same call, made again, has to answer as with
+ample memory. So it is with changes of three files at once.
 """
 
 import os
@@ -67,6 +67,25 @@ EDITS = (
 )
 MOST = 2_000
 
+# A policy of two files, and edits that it accepts. Before the last edit of a list the others are made.
+EDITED_FILES = ((b"main", b"@include a\nbob ALL=SH\n"), (b"a", b"Cmnd_Alias SH = /bin/sh\n"))
+EDITS_OF_FILES = (
+    (b"insert 2\n|@includedir d\n",),
+    (b"delete 1\n",),
+    (b"delete 1\n", b"insert 1\n|@include a\n"),
+    (b"move 1 2\n",),
+    (b"file 2\ninsert 1\n|User_Alias A = x\n",),
+    (b"file 2\ndelete 1\n",),
+    (b"add cmnd SH 2\n>, /bin/b\n",),
+    (b"add cmnd SH 2\n>, /bin/b\n", b"drop cmnd SH 1\n"),
+    (b"file 2\nadddef 1 2\n> : USED = /bin/b\n",),
+    (b"file 2\nadddef 1 2\n> : USED = /bin/b\n", b"file 2\ndropdef 1 2\n"),
+    (b"rename cmnd SH USED\n",),
+    (b"file 2\nopenend\n",),
+    (b"file 2\nopenend\n", b"file 2\nendline\n"),
+    (b"file 2\ninsert 1\n|User_Alias A = x : B = A\n", b"insert 1\n|Runas_Alias R = x\n", b"prune\n"),
+)
+
 # Files of a policy, and changes of lines of all three.
 FILES = (
     (b"main", b"@include a\n@include b\nA h1 = C\n# m\n"),
@@ -100,8 +119,13 @@ CHANGES = {
         Change("put", 2, 0, b"@includedir d\n"),
     ),
 }
-NAMES = ((b"U", b"A"), (b"U", b"B"), (b"U", b"C"), (b"H", b"H"), (b"H", b"I"), (b"C", b"USED"), (b"C", b"UNUSED"), (b"R", b"R"))
+NAMES = ((b"U", b"A"), (b"U", b"B"), (b"U", b"C"), (b"H", b"H"), (b"H", b"I"), (b"C", b"USED"), (b"C", b"UNUSED"), (b"C", b"SH"), (b"R", b"R"))
 ALIASES = [call(byte, named(KIND_OF[kind], name)) for kind, name in NAMES for byte in (b"d", b"m")]
+
+
+def parts_of(files):
+    """Files, as the program reads them."""
+    return joined(*(piece for file in files for piece in file))
 
 
 @dataclass(frozen=True)
@@ -114,8 +138,9 @@ class Asked:
 
 
 EDITOR = Asked(b"e", EDITED, (call(b"t"), call(b"s"), call(b"e"), call(b"a"), *ALIASES))
-PARTS = joined(*(piece for file in FILES for piece in file))
-POLICY = Asked(b"f", PARTS, (call(b"f"), call(b"n"), call(b"N"), *ALIASES))
+OF_FILES = (call(b"f"), call(b"n"), call(b"N"), *ALIASES)
+EDITOR_OF_FILES = Asked(b"g", parts_of(EDITED_FILES), (call(b"s"), call(b"e"), *OF_FILES))
+POLICY = Asked(b"f", parts_of(FILES), OF_FILES)
 
 
 def answers_of(shim, program, asked, calls, **settings):
@@ -156,15 +181,21 @@ def refuse_each(shim, program, tally, asked, what, calls):
     tally.note(f"{what}: growths", difference("some are refused", True, met > 0))
 
 
+def refuse_edit(shim, program, tally, asked, edits):
+    """Refuses each growth of the last of these edits, of its undo and of its redo."""
+    made, name = [call(b"1", edit) for edit in edits], f"{edits[-1]!r} with the sort {asked.sort!r}"
+    refuse_each(shim, program, tally, asked, f"growths of {name}", made)
+    refuse_each(shim, program, tally, asked, f"growths of the undo of {name}", [*made, call(b"-")])
+    refuse_each(shim, program, tally, asked, f"growths of the redo of {name}", [*made, call(b"-"), call(b">")])
+
+
 def refuse_edits(shim, program, tally):
     """Refuses each growth of each edit, of its undo and of its redo."""
     for edit in EDITS:
-        made = call(b"1", edit)
-        refuse_each(shim, program, tally, EDITOR, f"growths of {edit!r}", [made])
-        refuse_each(shim, program, tally, EDITOR, f"growths of the undo of {edit!r}", [made, call(b"-")])
-        refuse_each(shim, program, tally, EDITOR, f"growths of the redo of {edit!r}", [made, call(b"-"), call(b">")])
-    closed = [call(b"1", b"openend\n"), call(b"1", b"endline\n")]
-    refuse_each(shim, program, tally, EDITOR, "growths of endline", closed)
+        refuse_edit(shim, program, tally, EDITOR, [edit])
+    refuse_edit(shim, program, tally, EDITOR, [b"openend\n", b"endline\n"])
+    for edits in EDITS_OF_FILES:
+        refuse_edit(shim, program, tally, EDITOR_OF_FILES, edits)
 
 
 def refuse_changes(shim, program, tally):

@@ -286,7 +286,7 @@ NOT_READABLE = (
     ("folder_whose_files_may_not_be_looked_at", {"main": "@includedir d\n", "d/a": "# a\n"}, "d", 0o444),
 )
 
-# Standard input includes no file, also one that is there; and `edit` follows no include.
+# Standard input includes no file, also one that is there; and `edit` reads no file but those of its input.
 STREAMS = (
     ("check -", "@include main\n", Wanted(b"-:1:1: include main not loaded\n", status=1)),
     ("check --skipped -", "@includedir d\n", Wanted(b"-: parsed OK\n")),
@@ -296,7 +296,8 @@ STREAMS = (
     ("show -", "@includedir d\n", Wanted(b"1 include 1\n")),
     ("convert -f sudoers -", "@include main\n", fault("-:1:1: include main not loaded")),
     (f"{ASKED} bob -", "@include main\n", fault("-:1:1: include main not loaded")),
-    ("edit", "%%\n@include main\n@include none\n", Wanted(b"%%\n@include main\n@include none\n")),
+    ("edit", "%%\n@include main\n@include none\n", fault("policy:1:1: include main not loaded")),
+    ("edit", "%% 25 policy\n@include a\n@include none\n%% 0 a\n", fault("policy:2:1: include none not loaded")),
     ("", "%%\n@includedir d\nbob ALL = SH\n", Wanted(b"%%\n@includedir d\nbob ALL = SH\n")),
 )
 

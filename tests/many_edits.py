@@ -26,7 +26,7 @@ Defaults>DB env_reset
 Defaults!SH noexec
 OPS H = (DB) SH, NOPASSWD: TOOLS : SITES = (root : DB) !SH
 WEB, !OPS SITES = ALL
-@include /etc/more
+@includedir /etc/more
 """
 
 # The edits of a round. `{n}` is the number of the round, from 1, and `{n+3}` is 3 more. But for P{n} each round brings
@@ -88,7 +88,7 @@ def all_edits():
 
 
 def answers_to(program, sort, text, calls):
-    """The answers to calls of a policy or an editor."""
+    """The answers to calls of an editor."""
     lines = asked(program, [frame(SUBJECT, sort, joined(text) + b"".join(calls))])
     if len(lines) != len(calls):
         raise ValueError(f"{len(lines)} answers to {len(calls)} calls")
@@ -128,7 +128,7 @@ def run_edits(program, tally):
     states, turns = [lines[:size]], in_lots(lines[size:], size + 1)
     for number, (edit, (outcome, *state)) in enumerate(zip(edits, turns), 1):
         problems = difference("outcome", "ok", drawn_outcome(outcome))
-        anew = answers_to(program, b"p", bytes_of(state[0]), QUERIES)
+        anew = answers_to(program, b"e", bytes_of(state[0]), QUERIES)
         problems += differences(anew, state)
         if state[0] == states[-1][0]:
             problems.append("the text is as before")

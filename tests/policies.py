@@ -210,7 +210,11 @@ def drawn_files(line):
 
 def drawn_load_fault(line):
     """The error of files that are no policy."""
-    fault = said.read(line)
+    return drawn_fault_of_files(said.read(line))
+
+
+def drawn_fault_of_files(fault):
+    """The same, of a value that is read."""
     if isinstance(fault, str):
         return fault
     file = drawn_name(bytes(items(fault["file"])))
@@ -223,11 +227,14 @@ def drawn_load_fault(line):
     return " ".join([inner[""], file, str(inner["line"]), *name])
 
 
+def is_fault_of_files(line):
+    """Whether a line is the error of files that are no policy."""
+    return line.startswith(("TooManyFiles", "SameName {", "InFile {"))
+
+
 def drawn_report(line):
     """The text of a report, or the error of the files that have none."""
-    if line.startswith(("TooManyFiles", "SameName {", "InFile {")):
-        return drawn_load_fault(line)
-    return drawn_bytes(line)
+    return drawn_load_fault(line) if is_fault_of_files(line) else drawn_bytes(line)
 
 
 def drawn_calls(outcome, count):
@@ -301,7 +308,7 @@ def drawn_notes(line):
 
 def drawn_refusal(fault):
     """Why an edit is refused."""
-    return fault if isinstance(fault, str) else f"{fault[0]}, {drawn_fault(fault[1])}"
+    return fault if isinstance(fault, str) else f"{fault[0]}, {drawn_fault_of_files(fault[1])}"
 
 
 def drawn_change(line):
@@ -317,8 +324,8 @@ def drawn_change(line):
 
 def drawn_outcome(line):
     """What comes of edits: `ok`, `yes` or `no`, or why one is refused, with its number if there may be several."""
-    if is_fault(line):
-        return drawn_line_fault(line)
+    if is_fault_of_files(line):
+        return drawn_load_fault(line)
     word, held = said.read(line)
     if word == "Ok":
         return {"[]": "ok", "True": "yes", "False": "no"}[str(held)]

@@ -13,6 +13,7 @@ A table is a text file NAME.rows, in printable ASCII. It has these lines:
     group = TEXT
     NAME: CELLS         a row, whose cells are those of the form
 
+A cell of files has a piece `NAME: TEXT` for each, with ` | ` between two. They are handed in as a bundle.
 A name is of small letters, digits and `_`, and no two cases have the same one. A row may go on in lines that are
 indented and begin with `%%` or `=>`; its first cell may begin in a line of its own after `NAME:`.
 
@@ -30,11 +31,11 @@ from dataclasses import dataclass, field, replace
 
 import asking
 import cases
+from bundles import accepted_in_files, joined, pruned_in_files, refused_in_files
 from cases import Case, NoRow
 from program import Wanted, fault
 
 FOLDER = os.path.join(os.path.dirname(os.path.abspath(__file__)), "rows")
-MARK = b"%%\n"
 ESCAPES = {"n": b"\n", "r": b"\r", "t": b"\t", "0": b"\0", "\\": b"\\"}
 
 SETTING = re.compile(r"(form|policy|script|words|asked|passwd|group) =(?: (.*))?")
@@ -106,13 +107,6 @@ def payload(line):
     return b"".join(b"|" + piece + b"\n" for piece in pieces) + (b">" + last + b"\n" if last else b"")
 
 
-def joined(script, policy):
-    """A script and a policy with the mark between them."""
-    if script and not script.endswith(b"\n") or b"\n" + MARK in b"\n" + script:
-        raise NoRow("a script ends in `\\n`, and no line of it is the mark")
-    return script + MARK + policy
-
-
 def refused_input(given, answer):
     """An input of `edit`, and its error."""
     return Case("", (), given["input"], cases.error_of(answer[0]))
@@ -143,13 +137,24 @@ def accepted(given, answer):
     return replace(pruned(given, answer), back=True)
 
 
-def first_line(given, answer):
-    """A policy and its first logical line: `delete 1` takes just this line, and `insert 1` of it is the undo script."""
-    policy, line = given["policy"], answer[0]
+def without_first(policy, line):
+    """The script that undoes `delete 1` of a policy with this first line, and what it leaves."""
     if not line or not policy.startswith(line):
         raise NoRow("the policy does not begin with this line")
-    edit = {"script": b"delete 1\n", "policy": policy}
-    return accepted(edit, (b"insert 1\n" + payload(line), policy[len(line) :]))
+    return b"insert 1\n" + payload(line), policy[len(line) :]
+
+
+def first_line(given, answer):
+    """A policy and its first logical line: `delete 1` takes just this line, and `insert 1` of it is the undo script."""
+    undo, rest = without_first(given["policy"], answer[0])
+    return accepted({"script": b"delete 1\n", "policy": given["policy"]}, (undo, rest))
+
+
+def first_including_line(given, answer):
+    """The same, of a policy of which this line includes an empty file."""
+    undo, rest = without_first(given["policy"], answer[0])
+    files, edited = (b"policy: %s | %s:" % (text, given["included"]) for text in (given["policy"], rest))
+    return accepted_in_files({"script": b"delete 1\n", "files": files}, (undo, edited))
 
 
 def converted(given, wanted):
@@ -187,7 +192,12 @@ FORMS = {
     "pruning script %% policy => undo %% edited": Form(("script", "policy"), 2, pruned),
     "counts %% script %% policy => undo %% edited": Form(("counts", "script", "policy"), 2, undone),
     "counts %% script %% policy => error": Form(("counts", "script", "policy"), 1, undone_refused),
+    "script %% files => error": Form(("script", "files"), 1, refused_in_files),
+    "script %% files => undo %% edited": Form(("script", "files"), 2, accepted_in_files),
+    "pruning script %% files => undo %% edited": Form(("script", "files"), 2, pruned_in_files),
+    "counts %% script %% files => undo %% edited": Form(("counts", "script", "files"), 2, pruned_in_files),
     "policy => first line": Form(("policy",), 1, first_line),
+    "included %% policy => first line": Form(("included", "policy"), 1, first_including_line),
     "policy => printed": Form(("policy",), 1, printed, ("words",)),
     "policy => not printed": Form(("policy",), 1, not_printed, ("words",)),
     "filter %% policy => printed": Form(("filter", "policy"), 1, printed, ("words",)),

@@ -41,6 +41,7 @@ FOLDERS = {
     "check": "tables_edit",
     "edit": "tables_edit",
     "files": "tables_files",
+    "edited": "tables_edited",
 }
 
 PICTURES = {"␊": b"\n", "␍": b"\r", "␉": b"\t", "␀": b"\0", "␠": b" "}

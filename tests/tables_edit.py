@@ -165,6 +165,7 @@ POLICY_CALLS = {
     "text-after": (b"A", "bytes", drawn_bytes),
 }
 EDITOR_CALLS = {
+    **{word: POLICY_CALLS[word] for word in ("text", "definition", "mentions")},
     "apply": (b"1", "bytes", drawn_outcome),
     "apply-all": (b"+", "bytes", drawn_outcome),
     "undo": (b"-", "", drawn_outcome),
@@ -182,7 +183,7 @@ TEXT_CALLS = {
 }
 CALLS = {
     "policy": (b"p", POLICY_CALLS),
-    "editor": (b"e", {**POLICY_CALLS, **EDITOR_CALLS}),
+    "editor": (b"e", EDITOR_CALLS),
     "text": (b"t", TEXT_CALLS),
 }
 
@@ -689,7 +690,7 @@ class Run:
         queries = [call(byte, named(kind, name.encode())) for byte in (b"d", b"m") for kind in KINDS for name in names]
         # What is asked in each turn: the text, how many edits were made, and all that a policy is asked.
         self.asks = [call(b"t"), call(b"s")]
-        self.queries = [call(b"n"), call(b"a"), *queries]
+        self.queries = [call(b"a"), call(b"f"), *queries]
 
     def draw(self, limit):
         """The next number that is drawn, below a limit."""
@@ -734,7 +735,7 @@ class Run:
 
     def compare_anew(self, texts):
         """Each policy on the way is the one that its text is, read anew."""
-        frames = [frame_of(b"p", text, self.queries) for _, text, _ in texts]
+        frames = [frame_of(b"e", text, self.queries) for _, text, _ in texts]
         lines = asked(self.program, frames)
         self.check("answers of texts", len(frames) * len(self.queries), len(lines))
         for i, (what, _, queried) in enumerate(texts):

@@ -1,10 +1,12 @@
 """The way back: what an accepted edit writes is an input of `edit`, and leads back to the policy that it began with."""
 
+import re
 from dataclasses import replace
 
 from program import Wanted, run
 
-MARK = b"%%\n"
+# The mark, or the place before the header of the first file.
+BEGIN = re.compile(rb"^(?:%%\n|(?=%% ))", re.M)
 EDITS = ((), (b"edit",))
 COUNTS = (b"--undo", b"--redo")
 
@@ -16,8 +18,8 @@ def is_accepted(words, wanted):
 
 
 def policy_of(text):
-    """What comes after the first line of an input or output of `edit` that is the mark."""
-    return (b"\n" + text).partition(b"\n" + MARK)[2]
+    """What comes after the first line of an input or output of `edit` that is the mark; or its files, from the first header on."""
+    return BEGIN.split(text, maxsplit=1)[-1]
 
 
 def problems(program, words, stdin, stdout, whole):

@@ -18,12 +18,12 @@ enum Target<'a> {
     Text(&'a [u8]),
     /// The policy that it is.
     Policy(OneFile),
-    /// An editor of that policy.
-    Editor(Editor),
     /// The text is no policy, and this answers each call.
     Fault(ReadFault),
     /// The policy of the files that the text is.
     Files(Policy),
+    /// An editor of the policy of the one file, or of the files, that the text is.
+    Editor(Editor),
     /// They are no policy, and this answers each call.
     LoadFault(LoadFault),
 }
@@ -32,13 +32,13 @@ impl Target<'_> {
     /// Returns that of `text` which `sort` names.
     fn of(alloc: Global, sort: u8, text: &[u8]) -> Result<Target<'_>, AllocError> {
         Ok(match sort {
-            b'p' | b'e' => match OneFile::read(alloc, text) {
-                Ok(policy) if sort == b'p' => Target::Policy(policy),
-                Ok(policy) => Target::Editor(Editor::new(policy)),
+            b'p' => match OneFile::read(alloc, text) {
+                Ok(policy) => Target::Policy(policy),
                 Err(fault) => Target::Fault(fault),
             },
-            b'f' => match Policy::load(alloc, files_of(alloc, text)?.as_slice()) {
-                Ok(policy) => Target::Files(policy),
+            b'e' | b'f' | b'g' => match policy_of(alloc, sort, text)? {
+                Ok(policy) if sort == b'f' => Target::Files(policy),
+                Ok(policy) => Target::Editor(Editor::new(policy)),
                 Err(fault) => Target::LoadFault(fault),
             },
             _ => Target::Text(text),
@@ -60,6 +60,19 @@ impl Target<'_> {
             Target::Files(policy) => file_policies::push_answer(alloc, policy, call, answers),
             Target::LoadFault(fault) => push_debug(&fault, answers),
         }
+    }
+}
+
+/// Returns the policy of the one file `text` with the sort `e`, and else of the files that `text` is, or their fault.
+fn policy_of(
+    alloc: Global,
+    sort: u8,
+    text: &[u8],
+) -> Result<Result<Policy, LoadFault>, AllocError> {
+    if sort == b'e' {
+        Ok(Policy::read(alloc, text))
+    } else {
+        Ok(Policy::load(alloc, files_of(alloc, text)?.as_slice()))
     }
 }
 
@@ -98,7 +111,7 @@ fn push_of_editor(
         b's' => push_shown(&editor.steps(), answers),
         b'e' => push_shown(&editor.redos(), answers),
         b'<' => push_script(alloc, editor.inverse()?.as_slice(), answers),
-        _ => policies::push_query(alloc, editor.policy(), call, answers),
+        _ => file_policies::push_query(editor.policy(), call, answers),
     }
 }
 

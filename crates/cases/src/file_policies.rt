@@ -4,7 +4,7 @@ use crate::changes::changes_of;
 use crate::drawn::push_debug;
 use crate::file_changes::{changed_together, line_replaced, with_line, without_line};
 use crate::frames::{Call, number_of};
-use crate::loads::{push_files, push_walk};
+use crate::loads::{push_files, push_of_policy, push_walk, report_topic};
 use crate::policies::name_of;
 use std::alloc::{AllocError, Global};
 use sudoers_tree::{FilePlace, Policy};
@@ -30,19 +30,22 @@ pub fn push_answer(
 }
 
 /// Adds the answer to a call that changes nothing.
-fn push_query(policy: &Policy, call: Call<'_>, answers: &mut String) -> Result<(), AllocError> {
+pub fn push_query(policy: &Policy, call: Call<'_>, answers: &mut String) -> Result<(), AllocError> {
     let (file, number, _) = place_of(call.body);
     match call.asked {
         b'f' => push_walk(policy, answers),
         b'n' => push_files(policy, answers),
         b'N' => push_named(policy, answers),
-        // The number of a file: its lines.
+        // The number of a file, which is the first without one: its text, and its lines.
+        b't' => push_debug(&policy.text(file)?, answers),
         b'a' => push_lines(policy, file, answers),
         // The number of a file, and that of a line there.
         b'l' => push_line(policy, file, number, answers),
         // A kind of alias and a name.
         b'd' => push_definition(policy, call.body, answers),
         b'm' => push_mentions(policy, call.body, answers),
+        // `s` for a strict report.
+        b'p' => push_of_policy(policy.allocator(), policy, report_topic(call.body), answers),
         _ => answers.push_str("unknown"),
     }
 }

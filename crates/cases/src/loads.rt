@@ -87,7 +87,7 @@ fn push_loaded(
 }
 
 /// Adds what `policy` answers.
-fn push_of_policy(
+pub fn push_of_policy(
     alloc: Global,
     policy: &Policy,
     topic: Topic,

@@ -28,7 +28,7 @@ pub fn push_answer(
 }
 
 /// Adds the answer to a call that changes nothing.
-pub fn push_query(
+fn push_query(
     alloc: Global,
     policy: &OneFile,
     call: Call<'_>,
