@@ -170,7 +170,7 @@ module _ (policy : List Line) (law : UnusedLaw) (uses : UsedLaw) where
       by_node (node.Include dir path) is = none_there (node.Include dir path) is refl
       by_node (node.Defaults scope params) is = none_there (node.Defaults scope params) is refl
       by_node (node.Spec users groups) is = none_there (node.Spec users groups) is refl
-  one_left n line rest others _ among (less k defs es new makes made alike) behind =
+  one_left n line rest others _ among (less k defs es new some makes made alike) behind =
       let here = subst (λ (m : Node). (d : Definition) → Has (definitions_in n m) d → Has (definitions policy) d) makes among in
       record {
         left = left_then (IsIdle policy) (line ∷ rest) (new ∷ rest) (new ∷ others)

@@ -26,7 +26,7 @@ use Rattle.sudoers_edit.proofs.RenamedNames.{other_name, kind_like, same_defines
 use Rattle.laws_edit.proofs.RenamedMembers.{StandsRenamed, IsRenamedDef, all_renamed}
 use Rattle.sudoers_edit.proofs.RenamedOnce.{lacks}
 use Rattle.sudoers_edit.proofs.RenamedPolicy.{SameLaw, walk_renamed, walk_definable}
-use Rattle.sudoers_edit.proofs.RenameOutcome.{not_mentioned}
+use Rattle.sudoers_edit.proofs.files.RenameLines.{not_mentioned}
 
 -- ---- the members of an alias
 

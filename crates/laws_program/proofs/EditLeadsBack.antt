@@ -1,6 +1,6 @@
 -- What `edit` wrote leads back.
 use Rattle.laws_program.proofs.Common.{◌≡◌, ◌≢◌, ◌∙◌, ℕ, zero, suc, ◌+◌, ◌≤◌, Bool, true, false, List, [], ◌∷◌, ◌++◌, length, map, slice_index, Option, Some, None, Result, Ok, Err}
-use Rattle.laws_program.proofs.Common.{refl, sym, ap, subst, arith, if◌then◌else◌, AllByRecursion, join, append-nil, codes, flat_map}
+use Rattle.laws_program.proofs.Common.{refl, sym, ap, subst, arith, if◌then◌else◌, AllByRecursion, join, append-nil, codes, flat_map, list_any, ◌==◌}
 use Rattle.laws_program.proofs.Common.{physical_lines, split_text}
 use Rattle.std.proofs.Common.{take, drop, ◌<◌, ◌^◌}
 use Rattle.std.proofs.Math.Seq.{take-length}
@@ -33,7 +33,7 @@ use Rattle.sudoers_run.specs.declared.given.Given.{Given}
 use Rattle.sudoers_run.specs.declared.given.Given.TheVariants as given
 use Rattle.sudoers_run.specs.Program.{input_limit, output_of, of_given, of_parts, by_bundle, by_layer, by_load, edit_output, edited_output, files_given, given_back, output_of_edits, edits_that_stand, how_many_stand, output_text, by_script, by_edit, ◌>>=◌}
 use Rattle.laws_program.specs.WayBack.{LeadsBack}
-use Rattle.laws_program.proofs.MarkLemmas.{split_at_bundle, split_at_mark}
+use Rattle.laws_program.proofs.MarkLemmas.{split_at_bundle, split_at_mark, told_text}
 
 -- The laws of policies, of bundles, of scripts and of edits.
 pub record Laws : Type 0 where
@@ -170,6 +170,7 @@ given_named _ _ (o ∷ others) (several file files held) same short = several o 
 
 -- How `edit` came to what it wrote: these are the edits that stood.
 record Wrote (input out : List ℕ) : Type 0 where
+  short : length input ≤ input_limit
   script : List ℕ
   form : Given
   text : List ℕ
@@ -241,6 +242,7 @@ wrote l undo redo input out e =
     let d = ran_ok (run_all 0 stood c.0) (output_text form inverse) out all.2 in
     let f = written (nat_lt edit_limit (length inverse)) (spelling inverse ++ given_back form (files_of d.0)) out d.2 in
     record {
+      short = ltb-false input_limit (length input) w.0;
       script = a.0.0;
       form = form;
       text = a.0.2;
@@ -286,7 +288,8 @@ leads_back l undo redo input out e short =
     let w = wrote l undo redo input out e in
     let inverse : List Edit = inv_run w.edits w.policy in
     let second : List Edit = inv_run inverse w.new in
-    let were : WasGiven w.form w.text w.files = ? in
+    let told = told_text l.pieces input w.script w.text w.form w.parts in
+    let were : WasGiven w.form w.text w.files = was_given l w.form w.text w.files told.0 (omega (arith, told.1, w.short)) w.were in
     let loaded : load_of (files_of w.policy) ≡ Ok w.policy = ap load_of (l.bytes w.files w.policy w.read) ∙ w.read in
     let taken = l.back w.edits w.policy w.new loaded w.ran in
     let able : AreSpellable inverse = spellable inverse (taken.numbered (numbered w.edits w.can)) (l.named w.edits w.policy (named w.edits w.can)) in
@@ -298,14 +301,14 @@ leads_back l undo redo input out e short =
         given_named w.form w.files (files_of w.new) were.can names (short_each w.new.files (l.fit w.new taken.loaded)) in
     let size : length (spelling inverse ++ given_back w.form (files_of w.new)) ≤ input_limit = subst (λ (z : List ℕ). length z ≤ input_limit) (sym w.is) short in
     let back : List ℕ = spelling second ++ given_back w.form (files_of w.policy) in
-    let told : output_of 0 0 out ≡ Ok back =
+    let next : output_of 0 0 out ≡ Ok back =
         ap (output_of 0 0) (sym w.is) ∙ writes l inverse w.form (files_of w.new) w.new w.policy able w.few may taken.loaded taken.back least size in
     let first : CanBeGiven w.form (files_of w.policy) = subst (CanBeGiven w.form) (sym (l.bytes w.files w.policy w.read)) were.can in
     let split : split_text back ≡ Some (spelling second, w.form, body w.form (files_of w.policy)) = split_given l second fits w.form (files_of w.policy) first in
     let same : body w.form (files_of w.policy) ≡ w.text = ap (body w.form) (l.bytes w.files w.policy w.read) ∙ were.is in
     record {
       back = back;
-      again = told;
+      again = next;
       policy =
           ap (option_map (λ (parts : Parts). (parts.1, parts.2))) split ∙ ap (λ (t : List ℕ). Some (w.form, t)) same
           ∙ sym (ap (option_map (λ (parts : Parts). (parts.1, parts.2))) w.parts);

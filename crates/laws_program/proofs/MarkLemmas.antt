@@ -1,7 +1,7 @@
 -- The policy of a text that was written stands behind its script.
 use Rattle.laws_program.proofs.Common.{◌≡◌, ◌≢◌, ◌∙◌, ◌+◌, ℕ, zero, suc, Bool, true, false, ◌==◌, ◌&&◌, List, [], ◌∷◌, ◌++◌, slice_index, Option, Some, None, refl, sym, ap, ap₂, append_assoc, AllByRecursion, join, bytes_eq, codes, list_any, if◌then◌else◌}
 use Rattle.laws_program.proofs.Common.{physical_lines, split_text}
-use Rattle.std.proofs.Common.{length, ne_eqb, take, eqb-true, ◌<◌, ◌^◌, arith}
+use Rattle.std.proofs.Common.{length, length-append, subst, ne_eqb, take, eqb-true, ◌<◌, ◌^◌, arith}
 use Rattle.std.proofs.lemmas.Bool.{or_parts, eq-eqb}
 use Rattle.std.proofs.lemmas.Slice.Eq.{bytes_eq-Decides}
 use Rattle.std.specs.Fmt.{decimal}
@@ -130,3 +130,66 @@ split_at_bundle pieces script file files held before plain =
     told : split_lines ((front ++ 10 ∷ []) ∷ physical_lines (file.bytes ++ bundle files))
         ≡ Some ([], given.Bundle, (front ++ 10 ∷ []) ∷ physical_lines (file.bytes ++ bundle files))
     told = rw (no_short_mark (behind ++ 10 ∷ []), ends front) refl
+
+-- WHAT IS TOLD OF AN INPUT
+
+header_some : (line : List ℕ) → is_header line ≡ true → line ≢ []
+header_some [] is none = absurd cc
+header_some (b ∷ line) is none = absurd cc
+
+joined_some : (line : List ℕ) (ls : List (List ℕ)) → line ≢ [] → join (line ∷ ls) ≢ []
+joined_some [] ls some none = some refl
+joined_some (b ∷ line) ls some none = absurd cc
+
+-- lines that are told of as a bundle are not empty, and no lines are more than all
+told_lines : (ls front ks : List (List ℕ)) (told : Given) → split_lines ls ≡ Some (front, told, ks)
+    → (told ≡ given.Bundle → join ks ≢ []) × (length (join ks) ≤ length (join ls))
+told_lines [] front ks told e = absurd cc
+told_lines (l ∷ ls) front ks told e = by (is_mark l) (is_header l) refl e
+  where
+    more : (o : Option Parts) → split_lines ls ≡ o → option_map {U = Parts} (λ (parts : Parts). (l ∷ parts.0, parts.1, parts.2)) o ≡ Some (front, told, ks)
+        → (told ≡ given.Bundle → join ks ≢ []) × (length (join ks) ≤ length (join (l ∷ ls)))
+    more None is e = absurd cc
+    more (Some p) is e =
+        let same : p.1 ≡ told = cc in
+        let rest : p.2 ≡ ks = cc in
+        let both = told_lines ls p.0 p.2 p.1 is in
+        (
+          λ bundled none. both.0 (same ∙ bundled) (ap join rest ∙ none),
+          subst (λ (z : List (List ℕ)). length (join z) ≤ length (join (l ∷ ls))) rest (omega (arith, both.1, length-append l (join ls))),
+        )
+
+    by : (m h : Bool) → is_header l ≡ h → (if m then Some ([], given.Alone, ls) else (if h then Some ([], given.Bundle, l ∷ ls) else option_map {U = Parts} (λ (parts : Parts). (l ∷ parts.0, parts.1, parts.2)) (split_lines ls))) ≡ Some (front, told, ks)
+        → (told ≡ given.Bundle → join ks ≢ []) × (length (join ks) ≤ length (join (l ∷ ls)))
+    by true h is e =
+        let same : given.Alone ≡ told = cc in
+        let rest : ls ≡ ks = cc in
+        (
+          λ bundled none. absurd (let no : given.Alone ≡ given.Bundle = same ∙ bundled in cc),
+          subst (λ (z : List (List ℕ)). length (join z) ≤ length (join (l ∷ ls))) rest (omega (arith, length-append l (join ls))),
+        )
+    by false true is e =
+        let rest : l ∷ ls ≡ ks = cc in
+        (
+          λ bundled none. joined_some l ls (header_some l is) (ap join rest ∙ none),
+          subst (λ (z : List (List ℕ)). length (join z) ≤ length (join (l ∷ ls))) rest (omega arith),
+        )
+    by false false is e = more (split_lines ls) refl e
+
+-- a policy that is told of as a bundle is not empty, and no policy is longer than the input
+pub told_text : ((text : List ℕ) → join (physical_lines text) ≡ text) → (input script text : List ℕ) (form : Given) → split_text input ≡ Some (script, form, text)
+    → (form ≡ given.Bundle → text ≢ []) × (length text ≤ length input)
+told_text pieces input script text form e = by (split_lines (physical_lines input)) refl e
+  where
+    by : (o : Option Parts) → split_lines (physical_lines input) ≡ o
+        → option_map {U = List ℕ × Given × List ℕ} (λ (parts : Parts). (join parts.0, parts.1, join parts.2)) o ≡ Some (script, form, text)
+        → (form ≡ given.Bundle → text ≢ []) × (length text ≤ length input)
+    by None is e = absurd cc
+    by (Some p) is e =
+        let same : p.1 ≡ form = cc in
+        let whole : join p.2 ≡ text = cc in
+        let both = told_lines (physical_lines input) p.0 p.2 p.1 is in
+        (
+          λ bundled none. both.0 (same ∙ bundled) (whole ∙ none),
+          subst (λ (z : List ℕ). length z ≤ length input) whole (subst (λ (z : List ℕ). length (join p.2) ≤ length z) (pieces input) both.1),
+        )

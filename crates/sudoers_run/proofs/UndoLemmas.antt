@@ -4,10 +4,11 @@ use Rattle.std.proofs.lemmas.List.{map-append, length-map}
 use Rattle.std.proofs.Math.Seq.{take-append_seam}
 use Rattle.sudoers_edit_script.specs.declared.edit.Edit.{Edit}
 use Rattle.sudoers_edit.specs.declared.editor.Entry.{Entry}
-use Rattle.sudoers_edit.specs.Editing.{Desk, edits_of}
+use Rattle.sudoers_edit.specs.Editing.{edits_of}
+use Rattle.sudoers_edit.specs.files.Editing.{Desk}
 use Rattle.sudoers_edit.specs.Named.{AreNamed}
-use Rattle.sudoers_edit.specs.Redoing.{MakesAgain, undone_behind}
-use Rattle.sudoers_edit.specs.Undoing.{TakesLast}
+use Rattle.sudoers_edit.specs.files.Redoing.{MakesAgain, undone_behind}
+use Rattle.sudoers_edit.specs.files.Undoing.{TakesLast}
 use Rattle.sudoers_run.specs.Program.{how_many_stand, edits_that_stand}
 
 -- the edits that stand, with the undone ones behind them

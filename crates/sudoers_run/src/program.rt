@@ -127,8 +127,8 @@ fn files_given(alloc: Global, form: Given, text: &[u8]) -> Result<Vec<NamedFile>
 }
 
 /// Returns the list of the file `policy`, which has the bytes `text`.
-fn one_file(alloc: Global, text: &[u8]) -> Result<Vec<NamedFile>, LayerFault>
-    ensures { MatchResult result (λ files. files.items ≡ the_one_file text.now) (λ fault. fault ≡ LayerFault.NoMemory) }
+fn one_file(alloc: Global, text: &[u8]) -> Result<Vec<NamedFile>, AllocError>
+    ensures { IfOk result (λ files. files.items ≡ the_one_file text.now) }
 {
     let mut files = Vec::with_capacity(alloc, 1)?;
     files.push(NamedFile {

@@ -90,6 +90,9 @@ alias_comes l tell policy now g lines number line at k defs s stage before makes
     unused_are : unused_of lines number line ≡ unused
     unused_are = ap (filter (is_unused lines)) in_line
 
+    some_unused : (length unused == 0) ≡ false → 0 < length (unused_of lines number line)
+    some_unused some = subst (λ (xs : List Definition). 0 < length xs) (sym unused_are) (some_of unused some)
+
     here : g f n line ≡ line ∷ []
     here = before n line (omega arith)
 
@@ -105,7 +108,7 @@ alias_comes l tell policy now g lines number line at k defs s stage before makes
         (line_comes l tell policy now g f n line s stage before_too here)
         (λ h p. (
           subst (IsLeftOf lines number line) (sym p.0)
-              (gone (subst (λ (xs : List Definition). 0 < length xs) (sym unused_are) (some_of unused none))
+              (gone (some_unused none)
               (ap length unused_are ∙ eqb-true (length unused) (length ds) e ∙ ap length (sym in_line))),
           p.1,
         ))
@@ -121,7 +124,7 @@ alias_comes l tell policy now g lines number line at k defs s stage before makes
         (removed_all (map (λ (d : Definition). removal.Def at.file at.line d.place.def) (reverse unused)) now)
         (defs_come l tell policy now g f n line (is_unused lines) k number 0 [] defs s stage before_too refl
         (record { cur = line; left = defs; is = here; makes = makes; alike = defs_self defs }) (omega (arith, some)))
-        (λ h p. (subst (IsLeftOf lines number line) (sym p.0.is) (less k defs p.0.left p.0.cur makes p.0.makes p.0.alike), p.1))
+        (λ h p. (subst (IsLeftOf lines number line) (sym p.0.is) (less k defs p.0.left p.0.cur (some_unused none) makes p.0.makes p.0.alike), p.1))
 
 spot_comes : FileLaws → TextsTell → (policy now : Loaded) (g : Mapping) (lines : List Line) (number : ℕ) (line : Line) (at : Spot)
     → load_of (files_of policy) ≡ Ok policy → is_on policy.walk at.file ≡ true → slice_get (lines_of policy.files at.file) at.line ≡ Some line

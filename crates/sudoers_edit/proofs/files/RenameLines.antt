@@ -105,7 +105,7 @@ given_back l k name fresh old new lines says without =
     renamed_texts l.ascend k fresh name (renamed_lines k name fresh lines) (says_renamed l.same (alias_of k name) fresh old new lines says)
     ∙ undone_lines l k name fresh lines says without
 
-not_mentioned : (k : Kind) (fresh : List ℕ) (lines : List Line) → nat_lt 0 (length (mentions k fresh lines)) ≡ false → mentions k fresh lines ≡ []
+pub not_mentioned : (k : Kind) (fresh : List ℕ) (lines : List Line) → nat_lt 0 (length (mentions k fresh lines)) ≡ false → mentions k fresh lines ≡ []
 not_mentioned k fresh lines none = nil_from_length (mentions k fresh lines) (omega (arith, ltb-false 0 (length (mentions k fresh lines)) none))
 
 -- The lines of a walk, an alias that they define, and a free name.

@@ -22,7 +22,7 @@ used_among lines k n defs = map (λ (d : Definition). d.def) (filter (λ d. not 
 pub data IsLeftOf (lines : List Line) (n : ℕ) (line : Line) : List Line → Type 0 where
   kept : unused_of lines n line ≡ [] → IsLeftOf lines n line (line ∷ [])
   gone : 0 < length (unused_of lines n line) → length (unused_of lines n line) ≡ length (definitions_in n line.node) → IsLeftOf lines n line []
-  less : (k : Kind) (defs left : List Def) (new : Line) → line.node ≡ node.Alias k defs → new.node ≡ node.Alias k left
+  less : (k : Kind) (defs left : List Def) (new : Line) → 0 < length (unused_of lines n line) → line.node ≡ node.Alias k defs → new.node ≡ node.Alias k left
       → are_alike is_same_def (used_among lines k n defs) left ≡ true → IsLeftOf lines n line (new ∷ [])
 
 -- The lines `news` are what is left of these lines, the first of which has the number n.

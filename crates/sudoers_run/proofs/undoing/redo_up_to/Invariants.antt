@@ -1,5 +1,5 @@
 use Rattle.std.proofs.Common.{◌≡◌, ◌+◌, length}
-use Rattle.sudoers_edit.specs.Editing.{first_of}
+use Rattle.sudoers_edit.specs.files.Editing.{first_of}
 use Rattle.sudoers_run.proofs.UndoLemmas.{all_edits}
 use Rattle.sudoers_run.proofs.undoing.redo_up_to.Given as goal
 

@@ -1,12 +1,12 @@
-use Rattle.std.proofs.Common.{◌≡◌, ◌∷◌, ◌++◌, ◌+◌, ◌-◌, ◌≤◌, ℕ, List, ap, ◌∙◌, sym, arith, length, drop, take}
+use Rattle.std.proofs.Common.{◌≡◌, ◌∷◌, ◌++◌, ◌+◌, ◌-◌, ◌≤◌, ℕ, List, ap, ◌∙◌, sym, arith, length, drop, take, take-drop, Some}
 use Rattle.std.proofs.lemmas.List.{take_rest, drop-drop, length-drop}
 use Rattle.std.proofs.Math.Seq.{take-add}
 use Rattle.std.specs.Option.{option_map}
-use Rattle.sudoers_text.specs.Line.{join}
+use Rattle.sudoers_run.specs.declared.given.Given.TheVariants as given
 use Rattle.sudoers_edit_script.specs.Physical.{physical_lines}
 use Rattle.sudoers_run.specs.Program.{split_lines}
-use Rattle.sudoers_run.proofs.ProgramLemmas.{split_more, split_found}
-use Rattle.sudoers_run.proofs.program.split_mark.Goals as goal
+use Rattle.sudoers_run.proofs.ProgramLemmas.{parts_after, split_more, mark_found, header_found}
+use Rattle.sudoers_run.proofs.program.split_input.Goals as goal
 
 pub returns-then-is_mark : goal.returns-then-is_mark
 returns-then-is_mark c =
@@ -16,8 +16,24 @@ returns-then-is_mark c =
     let after : List ℕ = c.split_at.result.1.now in
     let tail : take (length input - at) (drop at input) ≡ drop at input = take_rest input at in
     let cut : physical_lines (drop at input) ≡ line ∷ physical_lines after = ap physical_lines (sym tail) ∙ c.first_line_len.ensures.first ∙ ap (λ (z : List ℕ). z ∷ physical_lines (drop c.first_line_len.result (take (length input - at) (drop at input)))) (sym c.split_at.ensures.front) ∙ ap (λ (z : List ℕ). line ∷ physical_lines z) (sym c.split_at.ensures.back) in
-    sym (split_found (take at input) line after (c.physical_lines_join.ensures after) (sym c.if-is_mark.ensures))
-    ∙ ap (λ ls. option_map {U = List ℕ × List ℕ} (λ p. (take at input ++ join p.0, join p.1)) (split_lines ls)) (sym cut)
+    sym (mark_found (take at input) line after (c.physical_lines_join.ensures after) (sym c.if-is_mark.ensures))
+    ∙ ap (λ ls. option_map (parts_after (take at input)) (split_lines ls)) (sym cut)
+    ∙ c.loop-at.invariant.1
+
+pub returns-then-is_header : goal.returns-then-is_header
+returns-then-is_header c =
+    let input : List ℕ = c.args.input.now in
+    let at : ℕ = c.loop-at.at in
+    let line : List ℕ = c.split_at.result.0.now in
+    let after : List ℕ = c.split_at.result.1.now in
+    let n : ℕ = c.first_line_len.result in
+    let tail : take (length input - at) (drop at input) ≡ drop at input = take_rest input at in
+    let cut : physical_lines (drop at input) ≡ line ∷ physical_lines after = ap physical_lines (sym tail) ∙ c.first_line_len.ensures.first ∙ ap (λ (z : List ℕ). z ∷ physical_lines (drop n (take (length input - at) (drop at input)))) (sym c.split_at.ensures.front) ∙ ap (λ (z : List ℕ). line ∷ physical_lines z) (sym c.split_at.ensures.back) in
+    let whole : line ++ after ≡ take (length input - at) (drop at input) =
+    ap (λ (z : List ℕ). z ++ after) c.split_at.ensures.front ∙ ap (λ (z : List ℕ). take n (take (length input - at) (drop at input)) ++ z) c.split_at.ensures.back ∙ take-drop n (take (length input - at) (drop at input)) in
+    sym (header_found (take at input) line after (c.physical_lines_join.ensures after) (sym c.if-is_mark.ensures) (sym c.if-is_header.ensures)
+    ∙ ap (λ (z : List ℕ). Some (take at input, given.Bundle, z)) whole)
+    ∙ ap (λ ls. option_map (parts_after (take at input)) (split_lines ls)) (sym cut)
     ∙ c.loop-at.invariant.1
 
 pub loop-at-preserved : goal.loop-at-preserved
@@ -35,8 +51,8 @@ loop-at-preserved c =
     let left : drop (at + length line) input ≡ after = sym (drop-drop (length line) at input) ∙ ap (λ k. drop k (drop at input)) long ∙ ap (drop n) (sym tail) ∙ sym c.split_at.ensures.back in
     let within : at + length line ≤ length input = omega (arith, ap length tail, length-drop at input, c.first_line_len.ensures.within, c.loop-at.invariant.0) in (
       within,
-      ap (λ (z : List ℕ). option_map {U = List ℕ × List ℕ} (λ p. (take (at + length line) input ++ join p.0, join p.1)) (split_lines (physical_lines z))) left
-          ∙ split_more (take at input) (take (at + length line) input) line (physical_lines after) later (sym c.if-is_mark.ensures)
-          ∙ ap (λ ls. option_map {U = List ℕ × List ℕ} (λ p. (take at input ++ join p.0, join p.1)) (split_lines ls)) (sym cut)
+      ap (λ (z : List ℕ). option_map (parts_after (take (at + length line) input)) (split_lines (physical_lines z))) left
+          ∙ split_more (take at input) (take (at + length line) input) line (physical_lines after) later (sym c.if-is_mark.ensures) (sym c.if-is_header.ensures)
+          ∙ ap (λ ls. option_map (parts_after (take at input)) (split_lines ls)) (sym cut)
           ∙ c.loop-at.invariant.1,
     )
