@@ -5,7 +5,7 @@ use clap::{Arg, ArgMatches, Command};
 use std::alloc::{AllocError, Global};
 use std::io::Read;
 use sudoers_bundle::append_bundle;
-use sudoers_files::{FileFault, Files, GatherFault};
+use sudoers_files::{Files, GatherFault};
 use sudoers_run::{Counted, LayerFault, ToolFault, run_edit};
 use sudoers_tree::{Items, NamedFile};
 
@@ -105,22 +105,34 @@ fn edit_files(
 
 /// Returns the bundle of the files that `words` name.
 fn bundle_of(rt: &HostRuntime, words: &ArgMatches<'_>) -> Result<Vec<u8>, ToolFault> {
-    let mut disk = disk(rt, words)?;
-    let mut files = Vec::new(rt.alloc());
+    let mut bundle = Vec::new(rt.alloc());
     if let Some(names) = words.get_strs("FILE") {
-        for name in names {
-            // A bundle cannot hold such a name.
-            if name.contains('\n') {
-                return Err(ToolFault::BadBundle {
-                    file: files.len() + 1,
-                });
-            }
-            files.push(named_file(rt.alloc(), &mut disk, name.as_bytes())?)?;
+        let files = named_files(rt.alloc(), &mut disk(rt, words)?, names)?;
+        append_bundle(rt.alloc(), &mut bundle, files.as_slice())?;
+    }
+    Ok(bundle)
+}
+
+/// Returns the files `names` of `files`.
+fn named_files<F: Files>(
+    alloc: Global,
+    files: &mut F,
+    names: &[&str],
+) -> Result<Vec<NamedFile>, ToolFault> {
+    let mut named = Vec::with_capacity(alloc, names.len())?;
+    for name in names {
+        // A bundle cannot hold such a name.
+        if name.contains('\n') {
+            return Err(ToolFault::BadBundle {
+                file: named.len() + 1,
+            });
+        }
+        let file = named_file(alloc, files, name.as_bytes())?;
+        if named.push(file).is_err() {
+            return Err(ToolFault::from(AllocError));
         }
     }
-    let mut bundle = Vec::new(rt.alloc());
-    append_bundle(rt.alloc(), &mut bundle, files.as_slice())?;
-    Ok(bundle)
+    Ok(named)
 }
 
 /// Returns the file `name` of `files`.
