@@ -1,5 +1,5 @@
-use Rattle.std.proofs.Common.{◌≡◌, ◌∷◌, ◌++◌, ◌+◌, ◌-◌, ◌≤◌, ℕ, List, ap, ◌∙◌, sym, arith, length, drop, take, take-drop, Some}
-use Rattle.std.proofs.lemmas.List.{take_rest, drop-drop, length-drop}
+use Rattle.std.proofs.Common.{◌≡◌, ◌∷◌, ◌++◌, ◌+◌, ◌-◌, ◌≤◌, ℕ, List, ap, ◌∙◌, sym, arith, length, drop, take, Some}
+use Rattle.std.proofs.lemmas.List.{take_rest, drop-drop, length-drop, take-append-drop}
 use Rattle.std.proofs.Math.Seq.{take-add}
 use Rattle.std.specs.Option.{option_map}
 use Rattle.sudoers_run.specs.declared.given.Given.TheVariants as given
@@ -30,7 +30,7 @@ returns-then-is_header c =
     let tail : take (length input - at) (drop at input) ≡ drop at input = take_rest input at in
     let cut : physical_lines (drop at input) ≡ line ∷ physical_lines after = ap physical_lines (sym tail) ∙ c.first_line_len.ensures.first ∙ ap (λ (z : List ℕ). z ∷ physical_lines (drop n (take (length input - at) (drop at input)))) (sym c.split_at.ensures.front) ∙ ap (λ (z : List ℕ). line ∷ physical_lines z) (sym c.split_at.ensures.back) in
     let whole : line ++ after ≡ take (length input - at) (drop at input) =
-    ap (λ (z : List ℕ). z ++ after) c.split_at.ensures.front ∙ ap (λ (z : List ℕ). take n (take (length input - at) (drop at input)) ++ z) c.split_at.ensures.back ∙ take-drop n (take (length input - at) (drop at input)) in
+    ap (λ (z : List ℕ). z ++ after) c.split_at.ensures.front ∙ ap (λ (z : List ℕ). take n (take (length input - at) (drop at input)) ++ z) c.split_at.ensures.back ∙ take-append-drop n (take (length input - at) (drop at input)) in
     sym (header_found (take at input) line after (c.physical_lines_join.ensures after) (sym c.if-is_mark.ensures) (sym c.if-is_header.ensures)
     ∙ ap (λ (z : List ℕ). Some (take at input, given.Bundle, z)) whole)
     ∙ ap (λ ls. option_map (parts_after (take at input)) (split_lines ls)) (sym cut)
