@@ -131,8 +131,14 @@ ROWS = (
     (("show", "--root", "s"), (FOLDER,)),
     (("show", "--root", "sub", "s"), (FOLDER,)),
     (("show", "policy", "w"), ()),
-    (("edit", ""), ()),
-    (("edit", "-"), ("-h", "--help", "--redo", "--undo")),
+    (("edit", ""), ALL_FILES),
+    (("edit", "-"), ("--files", "-h", "--help", "--redo", "--undo")),
+    (("edit", "--f"), ("--files",)),
+    (("edit", "--files", ""), ALL_FILES),
+    (("edit", "--files", "p"), ("policy",)),
+    (("edit", "--files=w"), ("web team",)),
+    (("edit", "--files", "policy", ""), ALL_FILES),
+    (("edit", "--files", "policy", "policy", "w"), ("web team",)),
     (("edit", "--r"), ("--redo",)),
     (("edit", "--undo", ""), ()),
     (("edit", "--undo", "1", "--r"), ("--redo",)),
@@ -148,7 +154,6 @@ ZSH_ROWS = {
         *("-e", "--expand-aliases", "-h", "--help"),
         *("-m", "--match", "-p", "--prune-matches", "--root"),
     ),
-    ("edit", ""): ("-h", "--help", "--redo", "--undo"),
 }
 
 
@@ -307,7 +312,7 @@ def run_lists(program, tally):
     tally.note("completed commands", difference("commands", commands_of_help(whole), set(COMMANDS)))
     options = dict(ROWS)
     wanted = {name: set(options[name, "-"]) for name in ("check", "convert", "list")}
-    wanted |= {"edit": {"-h", "--help", "--redo", "--undo"}, "show": {"-h", "--help", "--root"}}
+    wanted |= {"edit": {"--files", "-h", "--help", "--redo", "--undo"}, "show": {"-h", "--help", "--root"}}
     tally.note("completed options", difference("options", options_of_help(whole), set(options[("-",)])))
     for name, text in each.items():
         tally.note(f"completed options of {name}", difference("options", options_of_help(text), wanted.get(name)))

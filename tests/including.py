@@ -3,7 +3,7 @@
 A row of PRINTED has a name, the files of a folder, words, and what they print on standard output, with the exit status.
 The program runs in that folder. A row of ERRORS has the text of an error of a policy, whose first file is `main`: `check`
 prints it on standard output, and the other commands on standard error. A row of RUN_ERRORS has an error of the run, which
-all of them print on standard error.
+all of them print on standard error. A row of EDITS has what `edit --files` answers.
 """
 
 import os
@@ -301,6 +301,33 @@ STREAMS = (
     ("", "%%\n@includedir d\nbob ALL = SH\n", Wanted(b"%%\n@includedir d\nbob ALL = SH\n")),
 )
 
+# `edit` of files: the script `s`, the files of a policy, words, and what comes.
+LATE = {"s": "insert 1\n|# first\nfile 2\ndelete 1\n", "a": "@include b\nUser_Alias A = x\n", "b": "# gone\nA ALL=ALL\n"}
+EDITED = b"file 2\ninsert 1\n|# gone\nfile 1\ndelete 1\n%% 36 a\n# first\n@include b\nUser_Alias A = x\n%% 10 b\nA ALL=ALL\n"
+ONE_EDIT = b"delete 1\n%% 36 a\n# first\n@include b\nUser_Alias A = x\n%% 17 b\n# gone\nA ALL=ALL\n"
+EDITS = (
+    ("script_of_two_files", LATE, "edit --files s a b", Wanted(EDITED)),
+    ("files_before_the_script", LATE, "edit a b --files s", Wanted(EDITED)),
+    ("last_edit_taken_back", LATE, "edit --undo 1 --files=s a b", Wanted(ONE_EDIT)),
+    ("included_file_that_is_not_named", LATE, "edit --files s a", fault("a:1:1: include b not loaded")),
+    ("file_that_is_named_twice", LATE, "edit --files s a b a", fault("SameName")),
+    ("file_that_is_not_there", LATE, "edit --files s a c", fault("NoRoot")),
+    ("file_that_is_a_folder", {**LATE, "c/d": ""}, "edit --files s a c", fault("Failed")),
+    ("script_that_is_not_there", LATE, "edit --files t a b", fault("Read")),
+    ("script_that_is_no_script", {**LATE, "s": "erase\n"}, "edit --files s a b", fault("script:1: BadWord")),
+    ("edit_of_a_third_file", {**LATE, "s": "file 3\ndelete 1\n"}, "edit --files s a b", fault("edit 1: NoFile")),
+    (
+        "edit_that_leaves_no_policy",
+        {**LATE, "s": "file 2\ninsert 1\n|bob ALL\n"},
+        "edit --files s a b",
+        fault("edit 1: NotPolicy: b:1:8: syntax error: EndOfLine"),
+    ),
+    ("name_with_a_line_end", {**LATE, "s": "", "b\nc": ""}, "edit --files s a b\nc", fault("BadBundle")),
+    ("script_without_a_line_end", {**LATE, "s": "prune"}, "edit --files s a b", fault("script:1: BadWord")),
+    ("policy_that_is_too_large", {"s": "", "a": "#" * 1_048_577}, "edit --files s a", fault("a: TooLarge")),
+    ("input_that_is_too_large", {"s": "#" * 4_000_000, "a": ""}, "edit --files s a", fault("InputTooLarge")),
+)
+
 COMMANDS = ("show", "convert -f sudoers", "convert -f json -e", f"{ASKED} bob", f"{ASKED} bob --why")
 
 
@@ -419,6 +446,9 @@ def run_all(program, tally):
     for name, files, text in RUN_ERRORS:
         with Folder(files) as folder:
             run_failure(stand, name, folder, text)
+    for name, files, words, wanted in EDITS:
+        with Folder(files) as folder:
+            stand.note(name, words, wanted, folder)
     for words, stdin, wanted in STREAMS:
         with Folder({"main": SH, "d/a": SH}) as folder:
             stand.note(repr(stdin), words, wanted, folder, stdin.encode())

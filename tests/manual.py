@@ -62,9 +62,6 @@ TERMS = (
 )
 CARRIED = "ERROR"
 
-# The text that no command prints, because no two files that are gathered have one name.
-NOT_PRINTED = {"SameName"}
-
 # The files that PEOPLE stands for in a text.
 PEOPLE = ("passwd", "group")
 
@@ -238,7 +235,7 @@ def run_errors(tally):
     named = sorted((name, variant) for name, names in declared.items() for variant in names)
     tally.note("manual page, variants", difference("variants", named, sorted(known)))
     printed = Counter(text.replace("PEOPLE", file) for text in known.values() for file in PEOPLE[: 1 + ("PEOPLE" in text)])
-    wanted = set(printed) - {CARRIED} - NOT_PRINTED | set(notes())
+    wanted = set(printed) - {CARRIED} | set(notes())
     items = [line[len(".It ") :].replace('"', "") for line in section("DIAGNOSTICS") if line.startswith(".It ")]
     problems = [f"{item!r} is missing" for item in sorted(wanted - set(items))]
     problems += [f"nothing prints {item!r}" for item in sorted(set(items) - wanted)]

@@ -17,7 +17,7 @@ function __sudoers_tool_plain_words
             contains -- "$plain[1]" check convert list show; and test $word = --root; and set option $word
             contains -- convert $plain; and contains -- $word -f --form -m --match; and set option $word
             contains -- list $plain; and contains -- $word -U --other-user -u --user -g --group; and set option $word
-            contains -- edit $plain; and contains -- $word --undo --redo; and set option $word
+            contains -- edit $plain; and contains -- $word --files --undo --redo; and set option $word
             contains -- list $plain; and contains -- $word --passwd --group-file --host --moment --interfaces; and set option $word
         else
             set -a plain $word
@@ -39,6 +39,12 @@ end
 function __sudoers_tool_word_of_list
     set -l plain (__sudoers_tool_plain_words); or return 1
     test (count $plain) -ge 2; and test $plain[1] = list
+end
+
+# Succeeds if the next word is an argument of edit.
+function __sudoers_tool_argument_of_edit
+    set -l plain (__sudoers_tool_plain_words); or return 1
+    test (count $plain) -ge 1; and test $plain[1] = edit
 end
 
 # Succeeds if the next word may be an option of list, or the value of one.
@@ -90,6 +96,7 @@ complete -c sudoers_tool -n '__fish_seen_subcommand_from convert' -s e -l expand
 complete -c sudoers_tool -n '__fish_seen_subcommand_from convert' -s f -l form -x -a 'json sudoers' -d 'Form of the output: sudoers or json'
 complete -c sudoers_tool -n '__fish_seen_subcommand_from convert' -s m -l match -x -a '(__sudoers_tool_filter)' -d 'Print only rules for some users, groups and hosts'
 complete -c sudoers_tool -n '__fish_seen_subcommand_from convert' -s p -l prune-matches -d 'With -m, drop other users and hosts from the lists'
+complete -c sudoers_tool -n '__fish_seen_subcommand_from edit' -l files -r -F -d 'Script for the files of the command line'
 complete -c sudoers_tool -n '__fish_seen_subcommand_from edit' -l undo -x -d 'Number of edits to take back after the script'
 complete -c sudoers_tool -n '__fish_seen_subcommand_from edit' -l redo -x -d 'Number of these edits to make again'
 complete -c sudoers_tool -n __sudoers_tool_option_of_list -s U -l other-user -x -a '(__fish_complete_users)' -d 'User who would run the command'
@@ -104,5 +111,6 @@ complete -c sudoers_tool -n __sudoers_tool_option_of_list -l why -d 'Print the r
 complete -c sudoers_tool -n '__fish_seen_subcommand_from check convert show' -l root -x -a '(__fish_complete_directories)' -d 'Folder below which names that begin with / are read'
 complete -c sudoers_tool -n __sudoers_tool_option_of_list -l root -x -a '(__fish_complete_directories)' -d 'Folder below which names that begin with / are read'
 complete -c sudoers_tool -n '__sudoers_tool_argument_of check convert list show' -F
+complete -c sudoers_tool -n __sudoers_tool_argument_of_edit -F
 complete -c sudoers_tool -n __sudoers_tool_word_of_list -F
 complete -c sudoers_tool -n '__sudoers_tool_argument_of help' -a 'check convert edit list show'

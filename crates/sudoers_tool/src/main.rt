@@ -1,9 +1,11 @@
 //! A tool for sudoers policies whose promises are proved.
 #![tactic(auto)]
 
+mod editing;
 mod files;
 mod listing;
 
+use crate::editing::{EDIT, edit_policy, edit_stream, edit_words};
 use crate::files::{STDIN, disk};
 use crate::listing::{list_file, list_words};
 use clap::error::ErrorKind;
@@ -14,21 +16,8 @@ use std::io::Write;
 use std::process::ExitCode;
 use sudoers_files::FileOfStream;
 use sudoers_run::{
-    CheckWords, ConvertWords, Counted, Form, ToolFault, fault_text, run_check, run_convert,
-    run_edit, run_show,
+    CheckWords, ConvertWords, Counted, Form, ToolFault, fault_text, run_check, run_convert, run_show,
 };
-
-/// The policy's name in the texts of the faults of `edit`.
-const POLICY: &str = "policy";
-
-/// The command that reads no policy file.
-const EDIT: &str = "edit";
-
-/// The option that says how many edits to take back.
-const UNDO: &str = "undo";
-
-/// The option that says how many of these to make again.
-const REDO: &str = "redo";
 
 /// The forms in which `convert` prints.
 static FORMS: [&str; 2] = ["sudoers", "json"];
@@ -45,7 +34,7 @@ const EXIT_STATUS: &str =
 fn main(rt: HostRuntime) -> ExitCode {
     match run(&rt) {
         Ok(code) => code,
-        Err(fault) => told(&rt, &fault, POLICY),
+        Err(fault) => told(&rt, &fault),
     }
 }
 
@@ -74,19 +63,11 @@ fn obey(rt: &HostRuntime, matches: &ArgMatches<'_>) -> ExitCode {
     match matches.subcommand() {
         Some((name, words)) if name != EDIT => {
             let file = words.get_str("FILE").unwrap_or(STDIN);
-            ended(rt, file, run_on_file(rt, name, file, words))
+            ended(rt, run_on_file(rt, name, file, words))
         }
-        Some((_, words)) => {
-            let (undo, redo) = (number_of(words, UNDO), number_of(words, REDO));
-            ended(rt, POLICY, edit_streams(rt, undo, redo))
-        }
-        None => ended(rt, POLICY, edit_streams(rt, 0, 0)),
+        Some((_, words)) => ended(rt, edit_policy(rt, words)),
+        None => ended(rt, edit_stream(rt, rt.stdin(), 0, 0)),
     }
-}
-
-/// Returns the number that `words` gives for the option `name`, or 0.
-fn number_of(words: &ArgMatches<'_>, name: &str) -> u32 {
-    words.get_one::<u32>(name).unwrap_or(0)
 }
 
 /// Runs the command `name`, which reads a policy file.
@@ -105,33 +86,11 @@ fn run_on_file(
 }
 
 /// Returns the exit status of a command that ended so, and prints its error.
-fn ended(rt: &HostRuntime, file: &str, outcome: Result<u8, ToolFault>) -> ExitCode {
+fn ended(rt: &HostRuntime, outcome: Result<u8, ToolFault>) -> ExitCode {
     match outcome {
         Ok(status) => ExitCode::from(status),
-        Err(fault) => told(rt, &fault, file),
+        Err(fault) => told(rt, &fault),
     }
-}
-
-/// Returns the command line of `edit`.
-fn edit_words<'a>(alloc: Global) -> Result<Command<'a>, AllocError> {
-    let undo = number_word(alloc, UNDO).help(
-        "After the script, take back up to N of its edits, the last first",
-    );
-    let redo = number_word(alloc, REDO).help("Then make up to N of these edits again");
-    Command::new(alloc, EDIT)
-        .about(
-            "Apply an edit script to a policy. Read SCRIPT, `%%`, POLICY on standard input; write UNDO, `%%`, POLICY. UNDO fits that POLICY only. EDIT SCRIPTS of sudoers_tool(8) has the commands",
-        )
-        .arg(undo)?
-        .arg(redo)
-}
-
-/// Returns the option `name`, whose value is a number of edits.
-fn number_word<'a>(alloc: Global, name: &'a str) -> Arg<'a> {
-    Arg::new(alloc, name)
-        .long(name)
-        .value_name("N")
-        .value_parser(clap::value_parser!(u32))
 }
 
 /// Returns the command line of `show`.
@@ -259,13 +218,6 @@ fn show_usage(rt: &HostRuntime, error: &Error) -> Result<ExitCode, ToolFault> {
     }
 }
 
-/// Edits the policy on standard input, takes back up to `undo` edits and makes up to `redo` of these again. Writes to standard output.
-fn edit_streams(rt: &HostRuntime, undo: u32, redo: u32) -> Result<u8, ToolFault> {
-    let mut reader = Counted::new(rt.stdin());
-    let mut writer = Counted::new(rt.stdout());
-    run_edit(rt.alloc(), &mut reader, undo, redo, &mut writer)
-}
-
 /// Shows a policy, or standard input.
 fn show_file(rt: &HostRuntime, file: &str, words: &ArgMatches<'_>) -> Result<u8, ToolFault> {
     let mut writer = Counted::new(rt.stdout());
@@ -327,14 +279,14 @@ fn check_file(rt: &HostRuntime, file: &str, words: &ArgMatches<'_>) -> Result<u8
 }
 
 /// Prints an error, and returns exit status 1.
-fn told(rt: &HostRuntime, fault: &ToolFault, file: &str) -> ExitCode {
-    let _ = tell(rt, fault, file);
+fn told(rt: &HostRuntime, fault: &ToolFault) -> ExitCode {
+    let _ = tell(rt, fault);
     ExitCode::from(1)
 }
 
 /// Writes the text of an error to standard error, or nothing if memory runs out.
-fn tell(rt: &HostRuntime, fault: &ToolFault, file: &str) -> io::Result<()> {
-    let text = fault_text(rt.alloc(), fault, file.as_bytes())?;
+fn tell(rt: &HostRuntime, fault: &ToolFault) -> io::Result<()> {
+    let text = fault_text(rt.alloc(), fault)?;
     let mut message = Vec::from_slice(rt.alloc(), b"sudoers_tool: ")?;
     message.extend_from_slice(text.as_slice())?;
     message.extend_from_slice(b"\n")?;

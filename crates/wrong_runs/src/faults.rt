@@ -6,13 +6,13 @@ ghost use Rattle.sudoers_run.specs.FaultText.{text_of_tool};
 use std::alloc::{AllocError, Global};
 use sudoers_run::{ToolFault, fault_text};
 
-/// Returns the text of `fault`. The policy has the name `file` in it.
+/// Returns the text of `fault`.
 ///
 /// # Errors
 ///
 /// Memory ran out.
-pub fn text_of_fault(alloc: Global, fault: &ToolFault, file: &[u8]) -> Result<Vec<u8>, AllocError>
-    ensures { IfOk result (λ text. text.items ≡ text_of_tool fault.now file.now) }
+pub fn text_of_fault(alloc: Global, fault: &ToolFault) -> Result<Vec<u8>, AllocError>
+    ensures { IfOk result (λ text. text.items ≡ text_of_tool fault.now) }
 {
-    fault_text(alloc, fault, file)
+    fault_text(alloc, fault)
 }
