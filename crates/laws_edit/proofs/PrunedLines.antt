@@ -154,7 +154,7 @@ module _ (policy : List Line) (law : UnusedLaw) (uses : UsedLaw) where
       none_there : (says : Node) → line.node ≡ says → definitions_in n says ≡ [] → IsLeft (line ∷ rest) others
       none_there says is none =
           let count : length (filter (is_unused policy) (definitions_in n line.node)) ≡ 0 =
-              ap (λ (m : Node). length (filter (is_unused policy) (definitions_in n m))) is ∙ ap (λ ds. length (filter (is_unused policy) ds)) none in
+          ap (λ (m : Node). length (filter (is_unused policy) (definitions_in n m))) is ∙ ap (λ ds. length (filter (is_unused policy) ds)) none in
           absurd (omega (arith, some, count))
 
       by_node : (says : Node) → line.node ≡ says → IsLeft (line ∷ rest) others

@@ -29,7 +29,7 @@ pub may_rename : (k : Kind) (name fresh : List ℕ) (policy new : Loaded) → st
 unfolding rename
 may_rename k name fresh policy new is =
     let long : Result Loaded EditFault =
-        refuse_if (list_any is_too_long (renamed k name fresh policy.walk.lines)) TooLarge (policy_or_refusal (renamed_files k name fresh policy)) in
+    refuse_if (list_any is_too_long (renamed k name fresh policy.walk.lines)) TooLarge (policy_or_refusal (renamed_files k name fresh policy)) in
     let taken : Result Loaded EditFault = refuse_if (is_taken k fresh policy.walk.lines) NameTaken long in
     let bad : Result Loaded EditFault = refuse_if (not (is_name fresh) || is_reserved fresh) BadName taken in
     let a = not_refused (not (is_some (place_of k name policy.walk.lines))) NoAlias bad new is in

@@ -148,12 +148,14 @@ held_named [] (o ∷ others) same held short = absurd cc
 held_named (file ∷ files) [] same held short = absurd cc
 held_named (file ∷ files) (o ∷ others) same held short =
     let name : o.name ≡ file.name = cc in
-    let rest : names_in others ≡ names_in files = cc in
-    (record {
-      named = λ none. held.0.named (sym name ∙ none);
-      line = ap (λ (n : List ℕ). list_any (λ b. b == 10) n) name ∙ held.0.line;
-      short = omega (arith, short.0);
-    }, held_named files others rest held.1 short.1)
+    let rest : names_in others ≡ names_in files = cc in (
+      record {
+        named = λ none. held.0.named (sym name ∙ none);
+        line = ap (λ (n : List ℕ). list_any (λ b. b == 10) n) name ∙ held.0.line;
+        short = omega (arith, short.0);
+      },
+      held_named files others rest held.1 short.1,
+    )
 
 -- what can be given, can be given after edits that keep its names
 given_named : (form : Given) (files others : List NamedFile) → CanBeGiven form files → names_in others ≡ names_in files
@@ -270,12 +272,12 @@ writes l edits form files policy new can few may read ran least short =
     let split = split_given l edits can form files may in
     let gives : output_text form inverse new ≡ Ok out = rw (le-ltb edit_limit (length inverse) least) refl in
     let last : edited_output form 0 0 edits policy ≡ Ok out =
-        ap (λ r. by_edit r >>= (λ _. output_of_edits form (edits_that_stand 0 0 edits) policy)) ran
-        ∙ ap (λ stood. output_of_edits form stood policy) (all_stand edits)
-        ∙ ap (λ r. by_edit r >>= output_text form inverse) ran ∙ gives in
+    ap (λ r. by_edit r >>= (λ _. output_of_edits form (edits_that_stand 0 0 edits) policy)) ran
+    ∙ ap (λ stood. output_of_edits form stood policy) (all_stand edits)
+    ∙ ap (λ r. by_edit r >>= output_text form inverse) ran ∙ gives in
     let mid : edit_output form 0 0 (spelling edits) files ≡ Ok out =
-        ap (λ r. by_script r >>= (λ edits. by_load (load_of files) >>= edited_output form 0 0 edits)) (l.reads edits can few)
-        ∙ ap (λ r. by_load r >>= edited_output form 0 0 edits) read ∙ last in
+    ap (λ r. by_script r >>= (λ edits. by_load (load_of files) >>= edited_output form 0 0 edits)) (l.reads edits can few)
+    ∙ ap (λ r. by_load r >>= edited_output form 0 0 edits) read ∙ last in
     rw (le-ltb input_limit (length (spelling edits ++ given_back form files)) short)
     (ap (of_parts 0 0) split
     ∙ ap (of_given (λ fs. by_layer (edit_output form 0 0 (spelling edits) fs))) (given_again l form files may)
@@ -298,11 +300,11 @@ leads_back l undo redo input out e short =
     let least : length second ≤ edit_limit = omega (arith, l.count w.edits w.policy w.new, w.few) in
     let names : names_in (files_of w.new) ≡ names_in w.files = l.names w.edits w.policy w.new w.ran ∙ ap names_in (l.bytes w.files w.policy w.read) in
     let may : CanBeGiven w.form (files_of w.new) =
-        given_named w.form w.files (files_of w.new) were.can names (short_each w.new.files (l.fit w.new taken.loaded)) in
+    given_named w.form w.files (files_of w.new) were.can names (short_each w.new.files (l.fit w.new taken.loaded)) in
     let size : length (spelling inverse ++ given_back w.form (files_of w.new)) ≤ input_limit = subst (λ (z : List ℕ). length z ≤ input_limit) (sym w.is) short in
     let back : List ℕ = spelling second ++ given_back w.form (files_of w.policy) in
     let next : output_of 0 0 out ≡ Ok back =
-        ap (output_of 0 0) (sym w.is) ∙ writes l inverse w.form (files_of w.new) w.new w.policy able w.few may taken.loaded taken.back least size in
+    ap (output_of 0 0) (sym w.is) ∙ writes l inverse w.form (files_of w.new) w.new w.policy able w.few may taken.loaded taken.back least size in
     let first : CanBeGiven w.form (files_of w.policy) = subst (CanBeGiven w.form) (sym (l.bytes w.files w.policy w.read)) were.can in
     let split : split_text back ≡ Some (spelling second, w.form, body w.form (files_of w.policy)) = split_given l second fits w.form (files_of w.policy) first in
     let same : body w.form (files_of w.policy) ≡ w.text = ap (body w.form) (l.bytes w.files w.policy w.read) ∙ were.is in

@@ -64,7 +64,7 @@ split_behind : ((text : List ℕ) → join (physical_lines text) ≡ text) → (
     → split_text (script ++ rest) ≡ Some (script, told, policy)
 split_behind pieces script rest policy told ks before plain is whole =
     let cut : split_lines (physical_lines (script ++ rest)) ≡ Some (physical_lines script, told, ks) =
-        ap split_lines (before rest) ∙ first_told (physical_lines script) (physical_lines rest) told ks plain is in
+    ap split_lines (before rest) ∙ first_told (physical_lines script) (physical_lines rest) told ks plain is in
     ap (option_map {U = List ℕ × Given × List ℕ} (λ (parts : Parts). (join parts.0, parts.1, join parts.2))) cut
     ∙ ap₂ (λ (x y : List ℕ). Some (x, told, y)) (pieces script) whole
 
@@ -120,9 +120,9 @@ split_at_bundle pieces script file files held before plain =
     whole =
         append_assoc (header file) file.bytes (bundle files)
         ∙ ap (λ (t : List ℕ). codes "%% " ++ t)
-          (append_assoc (decimal n) (32 ∷ (file.name ++ 10 ∷ [])) (file.bytes ++ bundle files)
-          ∙ ap (λ (t : List ℕ). decimal n ++ 32 ∷ t) (append_assoc file.name (10 ∷ []) (file.bytes ++ bundle files))
-          ∙ sym (append_assoc (decimal n) (32 ∷ file.name) (10 ∷ (file.bytes ++ bundle files))))
+        (append_assoc (decimal n) (32 ∷ (file.name ++ 10 ∷ [])) (file.bytes ++ bundle files)
+        ∙ ap (λ (t : List ℕ). decimal n ++ 32 ∷ t) (append_assoc file.name (10 ∷ []) (file.bytes ++ bundle files))
+        ∙ sym (append_assoc (decimal n) (32 ∷ file.name) (10 ∷ (file.bytes ++ bundle files))))
 
     lines : physical_lines (bundle (file ∷ files)) ≡ (front ++ 10 ∷ []) ∷ physical_lines (file.bytes ++ bundle files)
     lines = ap physical_lines whole ∙ first_line front (file.bytes ++ bundle files) lacks
@@ -153,8 +153,7 @@ told_lines (l ∷ ls) front ks told e = by (is_mark l) (is_header l) refl e
     more (Some p) is e =
         let same : p.1 ≡ told = cc in
         let rest : p.2 ≡ ks = cc in
-        let both = told_lines ls p.0 p.2 p.1 is in
-        (
+        let both = told_lines ls p.0 p.2 p.1 is in (
           λ bundled none. both.0 (same ∙ bundled) (ap join rest ∙ none),
           subst (λ (z : List (List ℕ)). length (join z) ≤ length (join (l ∷ ls))) rest (omega (arith, both.1, length-append l (join ls))),
         )
@@ -163,14 +162,12 @@ told_lines (l ∷ ls) front ks told e = by (is_mark l) (is_header l) refl e
         → (told ≡ given.Bundle → join ks ≢ []) × (length (join ks) ≤ length (join (l ∷ ls)))
     by true h is e =
         let same : given.Alone ≡ told = cc in
-        let rest : ls ≡ ks = cc in
-        (
+        let rest : ls ≡ ks = cc in (
           λ bundled none. absurd (let no : given.Alone ≡ given.Bundle = same ∙ bundled in cc),
           subst (λ (z : List (List ℕ)). length (join z) ≤ length (join (l ∷ ls))) rest (omega (arith, length-append l (join ls))),
         )
     by false true is e =
-        let rest : l ∷ ls ≡ ks = cc in
-        (
+        let rest : l ∷ ls ≡ ks = cc in (
           λ bundled none. joined_some l ls (header_some l is) (ap join rest ∙ none),
           subst (λ (z : List (List ℕ)). length (join z) ≤ length (join (l ∷ ls))) rest (omega arith),
         )
@@ -188,8 +185,7 @@ told_text pieces input script text form e = by (split_lines (physical_lines inpu
     by (Some p) is e =
         let same : p.1 ≡ form = cc in
         let whole : join p.2 ≡ text = cc in
-        let both = told_lines (physical_lines input) p.0 p.2 p.1 is in
-        (
+        let both = told_lines (physical_lines input) p.0 p.2 p.1 is in (
           λ bundled none. both.0 (same ∙ bundled) (whole ∙ none),
           subst (λ (z : List ℕ). length z ≤ length input) whole (subst (λ (z : List ℕ). length (join p.2) ≤ length z) (pieces input) both.1),
         )

@@ -101,21 +101,21 @@ first_parts : (line bytes : List ℕ) (found : Found) → list_any (λ c. c == 1
 first_parts line bytes found lacks mark h =
     let spelled : decimal (length found.0.bytes) ≡ h.word = ap decimal h.file.size ∙ h.is.spelled in
     let parts : line ≡ codes "%% " ++ (h.word ++ 32 ∷ h.name) =
-        sym (take-append-drop 3 line) ∙ ap (λ (t : List ℕ). t ++ drop 3 line) mark ∙ ap (λ (t : List ℕ). codes "%% " ++ t) h.whole in
+    sym (take-append-drop 3 line) ∙ ap (λ (t : List ℕ). t ++ drop 3 line) mark ∙ ap (λ (t : List ℕ). codes "%% " ++ t) h.whole in
     record {
       whole =
-        ap (λ (t : List ℕ). t ++ 10 ∷ bytes) parts
-        ∙ ap (λ (t : List ℕ). codes "%% " ++ t) (append_assoc h.word (32 ∷ h.name) (10 ∷ bytes))
-        ∙ ap (λ (t : List ℕ). codes "%% " ++ (h.word ++ (32 ∷ (h.name ++ 10 ∷ t)))) h.file.whole
-        ∙ ap (λ (t : List ℕ). codes "%% " ++ (t ++ (32 ∷ (h.name ++ 10 ∷ (found.0.bytes ++ found.1))))) (sym spelled)
-        ∙ ap (λ (t : List ℕ). codes "%% " ++ (decimal (length found.0.bytes) ++ (32 ∷ (t ++ 10 ∷ (found.0.bytes ++ found.1))))) (sym h.file.same)
-        ∙ sym (flat found.0 (found.0.bytes ++ found.1))
-        ∙ sym (append_assoc (header found.0) found.0.bytes found.1);
+          ap (λ (t : List ℕ). t ++ 10 ∷ bytes) parts
+          ∙ ap (λ (t : List ℕ). codes "%% " ++ t) (append_assoc h.word (32 ∷ h.name) (10 ∷ bytes))
+          ∙ ap (λ (t : List ℕ). codes "%% " ++ (h.word ++ (32 ∷ (h.name ++ 10 ∷ t)))) h.file.whole
+          ∙ ap (λ (t : List ℕ). codes "%% " ++ (t ++ (32 ∷ (h.name ++ 10 ∷ (found.0.bytes ++ found.1))))) (sym spelled)
+          ∙ ap (λ (t : List ℕ). codes "%% " ++ (decimal (length found.0.bytes) ++ (32 ∷ (t ++ 10 ∷ (found.0.bytes ++ found.1))))) (sym h.file.same)
+          ∙ sym (flat found.0 (found.0.bytes ++ found.1))
+          ∙ sym (append_assoc (header found.0) found.0.bytes found.1);
       held = λ small. record {
         named = λ none. h.file.named (sym h.file.same ∙ none);
         line =
-          ap (λ (t : List ℕ). list_any (λ c. c == 10) t) h.file.same
-          ∙ lacks_behind 10 (codes "%% " ++ (h.word ++ 32 ∷ [])) h.name
+            ap (λ (t : List ℕ). list_any (λ c. c == 10) t) h.file.same
+            ∙ lacks_behind 10 (codes "%% " ++ (h.word ++ 32 ∷ [])) h.name
             (ap (λ (t : List ℕ). list_any (λ c. c == 10) t) (ap (λ (t : List ℕ). codes "%% " ++ t) (append_assoc h.word (32 ∷ []) h.name) ∙ sym parts) ∙ lacks);
         short = omega (arith, number_short h.word h.number h.is (omega (arith, small, h.file.size)), h.file.size);
       };
@@ -149,14 +149,14 @@ first_back file rest held =
     let line : List ℕ = codes "%% " ++ (decimal n ++ 32 ∷ file.name) in
     let bytes : List ℕ = file.bytes ++ rest in
     let whole : header file ++ file.bytes ++ rest ≡ line ++ 10 ∷ bytes =
-        append_assoc (header file) file.bytes rest ∙ flat file bytes
-        ∙ ap (λ (t : List ℕ). codes "%% " ++ t) (sym (append_assoc (decimal n) (32 ∷ file.name) (10 ∷ bytes))) in
+    append_assoc (header file) file.bytes rest ∙ flat file bytes
+    ∙ ap (λ (t : List ℕ). codes "%% " ++ t) (sym (append_assoc (decimal n) (32 ∷ file.name) (10 ∷ bytes))) in
     let lacks : list_any (λ c. c == 10) line ≡ false =
-        lacks_both 10 (decimal n) (32 ∷ file.name) (decimal_lacks 10 n (omega arith) small) held.line in
+    lacks_both 10 (decimal n) (32 ∷ file.name) (decimal_lacks 10 n (omega arith) small) held.line in
     let named : (length file.name == 0) ≡ false = some file.name held.named in
     let within : nat_lt (length bytes) n ≡ false = le-ltb (length bytes) n (omega (arith, length-append file.bytes rest)) in
     let taken : file_of file.name bytes n ≡ Some (file, rest) =
-        rw (named, within) (ap (λ (parts : Parts). Some (found_in file.name parts)) (pair (take (length file.bytes) (file.bytes ++ rest)) (drop (length file.bytes) (file.bytes ++ rest)) file.bytes rest (take-append_seam file.bytes rest) (drop-append_seam file.bytes rest))) in
+    rw (named, within) (ap (λ (parts : Parts). Some (found_in file.name parts)) (pair (take (length file.bytes) (file.bytes ++ rest)) (drop (length file.bytes) (file.bytes ++ rest)) file.bytes rest (take-append_seam file.bytes rest) (drop-append_seam file.bytes rest))) in
     ap first_file whole
     ∙ ap (option_and_then (λ (parts : Parts). if bytes_eq (take 3 parts.0) (codes "%% ") then headed (drop 3 parts.0) parts.1 else None)) (cut_back 10 line bytes lacks)
     ∙ ap (option_and_then (λ (parts : Parts). option_and_then (file_of parts.1 bytes) (number_in parts.0))) (cut_back 32 (decimal n) file.name (decimal_lacks 32 n (omega arith) small))
@@ -234,10 +234,10 @@ goes_on text files (b ∷ rest) found u some is = by u.most u.enough u.told
           most = most;
           enough = omega (arith, enough, shorter (b ∷ rest) found is);
           told =
-            ap (λ n. after_files (files ++ found.0 ∷ []) (files_within most n found.1)) count
-            ∙ after_one files found.0 (files_within most (length files + 1 + 1) found.1)
-            ∙ ap (λ o. after_files files (going_on (length files + 1) (files_within most (length files + 1 + 1)) o)) (sym is)
-            ∙ told;
+              ap (λ n. after_files (files ++ found.0 ∷ []) (files_within most n found.1)) count
+              ∙ after_one files found.0 (files_within most (length files + 1 + 1) found.1)
+              ∙ ap (λ o. after_files files (going_on (length files + 1) (files_within most (length files + 1 + 1)) o)) (sym is)
+              ∙ told;
         }
 
 pub breaks_off : (text : List ℕ) (files : List NamedFile) (rest : List ℕ) → IsUnread text files rest → 0 < length rest → first_file rest ≡ None

@@ -88,7 +88,7 @@ number_back n short =
     let value : value_from 0 (decimal n) ≡ n = digits_value-decimal own n small in
     let few : nat_lt 7 (length (decimal n)) ≡ false = le-ltb 7 (length (decimal n)) (length-decimal-le 7 n (omega arith) short small) in
     let again : bytes_eq (decimal (value_from 0 (decimal n))) (decimal n) ≡ true =
-        (bytes_eq-Decides (decimal (value_from 0 (decimal n))) (decimal n)).1 (ap decimal value) in
+    (bytes_eq-Decides (decimal (value_from 0 (decimal n))) (decimal n)).1 (ap decimal value) in
     rw (few, again) (ap Some value)
 
 -- a number that was read has at most seven digits

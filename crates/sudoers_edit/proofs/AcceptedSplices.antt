@@ -232,7 +232,7 @@ pub at_alias_ok : (k : Kind) (name : List ℕ) (policy new : Loaded) (edit : Pla
     → AtAlias k name policy new edit
 at_alias_ok k name policy new edit is =
     let place = found (file_place_of k name policy.walk) NoAlias
-        (λ (at : FilePlace). and_then (edit (place_in_file at) (lines_of policy.files at.file)) (landed policy at.file)) new is in
+    (λ (at : FilePlace). and_then (edit (place_in_file at) (lines_of policy.files at.file)) (landed policy at.file)) new is in
     let made = then_ok (edit (place_in_file place.0) (lines_of policy.files place.0.file)) (landed policy place.0.file) new place.2 in
     record { place = place.0; named = place.1; lines = made.0; made = made.1; lands = made.2 }
 

@@ -1,7 +1,6 @@
 -- What takes changes of the files of a policy back leads to the files before them.
 use Rattle.std.proofs.Common.{◌≡◌, ◌∙◌, ◌⊎◌, inl, inr, ◌<◌, ◌≤◌, ◌+◌, ◌==◌, ℕ, zero, suc, Bool, true, false, if◌then◌else◌, List, [], ◌∷◌, ◌++◌, length, map, slice_index_or, drop, append_assoc, Ok, refl, sym, ap, ap₂, subst, arith}
 use Rattle.std.specs.List.{AllByRecursion}
-use Rattle.std.specs.Prelude.{option_to_list}
 use Rattle.std.proofs.lemmas.Bool.{eqb-true, eq-eqb, ne_eqb}
 use Rattle.std.proofs.lemmas.List.{length-append, length-map}
 use Rattle.sudoers_text.specs.Cut.{StandAlone, cut_of}
@@ -9,7 +8,7 @@ use Rattle.sudoers_text.specs.Ended.{has_unended_inside}
 use Rattle.sudoers_text.specs.Fault.{line_limit}
 use Rattle.sudoers_text.specs.Line.{join}
 use Rattle.sudoers_text.specs.Whole.{IsLogicalLine}
-use Rattle.sudoers_tree.specs.Changed.{AreInOrder, brought, changed, file_of, next_place, place_of, text_brought}
+use Rattle.sudoers_tree.specs.Changed.{AreInOrder, brought, changed, file_of, next_place, place_of}
 use Rattle.sudoers_tree.specs.ChangedFiles.{CanBeMade, GoByFiles, changes_of, files_changed, files_changed_from}
 use Rattle.sudoers_tree.specs.Files.{FileReading, lines_of}
 use Rattle.sudoers_tree.specs.Load.{Loaded, files_of, load_of}

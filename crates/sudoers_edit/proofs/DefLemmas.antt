@@ -8,12 +8,11 @@ use Rattle.sudoers_tree.specs.Load.{Loaded, files_of, load_of}
 use Rattle.sudoers_tree.specs.Changed.{replaced}
 use Rattle.sudoers_text.specs.Line.{join}
 use Rattle.sudoers_tree.specs.declared.load.NamedFile.{NamedFile}
-use Rattle.sudoers_tree.specs.Policy.{texts}
 use Rattle.sudoers_edit_script.specs.declared.edit.Edit.TheVariants.{AddDef, DropDef}
 use Rattle.sudoers_edit.specs.declared.fault.EditFault.{EditFault}
 use Rattle.sudoers_edit.specs.declared.one_more.Among.TheVariants as among
-use Rattle.sudoers_edit.specs.Editing.{Refuses, in_file, step}
-use Rattle.sudoers_edit.specs.Landing.{or_refuse, Lines, and_then, landed, with_bytes}
+use Rattle.sudoers_edit.specs.Editing.{Refuses, in_file}
+use Rattle.sudoers_edit.specs.Landing.{Lines, and_then, landed, with_bytes}
 use Rattle.sudoers_edit.specs.Splice.{def_extents, seam, owned_stop, slice}
 use Rattle.sudoers_edit.specs.SpliceEdits.{defs_of, owned_def, place_to_add, place_to_drop, with_defs, add_def, cut_out, drop_def, put_in, with_changed}
 use Rattle.sudoers_edit.specs.internal.FileSplicing.{AreKnown, ReplacesIn}
@@ -21,7 +20,7 @@ use Rattle.sudoers_edit.specs.internal.Leading.{CutOut, PutIn}
 use Rattle.sudoers_edit.specs.internal.LeadingInFile.{texts_of}
 use Rattle.sudoers_edit.proofs.ExtentLemmas.{def_more}
 use Rattle.sudoers_edit.proofs.WayBackLemmas.{said_logical}
-use Rattle.sudoers_edit.proofs.SwapLemmas.{Swapped, adds_def, cut_back, drops_def, put_back, swapped}
+use Rattle.sudoers_edit.proofs.SwapLemmas.{adds_def, cut_back, drops_def, put_back, swapped}
 
 -- what the law says of the lines of files
 abbrev pub KnownLaw : Type 0

@@ -12,7 +12,6 @@ use Rattle.sudoers_edit.specs.declared.fault.EditFault.{EditFault}
 use Rattle.sudoers_edit.specs.declared.pruning.Removal.{Removal}
 use Rattle.sudoers_edit.specs.declared.pruning.Removal.TheVariants as removal
 use Rattle.sudoers_edit.specs.Pruning.{edit_of, removals}
-use Rattle.sudoers_edit.specs.Renaming.{rename, renamed_files}
 use Rattle.sudoers_edit.specs.Editing.{removed, put_back, put_all_back, step, after, inv, run, then_or, run_all, inv_run, prune_list, without_place}
 use Rattle.sudoers_edit.specs.WayBack.{IsTakenBack}
 use Rattle.sudoers_edit.proofs.AcceptedLines.{Laws, Steps, Takes, insert_takes, delete_takes, move_takes, end_takes, open_takes, rename_loads}
@@ -70,11 +69,11 @@ removals_take l (removal.Def f line at ∷ all) = (drop_def_takes l f line at, r
 prune_takes : Laws → Takes Prune
 prune_takes l policy new loaded is =
     let told : Runs (prune_list policy) policy new =
-        runs (prune_list policy) (removals_take l (removals policy.walk)) 0 policy new loaded
-        (placed (run_all 0 (prune_list policy) policy) new (sym (prune_step policy) ∙ is)) in
+    runs (prune_list policy) (removals_take l (removals policy.walk)) 0 policy new loaded
+    (placed (run_all 0 (prune_list policy) policy) new (sym (prune_step policy) ∙ is)) in
     let fit : AreNumbered (prune_list policy) =
-        removals_numbered policy.walk (l.walk (files_of policy) policy loaded)
-        (λ n. (file_fits policy n loaded l.walks.stand, line_fits policy n loaded l.walks.stand l.land.cut l.land.alone l.ends.size)) in
+    removals_numbered policy.walk (l.walk (files_of policy) policy loaded)
+    (λ n. (file_fits policy n loaded l.walks.stand, line_fits policy n loaded l.walks.stand l.land.cut l.land.alone l.ends.size)) in
     record {
       loaded = told.loaded;
       back = ap (λ (es : List Edit). run es new) (prune_inverse policy) ∙ told.back;

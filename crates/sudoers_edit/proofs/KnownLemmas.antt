@@ -1,17 +1,14 @@
 -- What the lines of a loaded file say.
-use Rattle.std.proofs.Common.{◌≡◌, ℕ, zero, suc, ◌<◌, ◌≤◌, List, [], ◌∷◌, length, Some, Ok, subst}
+use Rattle.std.proofs.Common.{ℕ, ◌<◌, ◌≤◌, List, length, subst}
 use Rattle.std.specs.List.{AllByRecursion}
-use Rattle.std.specs.Prelude.{slice_get}
 use Rattle.sudoers_text.specs.Cut.{StandAlone}
 use Rattle.sudoers_text.specs.Fault.{line_limit}
 use Rattle.sudoers_line.specs.Line.{ReadsLine}
-use Rattle.sudoers_line.specs.Node.{Def}
 use Rattle.sudoers_tree.specs.Line.{Line}
 use Rattle.sudoers_tree.specs.Policy.{SaysSo, texts}
 use Rattle.sudoers_tree.proofs.OneOutcome.{OneReading, NoFault}
 use Rattle.sudoers_tree.proofs.SaidLines.{LinesLaw, WholeLaw, all_said}
 use Rattle.sudoers_edit.specs.OneLine.{IsAlone}
-use Rattle.sudoers_edit.specs.SpliceEdits.{defs_of}
 use Rattle.sudoers_edit.specs.internal.FileSplicing.{AreKnown}
 use Rattle.sudoers_edit.proofs.WayBackLemmas.{alone_at}
 use Rattle.sudoers_edit.proofs.WithinLemmas.{AscendLaw, makes_alias, says_at}

@@ -1,7 +1,6 @@
 -- Members put into the list of an alias in a file of a policy and taken out of it.
-use Rattle.std.proofs.Common.{◌≡◌, ◌∙◌, ◌⊎◌, ℕ, zero, suc, ◌+◌, ◌<◌, ◌≤◌, ◌==◌, Bool, true, false, List, [], ◌∷◌, ◌++◌, length, map, option_map, Option, Some, None, Result, Ok, Err, inl, inr, refl, sym, ap, ap₂, subst, arith}
-use Rattle.std.proofs.lemmas.Bool.{eq-eqb, eqb-true, eqb-false}
-use Rattle.std.specs.List.{AllByRecursion}
+use Rattle.std.proofs.Common.{◌≡◌, ◌∙◌, ◌⊎◌, ℕ, zero, suc, ◌+◌, ◌<◌, ◌==◌, Bool, true, false, List, [], ◌∷◌, length, map, option_map, Option, Some, None, Result, Ok, Err, inl, inr, refl, sym, ap, ap₂, subst, arith}
+use Rattle.std.proofs.lemmas.Bool.{eqb-true, eqb-false}
 use Rattle.std.specs.Prelude.{slice_get, slice_index_or}
 use Rattle.sudoers_text.specs.Cut.{cut_of}
 use Rattle.sudoers_text.specs.Line.{join}
@@ -16,10 +15,10 @@ use Rattle.sudoers_tree.specs.Files.{FileReading, lines_of, name_of}
 use Rattle.sudoers_tree.specs.Lead.{lead_of}
 use Rattle.sudoers_tree.specs.Line.{Line}
 use Rattle.sudoers_tree.specs.Load.{file_of as named_of}
-use Rattle.sudoers_tree.specs.Load.{Loaded, StandAt, StandsAt, files_of, load_of}
+use Rattle.sudoers_tree.specs.Load.{Loaded, StandAt, files_of, load_of}
 use Rattle.sudoers_tree.specs.Mapped.{file_names}
 use Rattle.sudoers_tree.specs.Policy.{texts}
-use Rattle.sudoers_tree.specs.Walk.{Walked, spot_at, walk_of}
+use Rattle.sudoers_tree.specs.Walk.{Walked, walk_of}
 use Rattle.sudoers_tree.specs.declared.load.NamedFile.{NamedFile}
 use Rattle.sudoers_tree.specs.declared.place.FilePlace.{FilePlace}
 use Rattle.sudoers_tree.specs.declared.place.Place.{Place}
@@ -113,11 +112,11 @@ other_lines : WalkLaws → (policy after : Loaded) (f g : ℕ) (bytes : List ℕ
     → (f ≡ g → ⊥) → lines_of after.files g ≡ lines_of policy.files g
 other_lines laws policy after f g bytes loaded now other =
     let joined : join (texts (lines_of after.files g)) ≡ join (texts (lines_of policy.files g)) =
-        bytes_at g policy.files after.files f bytes (laws.bytes (with_bytes f bytes (files_of policy)) after now) other in
+    bytes_at g policy.files after.files f bytes (laws.bytes (with_bytes f bytes (files_of policy)) after now) other in
     let is : cut_of (join (texts (lines_of after.files g))) ≡ Ok (texts (lines_of after.files g)) = laws.cut (with_bytes f bytes (files_of policy)) after now g in
     let was : cut_of (join (texts (lines_of policy.files g))) ≡ Ok (texts (lines_of policy.files g)) = laws.cut (files_of policy) policy loaded g in
     let same : texts (lines_of after.files g) ≡ texts (lines_of policy.files g) =
-        same_cut (texts (lines_of after.files g)) (texts (lines_of policy.files g)) (cut_of (join (texts (lines_of after.files g)))) is (ap cut_of joined ∙ was) in
+    same_cut (texts (lines_of after.files g)) (texts (lines_of policy.files g)) (cut_of (join (texts (lines_of after.files g)))) is (ap cut_of joined ∙ was) in
     one_said (lines_of after.files g) (lines_of policy.files g) (laws.known (with_bytes f bytes (files_of policy)) after now g).says
     (laws.known (files_of policy) policy loaded g).says same
 
@@ -168,7 +167,7 @@ heads_walk policy after heads (a ∷ spots) (l ∷ lines) (b ∷ others) (k ∷ 
     let line : b.line ≡ a.line = ap (λ (p : ℕ × ℕ). p.1) first in
     let rest : map placed others ≡ map placed spots = cc in
     let here : slice_get (lines_of after.files a.file) a.line ≡ Some k =
-        ap₂ (λ f n. slice_get (lines_of after.files f) n) (sym file) (sym line) ∙ new.0.is_line in
+    ap₂ (λ f n. slice_get (lines_of after.files f) n) (sym file) (sym line) ∙ new.0.is_line in
     heads_append (definitions_in m k.node) (definitions_in m l.node) (definitions_since (m + 1) news) (definitions_since (m + 1) lines)
     (heads a.file a.line l k old.0.is_line here m) (heads_walk policy after heads spots lines others news old.1 new.1 rest (m + 1))
 
@@ -231,7 +230,7 @@ place_kept laws policy after f n bytes old new j ds es loaded now here put is wa
             let there : f ≡ g = eqb-true f g e in
             let was_here : slice_get (lines_of policy.files f) m ≡ Some l = ap (λ h. slice_get (lines_of policy.files h) m) there ∙ was_line in
             let is_here : slice_get (line_put n new (lines_of policy.files f)) m ≡ Some k =
-                ap (λ ls. slice_get ls m) (sym put) ∙ ap (λ h. slice_get (lines_of after.files h) m) there ∙ is_line in
+            ap (λ ls. slice_get ls m) (sym put) ∙ ap (λ h. slice_get (lines_of after.files h) m) there ∙ is_line in
             here_heads (put_or_same (lines_of policy.files f) n m new old l k here was_here is_here)
         by false e =
             let stays : slice_get (lines_of policy.files g) m ≡ Some k = ap (λ ls. slice_get ls m) (sym (other_lines laws policy after f g bytes loaded now (eqb-false f g e))) ∙ is_line in
@@ -313,7 +312,7 @@ add_replaces laws k name at from s text policy place line d loaded is put forth 
       let swap = swapped before later place.line line text put.new (laws.known (files_of policy) policy loaded f) (laws.known (with_bytes f bytes (files_of policy)) after now f) is.here put.says same in
       let e = some_def (slice_get more.more place.def) at from more.owned.begins in
       let there : IsDefIn k name after place new e.0 =
-          def_after laws k name policy after bytes place line new d e.0 more.k more.less more.more loaded now is swap more.was more.is more.names e.1 in
+      def_after laws k name policy after bytes place line new d e.0 more.k more.less more.more loaded now is swap more.was more.is more.names e.1 in
       let begins : seam at (member_extents e.0.members) ≡ Some from = ap (λ o. seam at (extents_in o)) (sym e.1) ∙ more.owned.begins in
       let stops : owned_stop at (member_extents e.0.members) ≡ Some to = ap (λ o. owned_stop at (extents_in o)) (sym e.1) ∙ more.owned.stops in
       at_alias_is k name after place new e.0 (λ p. drop_member p at) there
@@ -349,7 +348,7 @@ drop_replaces laws k name at from to s text policy place line d loaded is begins
       let swap = swapped before later place.line line text cut.new (laws.known (files_of policy) policy loaded f) (laws.known (with_bytes f bytes (files_of policy)) after now f) is.here cut.says same in
       let e = some_def (slice_get more.less place.def) at from more.owned.fits in
       let there : IsDefIn k name after place new e.0 =
-          def_after laws k name policy after bytes place line new d e.0 more.k more.more more.less loaded now is swap more.is more.was (names_sym more.more more.less more.names) e.1 in
+      def_after laws k name policy after bytes place line new d e.0 more.k more.more more.less loaded now is swap more.is more.was (names_sym more.more more.less more.names) e.1 in
       let fits : seam at (member_extents e.0.members) ≡ Some from = ap (λ o. seam at (extents_in o)) (sym e.1) ∙ more.owned.fits in
       at_alias_is k name after place new e.0 (λ p. add_member p at s) there
       ∙ ap (λ r. and_then r (landed after f))

@@ -1,5 +1,5 @@
 -- Members put into the list of an alias and taken out of it.
-use Rattle.std.proofs.Common.{◌≡◌, ℕ, zero, suc, ◌+◌, true, List, [], ◌∷◌, Some, None, Option, refl, sym, ap, ◌∙◌, arith}
+use Rattle.std.proofs.Common.{◌≡◌, ℕ, zero, suc, true, List, [], Some, None, Option, refl, sym, ap, arith}
 use Rattle.std.specs.Prelude.{slice_get}
 use Rattle.sudoers_line.specs.Node.{Def, Node}
 use Rattle.sudoers_line.specs.declared.node.Kind.{Kind}

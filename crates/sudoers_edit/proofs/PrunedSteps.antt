@@ -147,8 +147,7 @@ def_comes l tell policy now g f n line k front d rest s stage kept has many =
         (λ front after was place.
         ap₂ (λ ls m. replaced m text (texts ls)) (was ∙ ap (λ (xs : List Line). front ++ (xs ++ after)) has.is) (sym place)
         ∙ other_one front has.cur new after) in
-        subst (Comes policy P) (sym (all_one (removal.Def f n at) now ∙ goes.made.forth))
-        (
+        subst (Comes policy P) (sym (all_one (removal.Def f n at) now ∙ goes.made.forth)) (
           renewed g f n (new ∷ []),
           next,
           (
@@ -197,8 +196,8 @@ defs_come l tell policy now g f n line test k number i front (d ∷ defs) s stag
     by : (b : Bool) → 1 ≤ length front + length (map (λ (d : Definition). d.def) (if not b then one ∷ filter (λ d. not (test d)) ds else filter (λ d. not (test d)) ds))
         → Comes policy (Lessened g f n line k ((front ++ d ∷ []) ++ used)) (removed_all (map drop (reverse (filter test ds))) now)
         → Comes policy
-            (Lessened g f n line k (front ++ map (λ (d : Definition). d.def) (if not b then one ∷ filter (λ d. not (test d)) ds else filter (λ d. not (test d)) ds)))
-            (removed_all (map drop (reverse (if b then one ∷ filter test ds else filter test ds))) now)
+        (Lessened g f n line k (front ++ map (λ (d : Definition). d.def) (if not b then one ∷ filter (λ d. not (test d)) ds else filter (λ d. not (test d)) ds)))
+        (removed_all (map drop (reverse (if b then one ∷ filter test ds else filter test ds))) now)
     by false some later =
         subst (λ (xs : List Def). Comes policy (Lessened g f n line k xs) (removed_all (map drop (reverse (filter test ds))) now)) (append_assoc front (d ∷ []) used) later
     by true some later =

@@ -1,5 +1,5 @@
 -- The lines of a policy with another name for an alias are those of a policy.
-use Rattle.std.proofs.Common.{◌≡◌, ℕ, ◌≤◌, false, true, ◌||◌, List, [], ◌∷◌, refl, sym, ◌∙◌, arith, map}
+use Rattle.std.proofs.Common.{◌≡◌, ℕ, false, true, List, [], ◌∷◌, refl, sym, ◌∙◌, arith, map}
 use Rattle.std.specs.List.{AllByRecursion}
 use Rattle.std.specs.Prelude.{Option, Some, None}
 use Rattle.sudoers_text.specs.Renamed.{IsDefinableName}

@@ -1,11 +1,11 @@
 -- An edit that puts another line in the place of one of a file.
-use Rattle.std.proofs.Common.{◌≡◌, ◌∙◌, ℕ, ◌≤◌, true, false, List, length, Ok, Err, refl, subst}
+use Rattle.std.proofs.Common.{◌≡◌, ◌∙◌, ℕ, ◌≤◌, true, false, List, length, Err, refl}
 use Rattle.std.proofs.lemmas.Bool.{le-ltb}
 use Rattle.sudoers_text.specs.Ended.{has_unended_inside}
 use Rattle.sudoers_text.specs.Fault.{line_limit}
 use Rattle.sudoers_tree.specs.Changed.{replaced}
 use Rattle.sudoers_tree.specs.Load.{Loaded}
-use Rattle.sudoers_edit.specs.declared.fault.EditFault.TheVariants.{OpenLine, TooLarge}
+use Rattle.sudoers_edit.specs.declared.fault.EditFault.TheVariants.{OpenLine}
 use Rattle.sudoers_edit.specs.Editing.{step}
 use Rattle.sudoers_edit.specs.internal.FileSplicing.{ReplacesIn}
 use Rattle.sudoers_edit.specs.internal.LeadingInFile.{LandsIn, texts_of}

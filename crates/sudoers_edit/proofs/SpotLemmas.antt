@@ -1,8 +1,6 @@
 -- Lines of files are others, each with the lead of the old one: the lines of the walk stand where they stood.
-use Rattle.std.proofs.Common.{◌≡◌, ◌∙◌, ℕ, zero, suc, ◌+◌, nat_eq, Bool, true, false, if◌then◌else◌, List, [], ◌∷◌, ◌++◌, map, length, option_map, Option, Some, None, Result, Ok, Err, refl, sym, ap, ap₂, subst}
-use Rattle.std.specs.List.{list_any}
+use Rattle.std.proofs.Common.{◌≡◌, ◌∙◌, ℕ, zero, suc, ◌+◌, Bool, true, false, if◌then◌else◌, List, [], ◌∷◌, ◌++◌, map, length, option_map, Option, Some, None, Result, Ok, Err, refl, sym, ap, subst}
 use Rattle.sudoers_tree.specs.declared.fault.ReadFault.{ReadFault}
-use Rattle.sudoers_tree.specs.declared.fault.SyntaxFault.{SyntaxFault}
 use Rattle.sudoers_tree.specs.declared.lead.Lead.{Lead}
 use Rattle.sudoers_tree.specs.declared.load_fault.LoadFault.{LoadFault}
 use Rattle.sudoers_tree.specs.declared.place.Spot.{Spot}
@@ -177,11 +175,11 @@ module _ (files others : List FileReading) (names : file_names files ≡ file_na
       let a = steps walk files f n l ls w now is in
       let b = steps beside others f n m ms v end too in
       let inner : b.inner ≡ a.inner =
-          inner_alike f n l m (with_line (spot_of files f n) l w) (with_line (spot_of others f n) m v) a.inner b.inner pairs.0 a.opens b.opens in
+      inner_alike f n l m (with_line (spot_of files f n) l w) (with_line (spot_of others f n) m v) a.inner b.inner pairs.0 a.opens b.opens in
       let here = line_alike f n l m w v alike in
       let within : AreAlike b.within a.within =
-          each_alike walk beside along (site files f n) (site others f n) a.inner (with_line (spot_of files f n) l w) a.within (with_line (spot_of others f n) m v) b.within here
-          a.enters (ap (λ fs. visit_each beside others (site others f n) fs (with_line (spot_of others f n) m v)) (sym inner) ∙ b.enters) in
+      each_alike walk beside along (site files f n) (site others f n) a.inner (with_line (spot_of files f n) l w) a.within (with_line (spot_of others f n) m v) b.within here
+      a.enters (ap (λ fs. visit_each beside others (site others f n) fs (with_line (spot_of others f n) m v)) (sym inner) ∙ b.enters) in
       lines_alike walk beside along f (n + 1) ls ms a.within now b.within end pairs.1 within a.rest b.rest
 
   enter_alike : (f : ℕ) (v w : Walked) → AreAlike v w → AreAlike (enter f v) (enter f w)

@@ -1,7 +1,6 @@
 -- Lines of a file of which one is another: how one more in it is taken out again, and one that was taken out comes back.
-use Rattle.std.proofs.Common.{◌≡◌, ◌∙◌, ℕ, ◌+◌, ◌≤◌, true, List, [], ◌∷◌, length, Some, None, Result, Ok, Err, refl, sym, ap, subst, arith}
+use Rattle.std.proofs.Common.{◌≡◌, ◌∙◌, ℕ, ◌+◌, ◌≤◌, true, List, length, Some, Ok, refl, sym, ap, arith}
 use Rattle.std.proofs.lemmas.Bool.{le-ltb}
-use Rattle.std.specs.List.{AllByRecursion}
 use Rattle.std.specs.Prelude.{slice_get}
 use Rattle.sudoers_text.specs.Fault.{line_limit}
 use Rattle.sudoers_line.specs.Node.{Def, Member, Node}
@@ -11,7 +10,7 @@ use Rattle.sudoers_tree.specs.Line.{Line}
 use Rattle.sudoers_tree.specs.Policy.{texts}
 use Rattle.sudoers_tree.specs.Single.{said}
 use Rattle.sudoers_edit.specs.Splice.{def_extents, member_extents, seam, owned_stop, slice, line_with, line_without}
-use Rattle.sudoers_edit.specs.SpliceEdits.{is_one_more, defs_of, place_to_add, place_to_drop, add_def, cut_out, drop_def, put_in, with_changed}
+use Rattle.sudoers_edit.specs.SpliceEdits.{is_one_more, defs_of, add_def, cut_out, drop_def, put_in, with_changed}
 use Rattle.sudoers_edit.specs.declared.one_more.Among.{Among}
 use Rattle.sudoers_edit.specs.declared.one_more.Among.TheVariants as among
 use Rattle.sudoers_edit.specs.internal.FileSplicing.{AreKnown}
@@ -68,13 +67,13 @@ pub swapped : (before after : List Line) (n : ℕ) (old : Line) (text : List ℕ
 swapped before after n old text says known later here is same =
     let new : Line = record { text = text; node = says } in
     let put : after ≡ line_put n new before =
-        one_said after (line_put n new before) later.says (said_put before n new known.says is) (same ∙ sym (texts_put before n new)) in
+    one_said after (line_put n new before) later.says (said_put before n new known.says is) (same ∙ sym (texts_put before n new)) in
     record {
       is = put;
       here = ap (λ ls. slice_get ls n) put ∙ put_here before n new old here;
       back =
-        rw (le-ltb line_limit (length old.text) (known.short n old here))
-        (ap Ok (ap (replaced n old.text) same ∙ restored before n text old here));
+          rw (le-ltb line_limit (length old.text) (known.short n old here))
+          (ap Ok (ap (replaced n old.text) same ∙ restored before n text old here));
     }
 
 puts : (a : Among) (at from n : ℕ) (s : List ℕ) (line : Line) (lines : List Line)
@@ -106,7 +105,7 @@ pub cut_back : (a : Among) (at from to n : ℕ) (s text : List ℕ) (before afte
 cut_back a at from to n s text before after line known here cut is swap =
     let new : Line = record { text = text; node = cut.new } in
     let again : line_with from s text ≡ line.text =
-        ap (λ z. line_with from z text) is ∙ ap (line_with from (slice from to line.text)) cut.text_is ∙ with_without line.text from to cut.order cut.inside in
+    ap (λ z. line_with from z text) is ∙ ap (line_with from (slice from to line.text)) cut.text_is ∙ with_without line.text from to cut.order cut.inside in
     let says : said (line_with from s text) ≡ Some line.node = ap said again ∙ said_at before n line known.says here in
     let stop : from + length s ≡ to = ap (λ z. from + length z) is ∙ size_slice line.text from to cut.order cut.inside in
     puts a at from n s new after

@@ -3,7 +3,7 @@ use Rattle.std.proofs.Common.{◌≡◌, ◌∙◌, ℕ, zero, suc, ◌+◌, ◌
 use Rattle.std.specs.List.{AllByRecursion}
 use Rattle.std.specs.Prelude.{option_to_list}
 use Rattle.sudoers_text.specs.Whole.{IsLogicalLine}
-use Rattle.sudoers_tree.specs.Changed.{changed, changed_from, place_of, next_place, text_brought, AreInOrder, brought}
+use Rattle.sudoers_tree.specs.Changed.{changed_from, place_of, next_place, text_brought, AreInOrder, brought}
 use Rattle.sudoers_tree.specs.declared.line_change.LineChange.{LineChange}
 use Rattle.sudoers_tree.specs.declared.line_change.LineChange.TheVariants.{Put, Swap, Take}
 use Rattle.sudoers_edit.specs.Landing.{Lines}

@@ -1,5 +1,5 @@
 -- A policy without one of its lines.
-use Rattle.std.proofs.Common.{◌≡◌, ℕ, ◌<◌, zero, suc, List, [], ◌∷◌, ◌++◌, length, refl, ap, ◌∙◌, arith}
+use Rattle.std.proofs.Common.{◌≡◌, ℕ, ◌<◌, zero, suc, List, [], ◌∷◌, ◌++◌, length, refl, ap, arith}
 
 -- a list, cut at one of its items
 pub record Cut {X : Type 0} (xs : List X) (at : ℕ) : Type 0 where

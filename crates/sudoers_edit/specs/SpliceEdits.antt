@@ -3,10 +3,8 @@
 use Rattle.std.specs.Prelude.{ℕ, ◌+◌, Bool, not, ◌==◌, nat_lt, nat_le, List, [], length, Option, Some, None, Result, option_and_then, slice_get, unwrap_or, Ok}
 use Rattle.std.specs.Option.{option_map}
 use Rattle.sudoers_line.specs.Node.{Def, Node}
-use Rattle.sudoers_line.specs.declared.node.Kind.{Kind}
 use Rattle.sudoers_tree.specs.Line.{Line}
 use Rattle.sudoers_tree.specs.declared.place.Place.{Place}
-use Rattle.sudoers_tree.specs.Definition.{place_of}
 use Rattle.sudoers_tree.specs.Policy.{texts}
 use Rattle.sudoers_tree.specs.Single.{said}
 use Rattle.sudoers_edit.specs.Landing.{refuse_if, or_refuse, is_too_long, Lines}

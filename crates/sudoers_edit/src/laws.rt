@@ -19,14 +19,13 @@ ghost use Rattle.sudoers_edit_script.specs.Script.{writing};
 ghost use Rattle.sudoers_edit_script.specs.ScriptReading.{reading};
 ghost use Rattle.sudoers_edit_script.specs.declared.edit.Edit.{Edit as AnEdit};
 
+use crate::fault::EditFault;
+use crate::line_edits::ends_stay_cut;
 pub use crate::name_laws::edits_keep_names;
 pub use crate::prune_laws::{
     drop_is_refused_for_a_splice_alone, policy_without_line_is_one,
     prune_is_refused_for_a_splice_alone, prune_leaves_the_used,
 };
-
-use crate::fault::EditFault;
-use crate::line_edits::ends_stay_cut;
 use crate::splice_edits::lines_are_known;
 use sudoers_edit_script::Edit;
 use sudoers_edit_script::laws::read_is_spelling;

@@ -10,8 +10,7 @@ ghost use Rattle.sudoers_edit.specs.internal.LastLineInFile.{EndsStayCut};
 ghost use Rattle.sudoers_edit.specs.internal.LeadingInFile.{move_changes as the_move_changes, texts_of};
 
 use crate::fault::EditFault;
-use crate::plan::{file_is_sound, one_file_leads, put, refusal, swap, take};
-use crate::plan::Plan;
+use crate::plan::{Plan, file_is_sound, one_file_leads, put, refusal, swap, take};
 use std::alloc::{AllocError, Global};
 use sudoers_edit_script::{Edit, Edits, Text};
 use sudoers_text::laws::{

@@ -22,9 +22,9 @@ ghost use Rattle.sudoers_edit.specs.internal.FileLeading.{Leads, Plans};
 ghost use Rattle.sudoers_edit.specs.internal.Leading.{CutOut};
 
 use crate::fault::EditFault;
-use crate::pruning::{Removal, removals};
 use crate::one_more::{Among, OneMore};
 use crate::plan::Plan;
+use crate::pruning::{Removal, removals};
 use crate::splice::{line_without, place_to_drop};
 use std::alloc::{AllocError, Global};
 use sudoers_edit_script::{Edit, Edits, Text};

@@ -21,9 +21,8 @@ ghost use Rattle.sudoers_edit.specs.internal.LeadingInFile.{texts_of};
 ghost use Rattle.sudoers_edit_script.specs.declared.edit.Edit.{Edit as AnEdit};
 
 use crate::fault::EditFault;
-use crate::plan::{file_is_sound, swap};
 use crate::one_more::{Among, OneMore};
-use crate::plan::Plan;
+use crate::plan::{Plan, file_is_sound, swap};
 use crate::splice::{line_with, line_without, place_to_add, place_to_drop};
 use std::alloc::{AllocError, Global};
 use sudoers_edit_script::{Edit, Edits, Text};

@@ -286,11 +286,7 @@ fn script_fault_text(alloc: Global, fault: &ScriptFault) -> Result<Vec<u8>, Allo
     }
 }
 
-fn edit_fault_text(
-    alloc: Global,
-    place: usize,
-    fault: &EditFault,
-) -> Result<Vec<u8>, AllocError>
+fn edit_fault_text(alloc: Global, place: usize, fault: &EditFault) -> Result<Vec<u8>, AllocError>
     ensures { IfOk result (λ text. text.items ≡ text_of_edit place fault.now) }
 {
     match fault {

@@ -1,8 +1,6 @@
 use Rattle.std.proofs.Common.{subst}
-use Rattle.sudoers_text.specs.Cut.{cut_of}
 use Rattle.sudoers_text.specs.Fault.{IsOutcome}
 use Rattle.sudoers_text.specs.Line.{join}
-use Rattle.sudoers_edit.proofs.AcceptedLines.{Laws}
 use Rattle.sudoers_edit.proofs.InverseLaw.{taken_back, inverses_as_many}
 use Rattle.sudoers_edit.proofs.laws.inverse_leads_back.Goals as goal
 

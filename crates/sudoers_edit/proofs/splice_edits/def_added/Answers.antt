@@ -1,7 +1,6 @@
 use Rattle.std.proofs.Common.{◌≡◌, ◌<◌, ◌∙◌, ◌∷◌, [], inr, ap, sym, subst, List, ℕ, length, arith}
 use Rattle.std.proofs.lemmas.Option.{slice_get_within}
 use Rattle.sudoers_line_rows.specs.View.{defs_shown}
-use Rattle.sudoers_tree.specs.Files.{lines_of}
 use Rattle.sudoers_tree.specs.Line.{Line, line_shown, lines_shown}
 use Rattle.sudoers_tree.specs.Load.{Loaded, files_of}
 use Rattle.sudoers_tree.specs.Policy.{texts}
@@ -62,7 +61,7 @@ put_in-requires c =
 pub line_replaced-requires : goal.line_replaced-requires
 line_replaced-requires c =
     let here : c.args.line < length (lines_shown c.file_lines-lines.result) =
-        slice_get_within (lines_shown c.file_lines-lines.result) c.args.line (line_shown c.in-Ok.found.0) c.in-Ok.ensures.found.0 in
+    slice_get_within (lines_shown c.file_lines-lines.result) c.args.line (line_shown c.in-Ok.found.0) c.in-Ok.ensures.found.0 in
     subst (λ (ls : List Line). c.args.line < length ls) c.file_lines-lines.ensures here
 
 pub returns : goal.returns
@@ -76,13 +75,13 @@ returns c =
     let line : Line = line_shown c.in-Ok.found.0 in
     let text : List ℕ = c.in-Ok-put_in.text.items in
     let told : add_def n at s lines ≡ with_changed n text (texts lines) =
-        add_found n at s lines line (defs_shown c.in-Ok.found.1) c.in-Ok.ensures.outcome
-        ∙ (c.in-Ok-place_to_add.ensures (λ from. put_in among.Definitions at from n s line lines)).0
-        ∙ c.in-Ok-put_in.ensures.outcome n lines in
+    add_found n at s lines line (defs_shown c.in-Ok.found.1) c.in-Ok.ensures.outcome
+    ∙ (c.in-Ok-place_to_add.ensures (λ from. put_in among.Definitions at from n s line lines)).0
+    ∙ c.in-Ok-put_in.ensures.outcome n lines in
     let leads : ReplacesIn (AddDef f n at s) (DropDef f n at) (DropDef f n at ∷ []) policy f n text =
-        add_replaces c.lines_are_known.ensures policy f n at c.in-Ok-place_to_add.from s text line c.is_loaded.ensures
-        (omega (arith, c.if-file-files.false, c.files.ensures))
-        (ap (λ (ls : List Line). slice_get ls n) (sym c.file_lines-lines.ensures) ∙ c.in-Ok.ensures.found.0) c.in-Ok-put_in.ensures.put
-        (subst (λ (ls : List Line). add_def n at s ls ≡ with_changed n text (texts ls)) c.file_lines-lines.ensures told) in
+    add_replaces c.lines_are_known.ensures policy f n at c.in-Ok-place_to_add.from s text line c.is_loaded.ensures
+    (omega (arith, c.if-file-files.false, c.files.ensures))
+    (ap (λ (ls : List Line). slice_get ls n) (sym c.file_lines-lines.ensures) ∙ c.in-Ok.ensures.found.0) c.in-Ok-put_in.ensures.put
+    (subst (λ (ls : List Line). add_def n at s ls ≡ with_changed n text (texts ls)) c.file_lines-lines.ensures told) in
     c.line_replaced.ensures (AddDef f n at s) (DropDef f n at)
     (subst (λ i. ReplacesIn (AddDef f n at s) (DropDef f n at) i policy f n text) (sym c.in_ok-inverse.ensures) leads)

@@ -3,7 +3,6 @@ use Rattle.std.proofs.lemmas.Option.{slice_get_within}
 use Rattle.std.specs.Prelude.{slice_get}
 use Rattle.sudoers_line.specs.Node.{Def}
 use Rattle.sudoers_line_rows.specs.View.{defs_shown}
-use Rattle.sudoers_tree.specs.Files.{lines_of}
 use Rattle.sudoers_tree.specs.Line.{Line, line_shown, lines_shown}
 use Rattle.sudoers_tree.specs.Load.{Loaded, files_of}
 use Rattle.sudoers_tree.specs.Policy.{texts}
@@ -66,7 +65,7 @@ cut_out-requires c =
 pub line_replaced-requires : goal.line_replaced-requires
 line_replaced-requires c =
     let here : c.args.line < length (lines_shown c.file_lines-lines.result) =
-        slice_get_within (lines_shown c.file_lines-lines.result) c.args.line (line_shown c.in-Ok.found.0) c.in-Ok.ensures.found.0 in
+    slice_get_within (lines_shown c.file_lines-lines.result) c.args.line (line_shown c.in-Ok.found.0) c.in-Ok.ensures.found.0 in
     subst (λ (ls : List Line). c.args.line < length ls) c.file_lines-lines.ensures here
 
 pub returns : goal.returns
@@ -85,12 +84,12 @@ returns c =
     let place = c.in-Ok-place_to_drop.ensures (λ from to. cut_out among.Definitions at from to n line lines) in
     let owned : s ≡ slice from to line.text = c.in_ok-splice.ensures in
     let told : drop_def n at lines ≡ with_changed n text (texts lines) =
-        drop_found n at lines line defs c.in-Ok.ensures.outcome ∙ place.0 ∙ c.in-Ok-cut_out.ensures.outcome n lines in
+    drop_found n at lines line defs c.in-Ok.ensures.outcome ∙ place.0 ∙ c.in-Ok-cut_out.ensures.outcome n lines in
     let leads : ReplacesIn (DropDef f n at) (AddDef f n at s) (AddDef f n at s ∷ []) policy f n text =
-        drop_replaces c.lines_are_known.ensures policy f n at from to s text line defs c.is_loaded.ensures
-        (omega (arith, c.if-file-files.false, c.files.ensures))
-        (ap (λ (ls : List Line). slice_get ls n) (sym c.file_lines-lines.ensures) ∙ c.in-Ok.ensures.found.0) c.in-Ok.ensures.found.1 place.1 place.2
-        c.in-Ok-cut_out.ensures.cut owned
-        (subst (λ (ls : List Line). drop_def n at ls ≡ with_changed n text (texts ls)) c.file_lines-lines.ensures told) in
+    drop_replaces c.lines_are_known.ensures policy f n at from to s text line defs c.is_loaded.ensures
+    (omega (arith, c.if-file-files.false, c.files.ensures))
+    (ap (λ (ls : List Line). slice_get ls n) (sym c.file_lines-lines.ensures) ∙ c.in-Ok.ensures.found.0) c.in-Ok.ensures.found.1 place.1 place.2
+    c.in-Ok-cut_out.ensures.cut owned
+    (subst (λ (ls : List Line). drop_def n at ls ≡ with_changed n text (texts ls)) c.file_lines-lines.ensures told) in
     c.line_replaced.ensures (DropDef f n at) (AddDef f n at s)
     (subst (λ i. ReplacesIn (DropDef f n at) (AddDef f n at s) i policy f n text) (sym c.in_ok-inverse.ensures) leads)

@@ -1,4 +1,4 @@
-use Rattle.std.proofs.Common.{◌≡◌, ◌<◌, ◌∙◌, ◌∷◌, [], inr, ap, sym, subst, List, ℕ, length, Result}
+use Rattle.std.proofs.Common.{◌≡◌, ◌∙◌, ◌∷◌, [], inr, ap, sym, subst, List, ℕ, Result}
 use Rattle.std.proofs.lemmas.Option.{slice_get_within}
 use Rattle.sudoers_line.specs.Node.{Def}
 use Rattle.sudoers_line.specs.declared.node.Kind.{Kind}
@@ -8,10 +8,10 @@ use Rattle.sudoers_tree.specs.Line.{Line, line_shown}
 use Rattle.sudoers_tree.specs.Load.{Loaded, files_of}
 use Rattle.sudoers_tree.specs.declared.place.FilePlace.{FilePlace}
 use Rattle.sudoers_edit_script.specs.declared.edit.Edit.TheVariants.{AddMember, DropMember}
-use Rattle.sudoers_edit.specs.Editing.{Refuses, place_in_file, step}
+use Rattle.sudoers_edit.specs.Editing.{Refuses, place_in_file}
 use Rattle.sudoers_edit.specs.declared.fault.EditFault.{EditFault}
 use Rattle.sudoers_edit.specs.declared.one_more.Among.TheVariants as among
-use Rattle.sudoers_edit.specs.Landing.{Lines, and_then, landed}
+use Rattle.sudoers_edit.specs.Landing.{Lines}
 use Rattle.sudoers_edit.specs.SpliceEdits.{add_member, put_in}
 use Rattle.sudoers_edit.specs.internal.FileSplicing.{IsDefIn, ReplacesIn}
 use Rattle.sudoers_edit.proofs.DefLemmas.{refused_so, refuses_so}
@@ -87,8 +87,8 @@ returns c =
       stand = c.loaded_lines_stand.ensures;
     } in
     let leads : ReplacesIn (AddMember k name at s) (DropMember k name at) (DropMember k name at ∷ []) policy place.file place.line text =
-        add_replaces laws k name at c.in-Ok-place_to_add.from s text policy place line d c.is_loaded.ensures c.in-Ok.ensures.found c.in-Ok-put_in.ensures.put
-        (add_found at s k name policy place line d c.in-Ok.ensures.found ∙ (c.in-Ok-place_to_add.ensures next).0 ∙ c.in-Ok-put_in.ensures.outcome place.line lines) in
+    add_replaces laws k name at c.in-Ok-place_to_add.from s text policy place line d c.is_loaded.ensures c.in-Ok.ensures.found c.in-Ok-put_in.ensures.put
+    (add_found at s k name policy place line d c.in-Ok.ensures.found ∙ (c.in-Ok-place_to_add.ensures next).0 ∙ c.in-Ok-put_in.ensures.outcome place.line lines) in
     let inverse : DropMember k name at ∷ [] ≡ c.in_ok-inverse.inverse = ap (λ z. DropMember k z at ∷ []) (sym c.in_ok-name.ensures) ∙ sym c.in_ok-inverse.ensures in
     c.line_replaced.ensures (AddMember k name at s) (DropMember k name at)
     (subst (λ i. ReplacesIn (AddMember k name at s) (DropMember k name at) i policy place.file place.line text) inverse leads)

@@ -1,4 +1,4 @@
-use Rattle.std.proofs.Common.{◌≡◌, ◌<◌, ◌∙◌, ◌∷◌, [], inr, ap, sym, subst, List, ℕ, length, Some, Result, refl}
+use Rattle.std.proofs.Common.{◌≡◌, ◌∙◌, ◌∷◌, [], inr, sym, subst, List, ℕ, Some, Result, refl}
 use Rattle.std.proofs.lemmas.Option.{slice_get_within}
 use Rattle.sudoers_line.specs.Node.{Def}
 use Rattle.sudoers_line.specs.declared.node.Kind.{Kind}
@@ -8,10 +8,10 @@ use Rattle.sudoers_tree.specs.Line.{Line, line_shown}
 use Rattle.sudoers_tree.specs.Load.{Loaded, files_of}
 use Rattle.sudoers_tree.specs.declared.place.FilePlace.{FilePlace}
 use Rattle.sudoers_edit_script.specs.declared.edit.Edit.TheVariants.{AddMember, DropMember}
-use Rattle.sudoers_edit.specs.Editing.{Refuses, place_in_file, step}
+use Rattle.sudoers_edit.specs.Editing.{Refuses, place_in_file}
 use Rattle.sudoers_edit.specs.declared.fault.EditFault.{EditFault}
 use Rattle.sudoers_edit.specs.declared.one_more.Among.TheVariants as among
-use Rattle.sudoers_edit.specs.Landing.{Lines, and_then, landed}
+use Rattle.sudoers_edit.specs.Landing.{Lines}
 use Rattle.sudoers_edit.specs.SpliceEdits.{drop_member, cut_out}
 use Rattle.sudoers_edit.specs.internal.FileSplicing.{IsDefIn, ReplacesIn}
 use Rattle.sudoers_edit.proofs.DefLemmas.{refused_so, refuses_so}
@@ -96,8 +96,8 @@ returns c =
     let begins : seam at (member_extents d.members) ≡ Some from = bytes.1 in
     let stops : owned_stop at (member_extents d.members) ≡ Some to = bytes.2 in
     let leads : ReplacesIn (DropMember k name at) (AddMember k name at s) (AddMember k name at s ∷ []) policy place.file place.line text =
-        drop_replaces laws k name at from to s text policy place line d c.is_loaded.ensures c.in-Ok.ensures.found begins stops c.in-Ok-cut_out.ensures.cut refl
-        (drop_found at k name policy place line d c.in-Ok.ensures.found ∙ bytes.0 ∙ c.in-Ok-cut_out.ensures.outcome place.line lines) in
+    drop_replaces laws k name at from to s text policy place line d c.is_loaded.ensures c.in-Ok.ensures.found begins stops c.in-Ok-cut_out.ensures.cut refl
+    (drop_found at k name policy place line d c.in-Ok.ensures.found ∙ bytes.0 ∙ c.in-Ok-cut_out.ensures.outcome place.line lines) in
     let inverse : AddMember k name at s ∷ [] ≡ c.in_ok-inverse.inverse = sym c.in_ok-inverse.ensures in
     c.line_replaced.ensures (DropMember k name at) (AddMember k name at s)
     (subst (λ i. ReplacesIn (DropMember k name at) (AddMember k name at s) i policy place.file place.line text) inverse leads)
