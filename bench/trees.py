@@ -27,6 +27,13 @@ def write_tree(folder, size, count):
     return root
 
 
+def bundle(size, count):
+    """The same files as a bundle: each behind a line with the number of its bytes and its name."""
+    files = [(b"sudoers", b"# a root\n@includedir d\n")]
+    files += [(b"d/%03d" % number, part) for number, part in enumerate(parts(policies.policy(size), count))]
+    return b"".join(b"%%%% %d %s\n%s" % (len(text), name, text) for name, text in files)
+
+
 def write_policy(path, text):
     """Writes a file with the mode that `visudo` asks for."""
     with open(path, "wb") as file:
