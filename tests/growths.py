@@ -119,7 +119,12 @@ CHANGES = {
         Change("put", 2, 0, b"@includedir d\n"),
     ),
 }
-NAMES = ((b"U", b"A"), (b"U", b"B"), (b"U", b"C"), (b"H", b"H"), (b"H", b"I"), (b"C", b"USED"), (b"C", b"UNUSED"), (b"C", b"SH"), (b"R", b"R"))
+NAMES = (
+    *((b"U", name) for name in (b"A", b"B", b"C")),
+    *((b"H", name) for name in (b"H", b"I")),
+    *((b"C", name) for name in (b"USED", b"UNUSED", b"SH")),
+    (b"R", b"R"),
+)
 ALIASES = [call(byte, named(KIND_OF[kind], name)) for kind, name in NAMES for byte in (b"d", b"m")]
 
 

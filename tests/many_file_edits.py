@@ -16,8 +16,15 @@ from tables import PROGRAM, call, programs
 from tables_edit import named
 from tally import difference
 
+MAIN = rb"""# people
+User_Alias OPS = ann, \
+    bob, cho : WEB = dan, %web, OPS # two
+@include a
+@includedir d
+OPS H = (DB) SH, TOOLS : SITES = !SH
+"""
 FILES = [
-    (b"main", b"# people\nUser_Alias OPS = ann, \\\n    bob, cho : WEB = dan, %web, OPS # two\n@include a\n@includedir d\nOPS H = (DB) SH, TOOLS : SITES = !SH\n"),
+    (b"main", MAIN),
     (b"a", b"Runas_Alias DB = postgres, mysql\n@include b\nDefaults:OPS !lecture\nWEB, !OPS SITES = ALL\n"),
     (b"b", b"Cmnd_Alias SH = /bin/sh, /bin/bash -c x : TOOLS = SH, !/bin/tool\nDefaults!SH noexec\n"),
     (b"d/x", b"Host_Alias H = h1, 10.0.0.0/8, !h2 : SITES = H, h3\nDefaults@H log_host\n"),
