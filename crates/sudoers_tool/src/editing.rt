@@ -136,7 +136,11 @@ fn named_files<F: Files>(
 }
 
 /// Returns the file `name` of `files`.
-fn named_file<F: Files>(alloc: Global, files: &mut F, name: &[u8]) -> Result<NamedFile, LayerFault> {
+fn named_file<F: Files>(
+    alloc: Global,
+    files: &mut F,
+    name: &[u8],
+) -> Result<NamedFile, LayerFault> {
     let bytes = match files.read(alloc, name) {
         Ok(Some(bytes)) => bytes,
         Ok(None) => return Err(LayerFault::from(GatherFault::NoRoot)),

@@ -16,7 +16,8 @@ use std::io::Write;
 use std::process::ExitCode;
 use sudoers_files::FileOfStream;
 use sudoers_run::{
-    CheckWords, ConvertWords, Counted, Form, ToolFault, fault_text, run_check, run_convert, run_show,
+    CheckWords, ConvertWords, Counted, Form, ToolFault, fault_text, run_check, run_convert,
+    run_show,
 };
 
 /// The forms in which `convert` prints.
