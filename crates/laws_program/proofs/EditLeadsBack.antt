@@ -1,5 +1,5 @@
 -- What `edit` wrote leads back.
-use Rattle.laws_program.proofs.Common.{◌≡◌, ◌≢◌, ◌∙◌, ℕ, zero, suc, ◌+◌, ◌≤◌, Bool, true, false, List, [], ◌∷◌, ◌++◌, length, map, slice_index, Option, Some, None, Result, Ok, Err}
+use Rattle.laws_program.proofs.Common.{◌≡◌, ◌≢◌, ◌∙◌, ℕ, suc, ◌≤◌, Bool, true, false, List, [], ◌∷◌, ◌++◌, length, map, slice_index, Option, Some, None, Result, Ok, Err}
 use Rattle.laws_program.proofs.Common.{refl, sym, ap, subst, arith, if◌then◌else◌, AllByRecursion, join, append-nil, codes, flat_map, list_any, ◌==◌}
 use Rattle.laws_program.proofs.Common.{physical_lines, split_text}
 use Rattle.std.proofs.Common.{take, drop, ◌<◌, ◌^◌}
@@ -8,14 +8,13 @@ use Rattle.std.proofs.lemmas.Bool.{le-ltb, ltb-false}
 use Rattle.std.proofs.lemmas.List.{take-append-drop}
 use Rattle.std.specs.Prelude.{nat_lt}
 use Rattle.std.specs.Option.{option_map}
-use Rattle.sudoers_text.specs.Cut.{cut_of}
 use Rattle.sudoers_text.specs.Fault.{text_limit}
 use Rattle.sudoers_tree.specs.Files.{FileReading, lines_of}
 use Rattle.sudoers_tree.specs.Load.{Loaded, file_of, files_of, load_of, one_file}
 use Rattle.sudoers_tree.specs.Policy.{texts}
 use Rattle.sudoers_tree.specs.declared.load.NamedFile.{NamedFile}
 use Rattle.sudoers_tree.specs.declared.load_fault.LoadFault.{LoadFault}
-use Rattle.sudoers_bundle.specs.Bundle.{AllCanBeHeld, CanBeHeld, bundle, files_in}
+use Rattle.sudoers_bundle.specs.Bundle.{AllCanBeHeld, bundle, files_in}
 use Rattle.sudoers_edit_script.specs.Script.{edit_limit, spelling, AreNumbered, AreSpellable}
 use Rattle.sudoers_edit_script.specs.ScriptReading.{reading}
 use Rattle.sudoers_edit_script.specs.declared.edit.Edit.{Edit}

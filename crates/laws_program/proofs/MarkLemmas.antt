@@ -1,8 +1,8 @@
 -- The policy of a text that was written stands behind its script.
-use Rattle.laws_program.proofs.Common.{◌≡◌, ◌≢◌, ◌∙◌, ◌+◌, ℕ, zero, suc, Bool, true, false, ◌==◌, ◌&&◌, List, [], ◌∷◌, ◌++◌, slice_index, Option, Some, None, refl, sym, ap, ap₂, append_assoc, AllByRecursion, join, bytes_eq, codes, list_any, if◌then◌else◌}
+use Rattle.laws_program.proofs.Common.{◌≡◌, ◌≢◌, ◌∙◌, ℕ, Bool, true, false, ◌==◌, ◌&&◌, List, [], ◌∷◌, ◌++◌, slice_index, Option, Some, None, refl, sym, ap, ap₂, append_assoc, AllByRecursion, join, bytes_eq, codes, list_any, if◌then◌else◌}
 use Rattle.laws_program.proofs.Common.{physical_lines, split_text}
-use Rattle.std.proofs.Common.{length, length-append, subst, ne_eqb, take, eqb-true, ◌<◌, ◌^◌, arith}
-use Rattle.std.proofs.lemmas.Bool.{or_parts, eq-eqb}
+use Rattle.std.proofs.Common.{length, length-append, subst, ne_eqb, take, ◌<◌, ◌^◌, arith}
+use Rattle.std.proofs.lemmas.Bool.{or_parts}
 use Rattle.std.proofs.lemmas.Slice.Eq.{bytes_eq-Decides}
 use Rattle.std.specs.Fmt.{decimal}
 use Rattle.std.specs.Option.{option_map}
@@ -141,37 +141,46 @@ joined_some : (line : List ℕ) (ls : List (List ℕ)) → line ≢ [] → join 
 joined_some [] ls some none = some refl
 joined_some (b ∷ line) ls some none = absurd cc
 
--- lines that are told of as a bundle are not empty, and no lines are more than all
-told_lines : (ls front ks : List (List ℕ)) (told : Given) → split_lines ls ≡ Some (front, told, ks)
-    → (told ≡ given.Bundle → join ks ≢ []) × (length (join ks) ≤ length (join ls))
-told_lines [] front ks told e = absurd cc
-told_lines (l ∷ ls) front ks told e = by (is_mark l) (is_header l) refl e
-  where
-    more : (o : Option Parts) → split_lines ls ≡ o → option_map {U = Parts} (λ (parts : Parts). (l ∷ parts.0, parts.1, parts.2)) o ≡ Some (front, told, ks)
-        → (told ≡ given.Bundle → join ks ≢ []) × (length (join ks) ≤ length (join (l ∷ ls)))
-    more None is e = absurd cc
-    more (Some p) is e =
-        let same : p.1 ≡ told = cc in
-        let rest : p.2 ≡ ks = cc in
-        let both = told_lines ls p.0 p.2 p.1 is in (
-          λ bundled none. both.0 (same ∙ bundled) (ap join rest ∙ none),
-          subst (λ (z : List (List ℕ)). length (join z) ≤ length (join (l ∷ ls))) rest (omega (arith, both.1, length-append l (join ls))),
-        )
+-- what equal parts have in common
+equal_parts : {A B C : Type 0} → (x y : A × B × C) → Some x ≡ Some y → (x.1 ≡ y.1) × (x.2 ≡ y.2)
+equal_parts x y e = let same : x ≡ y = cc in (ap (λ z. z.1) same, ap (λ z. z.2) same)
 
-    by : (m h : Bool) → is_header l ≡ h → (if m then Some ([], given.Alone, ls) else (if h then Some ([], given.Bundle, l ∷ ls) else option_map {U = Parts} (λ (parts : Parts). (l ∷ parts.0, parts.1, parts.2)) (split_lines ls))) ≡ Some (front, told, ks)
-        → (told ≡ given.Bundle → join ks ≢ []) × (length (join ks) ≤ length (join (l ∷ ls)))
-    by true h is e =
-        let same : given.Alone ≡ told = cc in
-        let rest : ls ≡ ks = cc in (
-          λ bundled none. absurd (let no : given.Alone ≡ given.Bundle = same ∙ bundled in cc),
-          subst (λ (z : List (List ℕ)). length (join z) ≤ length (join (l ∷ ls))) rest (omega (arith, length-append l (join ls))),
+-- what is said of the policy that lines are told of
+abbrev IsToldOf : Given → List (List ℕ) → List (List ℕ) → Type 0
+IsToldOf told ks ls = (told ≡ given.Bundle → join ks ≢ []) × (length (join ks) ≤ length (join ls))
+
+one_line_more : (l : List ℕ) (ls front ks : List (List ℕ)) (told : Given) (p : Parts) → IsToldOf p.1 p.2 ls
+    → (let some : Option Parts = Some (l ∷ p.0, p.1, p.2) in some) ≡ Some (front, told, ks) → IsToldOf told ks (l ∷ ls)
+one_line_more l ls front ks told p both e =
+    let same = equal_parts (l ∷ p.0, p.1, p.2) (front, told, ks) e in (
+      λ bundled none. both.0 (same.0 ∙ bundled) (ap join same.1 ∙ none),
+      subst (λ (z : List (List ℕ)). length (join z) ≤ length (join (l ∷ ls))) same.1 (omega (arith, both.1, length-append l (join ls))),
+    )
+
+-- lines that are told of as a bundle are not empty, and no lines are more than all
+told_lines : (ls front ks : List (List ℕ)) (told : Given) → split_lines ls ≡ Some (front, told, ks) → IsToldOf told ks ls
+told_lines [] front ks told e = absurd cc
+told_lines (l ∷ ls) front ks told e = by (is_mark l) (is_header l) refl (λ f k t r. told_lines ls f k t r) e
+  where
+    more : (o : Option Parts) → split_lines ls ≡ o → ((f k : List (List ℕ)) (t : Given) → split_lines ls ≡ Some (f, t, k) → IsToldOf t k ls)
+        → option_map {U = Parts} (λ (parts : Parts). (l ∷ parts.0, parts.1, parts.2)) o ≡ Some (front, told, ks) → IsToldOf told ks (l ∷ ls)
+    more None is rest e = absurd cc
+    more (Some p) is rest e = one_line_more l ls front ks told p (rest p.0 p.2 p.1 is) e
+
+    by : (m h : Bool) → is_header l ≡ h → ((f k : List (List ℕ)) (t : Given) → split_lines ls ≡ Some (f, t, k) → IsToldOf t k ls)
+        → (if m then Some ([], given.Alone, ls) else (if h then Some ([], given.Bundle, l ∷ ls) else option_map {U = Parts} (λ (parts : Parts). (l ∷ parts.0, parts.1, parts.2)) (split_lines ls))) ≡ Some (front, told, ks)
+        → IsToldOf told ks (l ∷ ls)
+    by true h is rest e =
+        let same = equal_parts ([], given.Alone, ls) (front, told, ks) e in (
+          λ bundled none. absurd (let no : given.Alone ≡ given.Bundle = same.0 ∙ bundled in cc),
+          subst (λ (z : List (List ℕ)). length (join z) ≤ length (join (l ∷ ls))) same.1 (omega (arith, length-append l (join ls))),
         )
-    by false true is e =
-        let rest : l ∷ ls ≡ ks = cc in (
-          λ bundled none. joined_some l ls (header_some l is) (ap join rest ∙ none),
-          subst (λ (z : List (List ℕ)). length (join z) ≤ length (join (l ∷ ls))) rest (omega arith),
+    by false true is rest e =
+        let same = equal_parts ([], given.Bundle, l ∷ ls) (front, told, ks) e in (
+          λ bundled none. joined_some l ls (header_some l is) (ap join same.1 ∙ none),
+          subst (λ (z : List (List ℕ)). length (join z) ≤ length (join (l ∷ ls))) same.1 (omega arith),
         )
-    by false false is e = more (split_lines ls) refl e
+    by false false is rest e = more (split_lines ls) refl rest e
 
 -- a policy that is told of as a bundle is not empty, and no policy is longer than the input
 pub told_text : ((text : List ℕ) → join (physical_lines text) ≡ text) → (input script text : List ℕ) (form : Given) → split_text input ≡ Some (script, form, text)
@@ -183,9 +192,8 @@ told_text pieces input script text form e = by (split_lines (physical_lines inpu
         → (form ≡ given.Bundle → text ≢ []) × (length text ≤ length input)
     by None is e = absurd cc
     by (Some p) is e =
-        let same : p.1 ≡ form = cc in
-        let whole : join p.2 ≡ text = cc in
+        let same = equal_parts (join p.0, p.1, join p.2) (script, form, text) e in
         let both = told_lines (physical_lines input) p.0 p.2 p.1 is in (
-          λ bundled none. both.0 (same ∙ bundled) (whole ∙ none),
-          subst (λ (z : List ℕ). length z ≤ length input) whole (subst (λ (z : List ℕ). length (join p.2) ≤ length z) (pieces input) both.1),
+          λ bundled none. both.0 (same.0 ∙ bundled) (same.1 ∙ none),
+          subst (λ (z : List ℕ). length z ≤ length input) same.1 (subst (λ (z : List ℕ). length (join p.2) ≤ length z) (pieces input) both.1),
         )

@@ -36,13 +36,12 @@ const HEADER: &[u8] = b"%% ";
 /// The name of a file that is given alone.
 const ALONE: &[u8] = b"policy";
 
-/// Reads a script and a policy, makes the edits, takes back up to `undo` of them, the last first, and makes up to
-/// `redo` of these again. Writes the script that takes back the edits that then stand, and the policy that they lead to. The policy is
-/// either the mark and the text of one file, or a bundle, and it is written in the form in which it was read.
+/// Reads a script, the mark and a policy, makes the edits, takes back up to `undo` of them, the last first, and makes up to
+/// `redo` of these again. Writes the script that takes back the edits that then stand, the mark and the policy that they lead to.
 ///
 /// # Errors
 ///
-/// [`ToolFault`]: of reading, then of the input, in the order mark, bundle, script, policy, edits, inverse; then of writing.
+/// [`ToolFault`]: of reading, then of the input, in the order mark, script, policy, edits, inverse; then of writing.
 /// Nothing is written before a fault other than `Write`.
 pub fn run_edit<R: Source, W: Sink>(
     alloc: Global,
