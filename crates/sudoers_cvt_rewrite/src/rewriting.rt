@@ -22,7 +22,7 @@ use std::marker::Model;
 use sudoers_cvt::CvtFault;
 use sudoers_line_rows::{NodeRow, Rows, Tables, Text};
 use sudoers_match_list::Acyclic;
-use sudoers_tree::LineRow;
+use sudoers_tree::{ALL_NAME_BITS, LineRow};
 
 /// Lines that are written anew. Contracts see the list of the lines with what they say; they have no text.
 #[derive(Drop)]
@@ -107,7 +107,12 @@ pub fn write_lines(
         let choice = choose(alloc, policy, changes, &mut matcher, base, &row.node)?;
         let node = write_choice(alloc, source, &mut tables, &mut tally, &row.node, &choice)?;
         let text = Text { from: 0, to: 0 };
-        rows.push(LineRow { text, node })?;
+        rows.push(LineRow {
+            text,
+            node,
+            bits: ALL_NAME_BITS,
+            lfs: 0,
+        })?;
     }
     Ok((NewLines { tables, rows }, tally))
 }

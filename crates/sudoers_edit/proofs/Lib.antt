@@ -11,6 +11,7 @@ pub mod RenameLemmas
 mod ReplacedLemmas
 mod SeamLemmas
 mod StartLemmas
+mod AbsentNames
 mod DraftLemmas
 mod SpliceLemmas
 mod WayBackLemmas

@@ -34,7 +34,7 @@ of_atom k j name m (atom.Alias other) =
 of_atom k j name m a = nowhere (is_kind k j)
 
 -- members of lists
-picked : (k : Kind) (name : List ℕ) (ls : List Listed) → starts_among name (of_kind k ls) ≡ flat_map (start_if k name) (aliases_among ls)
+pub picked : (k : Kind) (name : List ℕ) (ls : List Listed) → starts_among name (of_kind k ls) ≡ flat_map (start_if k name) (aliases_among ls)
 picked k name [] = refl
 picked k name (l ∷ ls) = grind (
   arith,

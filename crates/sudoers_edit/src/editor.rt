@@ -84,8 +84,8 @@ impl Editor {
         }
     }
 
-    /// The policy as it stands: the edits of the journal, made one after another, lead to it from the lines that the editor
-    /// began with.
+    /// The policy as it stands: the edits of the journal, made one after another, lead to it from the policy that the
+    /// editor began with.
     pub fn policy(&self) -> &Policy
         ensures policy { result.now ≡ self.now.policy }
         ensures forth { run (edits_of self.now.journal) (first_of self.now) ≡ Some result.now }
@@ -114,18 +114,18 @@ impl Editor {
     ///
     /// The first cause of [`EditFault`]; the editor is then as it was.
     pub fn apply(&mut self, edit: &Edit) -> Result<(), EditFault>
-        // The lines are those of the definition.
+        // The policy is that of the definition.
         ensures step { OnOk result (step edit.now self.old.policy ≡ Ok self.new.policy) }
         // The journal grows by the edit with what takes it back.
         ensures journal { OnOk result (self.new.journal
             ≡ self.old.journal ++ record { edit = edit.now; inverse = inv edit.now self.old.policy } ∷ []) }
-        // That is exactly what leads back to the lines before.
+        // That is exactly what leads back to the policy before.
         ensures back { OnOk result (run (inv edit.now self.old.policy) self.new.policy ≡ Some self.old.policy) }
-        // It still leads back to the same lines.
+        // It still leads back to the same policy.
         ensures begun { first_of self.new ≡ first_of self.old }
         // No edit that was undone before can be made again.
         ensures undone { OnOk result (self.new.undone ≡ []) }
-        // A refusal is the definition's, or want of memory. It changes neither lines, journal nor undone edits.
+        // A refusal is the definition's, or want of memory. It changes neither policy, journal nor undone edits.
         ensures refused { IfErr result (λ fault. Refuses fault (step edit.now self.old.policy)) }
         ensures unchanged { OnErr result (self.new ≡ self.old) }
         // Want of memory is `NoMemory` alone: no other fault holds it.
@@ -145,14 +145,14 @@ impl Editor {
     ///
     /// Want of memory alone; the editor is then as it was.
     pub fn undo(&mut self) -> Result<bool, EditFault>
-        // The lines and the journal are those before the last edit of it, which comes first among the undone edits.
+        // The policy and the journal are those before the last edit of it, which comes first among the undone edits.
         ensures taken { result ≡ Ok true → TakesLast self.old self.new }
         // Nothing is taken back exactly where there is nothing.
         ensures none { result ≡ Ok false → (self.old.journal ≡ []) × (self.new ≡ self.old) }
         ensures empty { self.old.journal ≡ [] → result ≡ Ok false }
         ensures refused { IfErr result (λ fault. fault ≡ EditFault.NoMemory) }
         ensures unchanged { OnErr result (self.new ≡ self.old) }
-        // What stands still leads back to the same lines.
+        // What stands still leads back to the same policy.
         ensures begun { first_of self.new ≡ first_of self.old }
     {
         let Some(last) = self.journal.last() else {
@@ -171,16 +171,16 @@ impl Editor {
     ///
     /// Want of memory alone; the editor is then as it was.
     pub fn redo(&mut self) -> Result<bool, EditFault>
-        // The lines are those of the edit, and the journal grows by it with what takes it back.
+        // The policy is that of the edit, and the journal grows by it with what takes it back.
         ensures made { result ≡ Ok true → MakesAgain self.old self.new }
-        // A redo just after an undo gives back the lines, the journal and the undone edits before both.
+        // A redo just after an undo gives back the policy, the journal and the undone edits before both.
         ensures back { (begun : Desk) → TakesLast begun self.old → OnOk result (self.new ≡ begun) }
         // Nothing is made exactly where nothing is undone.
         ensures none { result ≡ Ok false → (self.old.undone ≡ []) × (self.new ≡ self.old) }
         ensures empty { self.old.undone ≡ [] → result ≡ Ok false }
         ensures refused { IfErr result (λ fault. fault ≡ EditFault.NoMemory) }
         ensures unchanged { OnErr result (self.new ≡ self.old) }
-        // What stands still leads back to the same lines.
+        // What stands still leads back to the same policy.
         ensures begun { first_of self.new ≡ first_of self.old }
     {
         let Some(undone) = self.undone.last() else {
@@ -199,7 +199,7 @@ impl Editor {
     ///
     /// The place of the first refused edit, from 0, and why; the edits before it stay.
     pub fn apply_all(&mut self, edits: &[Edit]) -> Result<(), (usize, EditFault)>
-        // Each text on the way is the definition's: the lines are those of the edits made so far.
+        // Each policy on the way is the definition's: that of the edits made so far.
         ensures policy { MatchResult result (λ _. run edits.now self.old.policy ≡ Some self.new.policy)
             (λ refused. run (take refused.0 edits.now) self.old.policy ≡ Some self.new.policy) }
         ensures journal { MatchResult result (λ _. edits_of self.new.journal ≡ edits_of self.old.journal ++ edits.now)

@@ -7,7 +7,7 @@ ghost use Rattle.sudoers_tree.specs.Changed.{brought};
 ghost use Rattle.sudoers_tree.specs.Definition.{place_of};
 ghost use Rattle.sudoers_tree.specs.Fault.{is_some};
 ghost use Rattle.sudoers_tree.specs.Files.{lines_of};
-ghost use Rattle.sudoers_tree.specs.Line.{line_shown, lines_shown};
+ghost use Rattle.sudoers_tree.specs.Line.{line_shown};
 ghost use Rattle.sudoers_tree.specs.Load.{Loaded, files_of, load_of};
 ghost use Rattle.sudoers_tree.specs.Walk.{is_on};
 ghost use Rattle.sudoers_tree.specs.declared.line_change.LineChange.{LineChange as LineChangeOf};
@@ -25,10 +25,10 @@ use sudoers_text::laws::{line_alone_is_whole, line_alone_size, lines_stand_alone
 use sudoers_text::{LINE_LIMIT, is_name, is_reserved};
 use sudoers_tree::laws::{
     changed_by_first, changed_files_have_lines, changed_walk_is_mapped, loaded_files_are_cut,
-    loaded_is_walk, loaded_lines_are_said, loaded_lines_stand, loaded_walk_is, texts_tell_lines,
-    walk_is,
+    loaded_is_walk, loaded_lines_are_said, loaded_lines_stand, loaded_walk_is, members_are_listed,
+    texts_tell_lines, walk_is,
 };
-use sudoers_tree::{Kind, Line, LineChange, LineRow, Policy, Rows, Walk};
+use sudoers_tree::{Kind, Line, LineChange, NameBits, Policy, Walk};
 
 /// Plans another name for an alias.
 pub fn alias_renamed(
@@ -141,28 +141,32 @@ fn append_swaps(
         ++ (if is_on policy.now.walk file then swaps_of_file file 0 kind name.now fresh.now (lines_of policy.now.files file) else [])) }
 {
     if policy.on_walk().contains(&file) {
-        let lines = policy.file_lines(file);
-        append_swaps_of(policy.allocator(), file, &lines, kind, name, fresh, changes)?;
+        append_swaps_of(policy, file, kind, name, fresh, changes)?;
     }
     Ok(())
 }
 
-/// Adds the changes of the lines of a file.
+/// Adds the changes of the lines of a file. It passes over lines that lack the bits of the name.
 fn append_swaps_of(
-    alloc: Global,
+    policy: &Policy,
     file: usize,
-    lines: &Rows<'_, LineRow>,
     kind: Kind,
     name: &[u8],
     fresh: &[u8],
     changes: &mut Vec<LineChange>,
 ) -> Result<(), AllocError>
-    ensures { OnOk result (changes.new.items ≡ changes.old.items ++ swaps_of_file file 0 kind name.now fresh.now (lines_shown lines.now)) }
+    ensures { OnOk result (changes.new.items ≡ changes.old.items ++ swaps_of_file file 0 kind name.now fresh.now (lines_of policy.now.files file)) }
 {
+    members_are_listed();
+    let bits = NameBits::of(name);
+    let alloc = policy.allocator();
+    let lines = policy.file_lines(file);
     for (at, row) in lines.rows.iter().enumerate() {
-        let line = Line::of(lines.tables, row);
-        let swap = swap_of(alloc, file, at, &line, kind, name, fresh)?;
-        append_option(swap, changes)?;
+        if policy.may_name(file, at, bits) {
+            let line = Line::of(lines.tables, row);
+            let swap = swap_of(alloc, file, at, &line, kind, name, fresh)?;
+            append_option(swap, changes)?;
+        }
     }
     Ok(())
 }

@@ -36,12 +36,13 @@ const HEADER: &[u8] = b"%% ";
 /// The name of a file that is given alone.
 const ALONE: &[u8] = b"policy";
 
-/// Reads a script, the mark and a policy, makes the edits, takes back up to `undo` of them, the last first, and makes up to
-/// `redo` of these again. Writes the script that takes back the edits that then stand, the mark and the policy that they lead to.
+/// Reads a script and a policy: the mark and the text of one file, or a bundle. Makes the edits. Then takes back up to `undo` of them, the
+/// last first, and makes up to `redo` of these again. Writes the script that takes back the edits that stand then, and the policy to which
+/// they lead, in the form in which it was read.
 ///
 /// # Errors
 ///
-/// [`ToolFault`]: of reading, then of the input, in the order mark, script, policy, edits, inverse; then of writing.
+/// [`ToolFault`]: of reading, then of the input, in the order mark, bundle, script, policy, edits, inverse; then of writing.
 /// Nothing is written before a fault other than `Write`.
 pub fn run_edit<R: Source, W: Sink>(
     alloc: Global,

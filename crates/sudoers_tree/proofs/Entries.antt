@@ -14,7 +14,7 @@ use Rattle.sudoers_tree.specs.Definition.{Definition, is_kind, definitions_from,
 use Rattle.sudoers_tree.specs.Policy.{alias_limit, count_of}
 use Rattle.sudoers_tree.specs.Fault.{is_some, name_fault}
 use Rattle.sudoers_tree.specs.Reading.{first_name_fault, or_later}
-use Rattle.sudoers_tree.specs.Index.{named, entries, entry_fault, unless, entered, Comes, Enters, Indexes}
+use Rattle.sudoers_tree.specs.internal.Index.{named, entries, entry_fault, unless, entered, Comes, Enters, Indexes}
 use Rattle.sudoers_tree.specs.declared.index.Index.{Index}
 
 -- ---- what a map has

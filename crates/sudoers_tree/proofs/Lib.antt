@@ -16,6 +16,7 @@ pub mod CutFiles
 pub mod ChangedFileLines
 pub mod MappedLines
 pub mod MappedWalk
+pub mod SameWalk
 pub mod MappedLoad
 pub mod ChangedWalk
 pub mod LineRows
@@ -31,6 +32,8 @@ pub mod OffWalk
 pub mod Loads
 pub mod SaidLines
 pub mod Sound
+pub mod SameKeys
+pub mod NameChanges
 pub mod Passed
 pub mod Outcomes
 pub mod OneOutcome
@@ -39,7 +42,13 @@ pub mod ReadText
 pub mod WholeLines
 pub mod ChangedLines
 pub mod NameLists
+pub mod RenamedNames
 pub mod PieceLines
 pub mod ReadPieces
 pub mod ListedMembers
+pub mod AddedBits
+pub mod AbsentBits
 pub mod TreeLines
+pub mod KeptRows
+pub mod KeptNames
+pub mod WalksBefore

@@ -21,12 +21,12 @@ use Rattle.sudoers_tree.proofs.Numbered.{behind_first, first_at}
 use Rattle.sudoers_tree.proofs.SameNames.{same_name, same_targets}
 use Rattle.sudoers_tree.proofs.Sound.{none_of_sound, sound_of_policy}
 
-ok_is : (w now : Walked) → (let r : Outcome = Ok w in r) ≡ Ok now → w ≡ now
+pub ok_is : (w now : Walked) → (let r : Outcome = Ok w in r) ≡ Ok now → w ≡ now
 ok_is w now is = cc
 
 -- ---- one line
 
-taken_is : (name : List ℕ) (at : Spot) (line : Line) (w now : Walked) → taken name at line w ≡ Ok now → with_line at line w ≡ now
+pub taken_is : (name : List ℕ) (at : Spot) (line : Line) (w now : Walked) → taken name at line w ≡ Ok now → with_line at line w ≡ now
 taken_is name at line w now is = by (first_name_fault (definitions w.lines) (definitions_in (length w.lines) line.node)) is
   where
     by : (o : Option ReadFault) → unless_in name (with_line at line w) o ≡ Ok now → with_line at line w ≡ now
@@ -41,7 +41,7 @@ same_first v w (f ∷ inner) same =
     ∙ ap (λ later. if is_on w f then Some f else later) (same_first v w inner same)
 
 -- What a lead opens in a walk over files, it opens in a walk over others of the same names on which the same files are.
-opened_alike : (files others : List FileReading) → file_names files ≡ file_names others → (at other_at : Site) (v w : Walked) (o : Option Lead)
+pub opened_alike : (files others : List FileReading) → file_names files ≡ file_names others → (at other_at : Site) (v w : Walked) (o : Option Lead)
     (inner : List ℕ) → v.on ≡ w.on → opened files at w o ≡ Ok inner → opened others other_at v o ≡ Ok inner
 opened_alike files others names at other_at v w None inner same is = is
 opened_alike files others names at other_at v w (Some lead) inner same is = by_targets (targets files lead) refl is

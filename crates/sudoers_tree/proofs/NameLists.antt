@@ -9,7 +9,7 @@ use Rattle.std.proofs.lemmas.List.{length-map, map-append, take-map, take_more, 
 use Rattle.std.proofs.lemmas.Slice.Eq.{bytes_eq-Decides}
 use Rattle.sudoers_tree.specs.declared.place.Place.{Place}
 use Rattle.sudoers_tree.specs.Fault.{is_some}
-use Rattle.sudoers_tree.specs.Index.{named, number_named, names_in, known_by, is_name_of}
+use Rattle.sudoers_tree.specs.internal.Index.{named, number_named, names_in, known_by, is_name_of}
 
 -- ---- lists beside lists
 

@@ -12,7 +12,7 @@ use Rattle.sudoers_tree.specs.declared.kind.LineKind.TheVariants.{Alias}
 use Rattle.sudoers_tree.specs.declared.fault.ReadFault.{ReadFault}
 use Rattle.sudoers_tree.specs.declared.fault.ReadFault.TheVariants.{NoMemory}
 use Rattle.sudoers_tree.specs.Definition.{Definition, definitions, definitions_in, definitions_since}
-use Rattle.sudoers_tree.specs.Index.{Enters, Indexes}
+use Rattle.sudoers_tree.specs.internal.Index.{Enters, Indexes}
 use Rattle.sudoers_tree.specs.Reading.{first_name_fault, or_later}
 use Rattle.sudoers_tree.proofs.Joined.{definitions_append, definitions_push}
 use Rattle.sudoers_tree.proofs.Numbered.{drop_at}

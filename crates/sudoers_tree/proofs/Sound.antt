@@ -13,7 +13,7 @@ use Rattle.sudoers_tree.specs.Definition.{Definition, is_kind, defined, definiti
 use Rattle.sudoers_tree.specs.Policy.{alias_limit, count_of, IsFree, AreOnce}
 use Rattle.sudoers_tree.specs.Fault.{is_some, name_fault, AreSound}
 use Rattle.sudoers_tree.specs.Reading.{first_name_fault, or_later}
-use Rattle.sudoers_tree.specs.Index.{entries}
+use Rattle.sudoers_tree.specs.internal.Index.{entries}
 use Rattle.sudoers_tree.proofs.Entries.{count_entries, entries_append, same_kind}
 use Rattle.sudoers_tree.proofs.Joined.{definitions_append}
 
@@ -23,7 +23,7 @@ or_assoc : (a b c : Option ReadFault) → or_later a (or_later b c) ≡ or_later
 or_assoc None b c = refl
 or_assoc (Some fault) b c = refl
 
-none_both : (a b : Option ReadFault) → or_later a b ≡ None → (a ≡ None) × (b ≡ None)
+pub none_both : (a b : Option ReadFault) → or_later a b ≡ None → (a ≡ None) × (b ≡ None)
 none_both None b e = (refl, e)
 none_both (Some fault) b e = absurd cc
 
@@ -192,7 +192,7 @@ count_append k ds es =
     ap length (entries_append k ds es) ∙ length-append (entries k ds) (entries k es) in
     omega (arith, count_entries k (ds ++ es), count_entries k ds, count_entries k es, parts)
 
-kind_is : (k j : Kind) → is_kind k j ≡ true → k ≡ j
+pub kind_is : (k j : Kind) → is_kind k j ≡ true → k ≡ j
 kind_is User User e = refl
 kind_is Runas Runas e = refl
 kind_is Host Host e = refl

@@ -9,9 +9,11 @@ use Rattle.sudoers_line_rows.specs.declared.rows.NodeRow.{NodeRow}
 use Rattle.sudoers_line_rows.specs.declared.rows.Tables.{Tables}
 use Rattle.sudoers_line_rows.specs.declared.rows.Text.{Text}
 use Rattle.sudoers_line_reader.specs.Outcome.{outcome_of}
+use Rattle.sudoers_text.specs.Fault.{lf_count}
 use Rattle.sudoers_line_rows.specs.Tables.{Grown, Grows, Lasts, Keeps, node_in, text_in}
 use Rattle.sudoers_tree.specs.declared.line.LineRow.{LineRow}
 use Rattle.sudoers_tree.specs.Line.{Line, line_in}
+use Rattle.sudoers_tree.specs.internal.LineBits.{bits_in}
 use Rattle.sudoers_tree.specs.internal.Tree.{Stands}
 
 abbrev pub GrowOn : Type 0
@@ -22,6 +24,8 @@ stands_on : GrowOn → (t u : Tables) → Grown t u → (row : LineRow) → Stan
 stands_on on t u g row stands = record {
   lasts = λ v h. stands.lasts v (on t u v g h) ∙ sym (stands.lasts u g);
   says = subst (λ (line : Line). outcome_of line.text ≡ Ok line.node) (sym (stands.lasts u g)) stands.says;
+  bits = stands.bits ∙ sym (ap (λ (line : Line). bits_in line.node) (stands.lasts u g));
+  lfs = stands.lfs ∙ sym (ap (λ (line : Line). lf_count line.text) (stands.lasts u g));
 }
 
 pub all_on : GrowOn → (t u : Tables) → Grown t u → (rows : List LineRow) → All (Stands t) rows → All (Stands u) rows
@@ -37,18 +41,21 @@ same_lines t u g (row ∷ rows) all =
 pub grows_same : {X : Type 0} (xs ys : List X) → ys ≡ xs → Grows xs ys
 grows_same xs ys is = ([], is ∙ sym (append-nil xs))
 
-abbrev row_of : Text → NodeRow → LineRow
-row_of text node = record { text = text; node = node }
+abbrev row_of : Text → NodeRow → ℕ → ℕ → LineRow
+row_of text node bits lfs = record { text = text; node = node; bits = bits; lfs = lfs }
 
 abbrev line_of : List ℕ → Node → Line
 line_of text node = record { text = text; node = node }
 
 -- A row stands whose line was read into tables, and whose text was kept in them then.
-pub read_stands : GrowOn → ((t : Tables) → Grown t t) → (t u : Tables) (node : NodeRow) (text : Text) (bytes : List ℕ) → outcome_of bytes ≡ Ok (node_in t node)
-    → Lasts node_in t node → Grown t u → Keeps text_in u text bytes → Stands u (row_of text node)
-read_stands on self t u node text bytes says lasts g keeps = record {
+pub read_stands : GrowOn → ((t : Tables) → Grown t t) → (t u : Tables) (node : NodeRow) (text : Text) (bits lfs : ℕ) (bytes : List ℕ) → outcome_of bytes ≡ Ok (node_in t node)
+    → Lasts node_in t node → Grown t u → Keeps text_in u text bytes → bits ≡ bits_in (node_in u node) → lfs ≡ lf_count bytes
+    → Stands u (row_of text node bits lfs)
+read_stands on self t u node text bits lfs bytes says lasts g keeps are count = record {
   lasts = λ v h. ap₂ line_of (keeps v h ∙ sym (keeps u (self u))) (lasts v (on t u v g h) ∙ sym (lasts u g));
   says = ap outcome_of (keeps u (self u)) ∙ says ∙ ap (λ (n : Node). Ok n) (sym (lasts u g));
+  bits = are;
+  lfs = count ∙ ap lf_count (sym (keeps u (self u)));
 }
 
 -- The lines of the rows with one more.

@@ -20,7 +20,7 @@ use Rattle.sudoers_tree.specs.Fault.{syntax_fault}
 use Rattle.sudoers_tree.specs.Policy.{texts}
 use Rattle.sudoers_tree.specs.Reading.{line_behind, line_by, unless_faulty, first_name_fault, or_later, read_behind, with_line}
 use Rattle.sudoers_tree.specs.Files.{going_on, read_until}
-use Rattle.sudoers_tree.specs.Index.{Enters}
+use Rattle.sudoers_tree.specs.internal.Index.{Enters}
 use Rattle.sudoers_tree.proofs.Joined.{lf_append, definitions_push}
 use Rattle.sudoers_tree.proofs.Sound.{first_append}
 use Rattle.sudoers_tree.proofs.Outcomes.{LinesAre}

@@ -9,11 +9,12 @@ pub mod Physical
 pub mod Kind
 pub mod Definition
 pub mod Mention
+pub mod Standing
+pub mod NameBits
 pub mod Policy
 pub mod Fault
 pub mod Reading
 pub mod Single
-pub mod Index
 pub mod Changed
 pub mod ChangedFiles
 pub mod Mapped

@@ -1,4 +1,5 @@
 -- Devices of the proofs. No contract of an exported function cites them.
+pub mod Index
 pub mod Tree
 pub mod Wrapped
 pub mod Passing
@@ -7,3 +8,7 @@ pub mod Walking
 pub mod Pieces
 pub mod Loading
 pub mod Changing
+pub mod KeptWalk
+pub mod KeptLines
+pub mod Keys
+pub mod LineBits

@@ -1,6 +1,6 @@
 //! Files that are read.
 
-ghost use Rattle.std.specs.Prelude.{◌≡◌, ◌≤◌, ◌+◌, ℕ, length, slice_get, option_map, IfOk, IfSome, Some};
+ghost use Rattle.std.specs.Prelude.{◌≡◌, ◌≤◌, ◌+◌, ℕ, List, false, length, slice_get, option_map, IfOk, IfSome, Some};
 ghost use Rattle.std.specs.Option.{option_copied};
 ghost use Rattle.sudoers_text.specs.Line.{join};
 ghost use Rattle.sudoers_text.specs.Fault.{text_limit};
@@ -9,7 +9,9 @@ ghost use Rattle.sudoers_tree.specs.Fault.{syntax_fault};
 ghost use Rattle.sudoers_tree.specs.Kind.{line_kind};
 ghost use Rattle.sudoers_tree.specs.Line.{Line as LineOf, line_in, line_shown, lines_shown};
 ghost use Rattle.sudoers_tree.specs.Load.{reserved_in};
+ghost use Rattle.sudoers_tree.specs.NameBits.{bits_of};
 ghost use Rattle.sudoers_tree.specs.Reading.{or_later};
+ghost use Rattle.sudoers_tree.specs.Standing.{IsAbsent};
 ghost use Rattle.sudoers_tree.specs.Policy.{texts};
 ghost use Rattle.sudoers_tree.specs.internal.Files.{AreFiles, files_shown};
 ghost use Rattle.sudoers_tree.specs.internal.Tree.{Stands};
@@ -18,7 +20,7 @@ use crate::fault::{ReadFault, SyntaxFault};
 use crate::index::first_reserved;
 use crate::kind::LineKind;
 use crate::line::{Line, LineRow};
-use crate::position::lf_count;
+use crate::name_bits::NameBits;
 use std::alloc::{AllocError, Global};
 use sudoers_line::Items;
 use sudoers_line_rows::{Rows, Tables};
@@ -105,11 +107,17 @@ impl<'a> Files<'a> {
         Some(self.line_row(file, number)?.kind())
     }
 
-    /// Returns the text of the line with the number `number` of a file, both from 0.
-    fn text(&self, file: usize, number: usize) -> Option<&'a [u8]>
-        ensures { option_copied result ≡ option_map (λ (line : LineOf). line.text) (slice_get (lines_of (files_shown self.now) file) number) }
+    /// Returns whether an alias of a name with the bits `bits` may stand in the line with the number `number` of the file with the number
+    /// `file`, both from 0. If it returns false, none stands there.
+    pub fn may_name(&self, file: usize, number: usize, bits: NameBits) -> bool
+        requires { AreFiles self.now }
+        ensures { (name : List ℕ) (says : LineOf) → bits.set ≡ bits_of name → result ≡ false
+            → slice_get (lines_of (files_shown self.now) file) number ≡ Some says → IsAbsent name says.node }
     {
-        Some(self.tables.text(self.line_row(file, number)?.text))
+        match self.line_row(file, number) {
+            Some(row) => row.may_name(bits),
+            None => false,
+        }
     }
 
     /// Returns the first fault that the file with the number `file` has if it is not on the walk.
@@ -150,8 +158,8 @@ impl<'a> Files<'a> {
             → result ≡ row_of (lines_of (files_shown self.now) file) (number + 1) }
     {
         self.files_fit();
-        match self.text(file, number) {
-            Some(text) => row + lf_count(text),
+        match self.line_row(file, number) {
+            Some(line) => row + line.lfs as usize,
             None => row,
         }
     }

@@ -1,10 +1,12 @@
 //! The index of the names of aliases.
 
-ghost use Rattle.std.specs.Prelude.{◌≡◌, [], ◌∷◌, ◌++◌, List, Ok, length, IfOk, IfErr, drop};
+ghost use Rattle.std.specs.Prelude.{◌≡◌, ◌<◌, [], ◌∷◌, ◌++◌, if◌then◌else◌, List, None, Ok, length, IfOk, IfErr, OnErr, OnOk, drop};
+ghost use Rattle.sudoers_line.specs.declared.node.Kind.{Kind as KindOf};
 ghost use Rattle.sudoers_line_rows.specs.View.{defs_shown, node_shown};
-ghost use Rattle.sudoers_tree.specs.Definition.{Definition, definitions_from, definitions_in};
+ghost use Rattle.sudoers_tree.specs.Definition.{Definition, definitions_from, definitions_in, is_kind};
 ghost use Rattle.sudoers_tree.specs.Load.{first_reserved};
-ghost use Rattle.sudoers_tree.specs.Index.{names_of, Indexes, entry_fault, entered, renewed, renewed_index, Comes, Enters};
+ghost use Rattle.sudoers_tree.specs.internal.Index.{named, names_of, Indexes, entry_fault, entered, renewed, renewed_index, Comes, Enters};
+ghost use Rattle.sudoers_tree.specs.internal.Keys.{renamed_at};
 
 use crate::fault::ReadFault;
 use crate::names::Names;
@@ -52,20 +54,24 @@ impl Index {
         }
     }
 
-    /// Returns a copy.
+    /// Gives the name of the kind `kind` with the number `number`, from 0, the name `name` in its place.
     ///
     /// # Errors
     ///
-    /// A growth of memory was refused.
-    pub fn copied(&self, alloc: Global) -> Result<Index, AllocError>
-        ensures { IfOk result (λ index. index ≡ self.now) }
+    /// A growth of memory was refused. The names stay as they are.
+    pub fn rename(&mut self, kind: Kind, number: usize, name: Vec<u8>) -> Result<(), AllocError>
+        requires within { number < length (names_of kind self.old) }
+        requires fresh { named name.items (names_of kind self.old) ≡ None }
+        ensures renamed { OnOk result ((k : KindOf) → names_of k self.new
+            ≡ (if is_kind k kind then renamed_at number name.items (names_of k self.old) else names_of k self.old)) }
+        ensures stay { OnErr result (self.new ≡ self.old) }
     {
-        Ok(Index {
-            user: self.user.copied(alloc)?,
-            runas: self.runas.copied(alloc)?,
-            host: self.host.copied(alloc)?,
-            cmnd: self.cmnd.copied(alloc)?,
-        })
+        match kind {
+            Kind::User => self.user.rename(number, name),
+            Kind::Runas => self.runas.rename(number, name),
+            Kind::Host => self.host.rename(number, name),
+            Kind::Cmnd => self.cmnd.rename(number, name),
+        }
     }
 
     /// Puts the names that `new` has beside these in their place. It takes no memory.

@@ -1,8 +1,9 @@
 //! The names that are defined in one kind.
 
-ghost use Rattle.std.specs.Prelude.{◌≡◌, ◌≤◌, ◌∷◌, [], ◌++◌, ℕ, List, length, take, slice_get, zip, IfOk, OnOk, None, Some};
+ghost use Rattle.std.specs.Prelude.{◌≡◌, ◌<◌, ◌≤◌, ◌∷◌, [], ◌++◌, ℕ, List, length, take, slice_get, zip, IfOk, OnErr, OnOk, None, Some};
 ghost use Rattle.std.specs.Option.{option_copied};
-ghost use Rattle.sudoers_tree.specs.Index.{named, number_named, names_in, renewed};
+ghost use Rattle.sudoers_tree.specs.internal.Index.{named, number_named, names_in, renewed};
+ghost use Rattle.sudoers_tree.specs.internal.Keys.{renamed_at};
 
 use crate::place::Place;
 use crate::renewal::Renewal;
@@ -95,6 +96,23 @@ impl Names {
         Ok(())
     }
 
+    /// Gives the name with the number `number`, from 0, the name `name` in its place.
+    ///
+    /// # Errors
+    ///
+    /// A growth of memory was refused. The names stay as they are.
+    pub fn rename(&mut self, number: usize, name: Vec<u8>) -> Result<(), AllocError>
+        requires within { number < length self.old }
+        requires fresh { named name.items self.old ≡ None }
+        ensures renamed { OnOk result (self.new ≡ renamed_at number name.items self.old) }
+        ensures stay { OnErr result (self.new ≡ self.old) }
+    {
+        self.names.reserve(1)?;
+        self.names.shift_remove_index(number);
+        self.names.shift_insert(number, name).unwrap();
+        Ok(())
+    }
+
     /// Returns the first names, as many as `places`, with these places.
     ///
     /// # Errors
@@ -113,18 +131,6 @@ impl Names {
             names.push(alloc, name, places[number])?;
         }
         Ok(names)
-    }
-
-    /// Returns a copy.
-    ///
-    /// # Errors
-    ///
-    /// A growth of memory was refused.
-    pub fn copied(&self, alloc: Global) -> Result<Names, AllocError>
-        ensures { IfOk result (λ names. names ≡ self.now) }
-    {
-        let places = Vec::from_slice(alloc, self.places.as_slice())?;
-        self.front(alloc, places)
     }
 
     /// Puts the names that `renewal` has beside these in their place. It takes no memory.

@@ -19,7 +19,7 @@ ghost use Rattle.sudoers_tree.specs.Policy.{IsPolicy, texts};
 ghost use Rattle.sudoers_tree.specs.Fault.{IsFaultOf};
 ghost use Rattle.sudoers_tree.specs.Files.{read_until};
 ghost use Rattle.sudoers_tree.specs.Reading.{read_behind, read_of, ReadGives};
-ghost use Rattle.sudoers_tree.specs.Index.{ReadsAll};
+ghost use Rattle.sudoers_tree.specs.internal.Index.{ReadsAll};
 
 use crate::fault::{ReadFault, SyntaxFault};
 use crate::index::Index;
@@ -60,7 +60,7 @@ impl Model for OneFile {
     ghost use Rattle.sudoers_text.specs.Line.{join};
     ghost use Rattle.sudoers_tree.specs.Line.{Line};
     ghost use Rattle.sudoers_tree.specs.Definition.{definitions};
-    ghost use Rattle.sudoers_tree.specs.Index.{Indexes};
+    ghost use Rattle.sudoers_tree.specs.internal.Index.{Indexes};
     ghost use Rattle.sudoers_tree.specs.Policy.{IsPolicy, texts};
     ghost use Rattle.sudoers_tree.specs.Reading.{read_of};
 
@@ -97,25 +97,6 @@ impl OneFile {
             lines: Box::new(alloc, Indexed { tree, index })?,
             size: text.len(),
             alloc,
-        })
-    }
-
-    /// Returns a copy.
-    ///
-    /// # Errors
-    ///
-    /// Memory ran out.
-    pub fn copied(&self) -> Result<OneFile, AllocError>
-        ensures { IfOk result (λ copy. copy ≡ self.now) }
-    {
-        let lines = Indexed {
-            tree: self.lines.tree.copied(self.alloc)?,
-            index: self.lines.index.copied(self.alloc)?,
-        };
-        Ok(OneFile {
-            lines: Box::new(self.alloc, lines)?,
-            size: self.size,
-            alloc: self.alloc,
         })
     }
 

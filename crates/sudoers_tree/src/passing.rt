@@ -2,7 +2,7 @@
 
 ghost use Rattle.std.specs.Prelude.{◌≡◌, List, slice_get, Some};
 ghost use Rattle.sudoers_tree.specs.Definition.{Definition, definitions_in};
-ghost use Rattle.sudoers_tree.specs.Index.{renewed_index, Enters, Indexes};
+ghost use Rattle.sudoers_tree.specs.internal.Index.{renewed_index, Enters, Indexes};
 ghost use Rattle.sudoers_tree.specs.Line.{Line as LineOf, line_in, lines_shown};
 ghost use Rattle.sudoers_tree.specs.internal.Passing.{EntersAll};
 

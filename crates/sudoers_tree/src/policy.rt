@@ -1,6 +1,7 @@
 //! Policies of several files.
 
-ghost use Rattle.std.specs.Prelude.{◌≡◌, ◌⊎◌, ◌≤◌, ◌∷◌, [], ℕ, Some, length, option_map, slice_get, IfOk, OnOk, OnErr, MatchResult, Ok, Err};
+ghost use Rattle.std.specs.Prelude.{◌≡◌, ◌⊎◌, ◌≤◌, ◌∷◌, [], ℕ, List, Some, false, length, option_map, slice_get, IfOk, OnOk, OnErr, MatchResult, Ok, Err};
+ghost use Rattle.std.specs.List.{All};
 ghost use Rattle.sudoers_text.specs.Fault.{text_limit};
 ghost use Rattle.sudoers_text.specs.Line.{join};
 ghost use Rattle.sudoers_tree.specs.declared.load_fault.LoadFault.TheVariants.{NoMemory};
@@ -11,8 +12,11 @@ ghost use Rattle.sudoers_tree.specs.Files.{lines_of, name_of};
 ghost use Rattle.sudoers_tree.specs.Kind.{line_kind};
 ghost use Rattle.sudoers_tree.specs.Line.{Line as LineOf, line_shown, lines_shown};
 ghost use Rattle.sudoers_tree.specs.Load.{HasSpot, files_of, load_of, one_file};
+ghost use Rattle.sudoers_tree.specs.NameBits.{bits_of};
 ghost use Rattle.sudoers_tree.specs.Policy.{texts};
+ghost use Rattle.sudoers_tree.specs.Standing.{IsAbsent};
 ghost use Rattle.sudoers_tree.specs.internal.Files.{AreFiles, files_shown};
+ghost use Rattle.sudoers_tree.specs.internal.Tree.{Stands};
 
 use crate::files::Files;
 use crate::kind::LineKind;
@@ -21,6 +25,7 @@ use crate::line::{Line, LineRow};
 use crate::line_change::LineChange;
 use crate::load::{FILE_LIMIT, NamedFile, first_repeated, read_files};
 use crate::load_fault::LoadFault;
+use crate::name_bits::NameBits;
 use crate::place::Spot;
 use crate::texts::append_texts;
 use crate::walk::Walk;
@@ -124,6 +129,14 @@ impl Policy {
     pub fn lines(&self) -> Rows<'_, LineRow>
         ensures { lines_shown result ≡ self.now.walk.lines }
     {
+        self.rows()
+    }
+
+    /// Returns the rows of the lines of the walk, which have their bits.
+    fn rows(&self) -> Rows<'_, LineRow>
+        ensures shown { lines_shown result ≡ self.now.walk.lines }
+        ensures stand { All (Stands result.tables.now) result.rows.now }
+    {
         Rows {
             tables: &self.walked.tables,
             rows: self.walked.lines.as_slice(),
@@ -137,7 +150,7 @@ impl Policy {
         self.is_loaded();
         loaded_is_walk();
         loaded_is_within();
-        Walk::of(self.lines(), &self.walked.index)
+        Walk::of(self.rows(), &self.walked.index)
     }
 
     /// Returns where each line of the walk stands.
@@ -207,7 +220,8 @@ impl Policy {
         Ok(text)
     }
 
-    /// Makes the changes `changes` of the lines at once, and walks over the files anew. It reads the new lines alone.
+    /// Makes the changes `changes` of the lines at once. It reads the new lines alone. The walk stays if lines change in their places alone;
+    /// else it is made anew.
     ///
     /// # Errors
     ///
@@ -226,12 +240,12 @@ impl Policy {
         self.walked.change(self.alloc, changes)
     }
 
-    /// Loads the files again if most bytes of the tables are unused.
+    /// Loads the files again if the tables have grown to twice their bytes since.
     fn drop_waste(&mut self) -> Result<(), AllocError>
         ensures { self.new ≡ self.old }
     {
         self.is_loaded();
-        if self.walked.is_mostly_unused() {
+        if self.walked.has_grown() {
             let files = self.named_files()?;
             match Policy::load(self.alloc, files.as_slice()) {
                 Ok(policy) => *self = policy,
@@ -332,6 +346,15 @@ impl Policy {
         ensures { result ≡ option_map (λ (line : LineOf). line_kind line.node) (slice_get (lines_of self.now.files file) line) }
     {
         self.read_files().kind(file, line)
+    }
+
+    /// Returns whether an alias of a name with the bits `bits` may stand in the line with the number `line` of the file with the number
+    /// `file`, both from 0. If it returns false, none stands there.
+    pub fn may_name(&self, file: usize, line: usize, bits: NameBits) -> bool
+        ensures { (name : List ℕ) (says : LineOf) → bits.set ≡ bits_of name → result ≡ false
+            → slice_get (lines_of self.now.files file) line ≡ Some says → IsAbsent name says.node }
+    {
+        self.read_files().may_name(file, line, bits)
     }
 
     /// Returns what the line with the number `line` of the file with the number `file` says, both from 0.

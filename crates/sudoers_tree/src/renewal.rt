@@ -2,7 +2,7 @@
 
 ghost use Rattle.std.specs.Prelude.{◌≡◌, ◌∷◌, [], ◌++◌, length, slice_get, IfOk, OnOk, None, Some};
 ghost use Rattle.sudoers_tree.specs.Fault.{is_some};
-ghost use Rattle.sudoers_tree.specs.Index.{follows, known_by, named, renewed};
+ghost use Rattle.sudoers_tree.specs.internal.Index.{follows, known_by, named, renewed};
 
 use crate::names::Names;
 use crate::place::Place;

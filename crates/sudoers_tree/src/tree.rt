@@ -1,7 +1,7 @@
 //! Lines that are read into tables.
 
 ghost use Rattle.std.specs.Prelude.{◌≡◌, ◌≤◌, [], length, false, IfOk, OnErr};
-ghost use Rattle.std.specs.List.{AllByRecursion};
+ghost use Rattle.std.specs.List.{All, AllByRecursion};
 ghost use Rattle.sudoers_text.specs.Ended.{has_unended_inside};
 ghost use Rattle.sudoers_text.specs.Fault.{text_limit};
 ghost use Rattle.sudoers_text.specs.Line.{join};
@@ -11,6 +11,7 @@ ghost use Rattle.sudoers_tree.specs.Files.{read_until};
 ghost use Rattle.sudoers_tree.specs.Line.{lines_shown};
 ghost use Rattle.sudoers_tree.specs.Policy.{texts};
 ghost use Rattle.sudoers_tree.specs.internal.Pieces.{AreShort, Changes};
+ghost use Rattle.sudoers_tree.specs.internal.Tree.{Stands};
 
 use crate::change::{ChangedLines, changed_lines};
 use crate::fault::{ReadFault, SyntaxFault};
@@ -19,7 +20,6 @@ use crate::line::LineRow;
 use crate::line_change::LineChange;
 use crate::pieces::pieces;
 use crate::reading::read_lines;
-use crate::row::copy_tables;
 use std::alloc::{AllocError, Global};
 use std::marker::Model;
 use sudoers_line_rows::laws::growth_goes_on;
@@ -62,21 +62,6 @@ impl Tree {
         Ok((Tree { tables, rows }, fault))
     }
 
-    /// Returns a copy.
-    ///
-    /// # Errors
-    ///
-    /// Memory ran out.
-    pub fn copied(&self, alloc: Global) -> Result<Tree, AllocError>
-        ensures { IfOk result (λ tree. tree ≡ self.now) }
-    {
-        growth_goes_on();
-        Ok(Tree {
-            tables: copy_tables(alloc, &self.tables)?,
-            rows: Vec::from_slice(alloc, self.rows.as_slice())?,
-        })
-    }
-
     /// Returns whether the tables are so large for lines of `size` bytes that more than half of their bytes are unused. A line
     /// needs at most twice its bytes there: its text, and the texts of its tokens.
     pub fn is_mostly_unused(&self, size: usize) -> bool {
@@ -85,7 +70,8 @@ impl Tree {
 
     /// Returns the lines that are read.
     pub fn all(&self) -> Rows<'_, LineRow>
-        ensures { lines_shown result ≡ self.now }
+        ensures shown { lines_shown result ≡ self.now }
+        ensures stand { All (Stands result.tables.now) result.rows.now }
     {
         Rows {
             tables: &self.tables,

@@ -1,6 +1,7 @@
 //! The lines of a policy in the order of the walk, with the names that they define.
 
 ghost use Rattle.std.specs.Prelude.{◌≡◌, ◌≤◌, ◌*◌, length, slice_get, IfOk};
+ghost use Rattle.std.specs.List.{All};
 ghost use Rattle.std.specs.Option.{option_map};
 ghost use Rattle.sudoers_text.specs.Line.{join};
 ghost use Rattle.sudoers_text.specs.Fault.{text_limit};
@@ -8,14 +9,16 @@ ghost use Rattle.sudoers_line.specs.Node.{Def as DefOf};
 ghost use Rattle.sudoers_line_rows.specs.View.{defs_shown, members_shown, node_shown};
 ghost use Rattle.sudoers_tree.specs.Line.{Line as LineOf, line_shown, lines_shown};
 ghost use Rattle.sudoers_tree.specs.Definition.{definitions, place_of, members_of};
-ghost use Rattle.sudoers_tree.specs.Index.{Indexes};
+ghost use Rattle.sudoers_tree.specs.internal.Index.{Indexes};
 ghost use Rattle.sudoers_tree.specs.Mention.{mentions};
 ghost use Rattle.sudoers_tree.specs.Load.{file_limit};
 ghost use Rattle.sudoers_tree.specs.Policy.{IsWalk, texts};
+ghost use Rattle.sudoers_tree.specs.internal.Tree.{Stands};
 
 use crate::index::Index;
 use crate::line::{Line, LineRow};
 use crate::mention::append_mentions;
+use crate::name_bits::NameBits;
 use crate::place::{Place, Span};
 use std::alloc::{AllocError, Global};
 use std::marker::Model;
@@ -31,20 +34,23 @@ pub struct Walk<'a> {
 
 impl<'a> Model for Walk<'a> {
     ghost use Rattle.std.specs.Prelude.{List, length, ◌≤◌, ◌*◌};
+    ghost use Rattle.std.specs.List.{All};
     ghost use Rattle.sudoers_text.specs.Line.{join};
     ghost use Rattle.sudoers_text.specs.Fault.{text_limit};
     ghost use Rattle.sudoers_tree.specs.Line.{Line, lines_shown};
     ghost use Rattle.sudoers_tree.specs.Definition.{definitions};
     ghost use Rattle.sudoers_tree.specs.Load.{file_limit};
     ghost use Rattle.sudoers_tree.specs.Policy.{IsWalk, texts};
-    ghost use Rattle.sudoers_tree.specs.Index.{Indexes};
+    ghost use Rattle.sudoers_tree.specs.internal.Index.{Indexes};
+    ghost use Rattle.sudoers_tree.specs.internal.Tree.{Stands};
 
     ghost Value = { List Line };
 
     ghost view = { λ walk. lines_shown walk.lines };
 
     ghost invariant = { λ walk. IsWalk (lines_shown walk.lines) × Indexes walk.index.now (definitions (lines_shown walk.lines))
-        × (length (join (texts (lines_shown walk.lines))) ≤ file_limit * text_limit) };
+        × (length (join (texts (lines_shown walk.lines))) ≤ file_limit * text_limit)
+        × All (Stands walk.lines.tables.now) walk.lines.rows.now };
 }
 
 impl<'a> Walk<'a> {
@@ -53,6 +59,7 @@ impl<'a> Walk<'a> {
         requires walk { IsWalk (lines_shown lines) }
         requires index { Indexes index.now (definitions (lines_shown lines)) }
         requires within { length (join (texts (lines_shown lines))) ≤ file_limit * text_limit }
+        requires stand { All (Stands lines.tables.now) lines.rows.now }
         ensures { result ≡ lines_shown lines.entry }
     {
         Walk { lines, index }
@@ -70,6 +77,14 @@ impl<'a> Walk<'a> {
         ensures { length (join (texts self.now)) ≤ file_limit * text_limit }
     {
         let _ = &self.lines;
+    }
+
+    /// Returns the rows of the lines, which have their bits.
+    fn rows(&self) -> Rows<'a, LineRow>
+        ensures shown { lines_shown result ≡ self.now }
+        ensures stand { All (Stands result.tables.now) result.rows.now }
+    {
+        self.lines
     }
 
     /// Returns the lines with what they say.
@@ -111,11 +126,14 @@ impl<'a> Walk<'a> {
     pub fn mentions(&self, alloc: Global, kind: Kind, name: &[u8]) -> Result<Vec<Span>, AllocError>
         ensures { IfOk result (λ spans. spans.items ≡ mentions kind name.now self.now) }
     {
+        let bits = NameBits::of(name);
         let mut spans = Vec::new(alloc);
-        let lines = self.lines();
+        let lines = self.rows();
         for (number, row) in lines.rows.iter().enumerate() {
-            let line = Line::of(lines.tables, row);
-            append_mentions(alloc, kind, name, number, &line.node, &mut spans)?;
+            if row.may_name(bits) {
+                let line = Line::of(lines.tables, row);
+                append_mentions(alloc, kind, name, number, &line.node, &mut spans)?;
+            }
         }
         Ok(spans)
     }

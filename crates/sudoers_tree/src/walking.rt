@@ -4,7 +4,7 @@ ghost use Rattle.std.specs.Prelude.{◌≡◌, ◌⊎◌, slice_get, option_map,
 ghost use Rattle.sudoers_tree.specs.Files.{fault_of, lines_of, name_of as the_name};
 ghost use Rattle.sudoers_tree.specs.Fault.{syntax_fault};
 ghost use Rattle.sudoers_tree.specs.Line.{Line as LineOf};
-ghost use Rattle.sudoers_tree.specs.Load.{unless_off, walked_over};
+ghost use Rattle.sudoers_tree.specs.Load.{walked_over};
 ghost use Rattle.sudoers_tree.specs.declared.fault.ReadFault.TheVariants.{NotLoaded, TooDeep};
 ghost use Rattle.sudoers_tree.specs.declared.load_fault.LoadFault.TheVariants.{InFile, NoMemory};
 ghost use Rattle.sudoers_tree.specs.Targets.{lead_name};
@@ -19,6 +19,7 @@ use crate::kind::LineKind;
 use crate::lead::{Lead, lead_of};
 use crate::line::LineRow;
 use crate::load_fault::LoadFault;
+use crate::off_walk::{in_file, is_among, look_off};
 use crate::passing::enter_row;
 use crate::place::Spot;
 use crate::targets::targets;
@@ -51,7 +52,7 @@ pub fn walk_over(alloc: Global, files: &Files<'_>, known: &Index) -> Result<Walk
 {
     let mut walking = Walking::new(alloc, files, known)?;
     walking.take_file(alloc, files, known, DEPTH_LIMIT, 0)?;
-    walking.look_off(alloc, files)?;
+    look_off(alloc, files, walking.on.as_slice())?;
     Ok(walking)
 }
 
@@ -69,16 +70,6 @@ fn name_of(alloc: Global, files: &Files<'_>, file: usize) -> Result<Items<u8>, A
     ensures { IfOk result (λ name. name ≡ the_name (files_shown files.now) file) }
 {
     Items::from_slice(alloc, files.name(file))
-}
-
-/// Returns `fault` as a fault of the file with the number `file`. Returns `NoMemory` if memory ran out.
-fn in_file(alloc: Global, files: &Files<'_>, file: usize, fault: ReadFault) -> LoadFault
-    ensures { (result ≡ NoMemory) ⊎ (result ≡ InFile (the_name (files_shown files.now) file) fault) }
-{
-    match name_of(alloc, files, file) {
-        Ok(file) => LoadFault::InFile { file, fault },
-        Err(_) => LoadFault::NoMemory,
-    }
 }
 
 /// Returns the fault of the line at `at`: it includes the file with the number `file`, which is on the walk already.
@@ -152,7 +143,7 @@ impl Walking {
     fn is_on(&self, files: &Files<'_>, file: usize) -> bool
         ensures { result ≡ is_on (walked files.now.tables.now self.now) file }
     {
-        self.on.contains(&file)
+        is_among(self.on.as_slice(), file)
     }
 
     /// Returns the first of the files `inner` that is on the walk.
@@ -232,23 +223,6 @@ impl Walking {
             Some(fault) => Err(in_file(alloc, files, file, fault.into())),
             None => Ok(()),
         }
-    }
-
-    /// Returns the first fault of the files that are not on the walk, if there is one.
-    fn look_off(&self, alloc: Global, files: &Files<'_>) -> Result<(), LoadFault>
-        ensures { MatchResult result
-            (λ _. unless_off (walked files.now.tables.now self.now) 0 (files_shown files.now) ≡ Ok (walked files.now.tables.now self.now))
-            (λ fault. (fault ≡ NoMemory) ⊎ (unless_off (walked files.now.tables.now self.now) 0 (files_shown files.now) ≡ Err fault)) }
-    {
-        for file in 0..files.len() {
-            if self.is_on(files, file) {
-                continue;
-            }
-            if let Some(fault) = files.fault_off(alloc, file)? {
-                return Err(in_file(alloc, files, file, fault));
-            }
-        }
-        Ok(())
     }
 
     #[cycle(walk)]

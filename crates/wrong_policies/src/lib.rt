@@ -11,7 +11,7 @@ mod texts;
 pub use checks::{check_policy, is_fine_report, report_of_policy, unused_aliases};
 pub use leads::{lead_of_line, lead_of_node, may_lead_somewhere};
 pub use lines::reading_of_line;
-pub use loads::{change_files, file_text, load_files, load_text, walk_spots};
+pub use loads::{change_files, file_text, load_files, load_text, may_stand, walk_spots};
 pub use policies::{
     change_lines, definition_of, insert_line, mentions_of, policy_text, read_policy,
 };

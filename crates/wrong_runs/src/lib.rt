@@ -5,6 +5,7 @@
 
 mod asking;
 mod before_errors;
+mod bundles;
 mod checking;
 mod converting;
 mod devices;
@@ -21,6 +22,7 @@ pub use asking::list_rules;
 pub use before_errors::{
     check_before_errors, convert_before_errors, edit_before_errors, list_before_errors,
 };
+pub use bundles::{bundle_files, put_bundle};
 pub use checking::check_policy;
 pub use converting::convert_policy;
 pub use devices::list_devices;

@@ -7,7 +7,7 @@ use Rattle.sudoers_tree.specs.declared.fault.ReadFault.TheVariants.{NoMemory}
 use Rattle.sudoers_tree.specs.Line.{Line}
 use Rattle.sudoers_tree.specs.Definition.{definitions}
 use Rattle.sudoers_tree.specs.Reading.{first_name_fault}
-use Rattle.sudoers_tree.specs.Index.{renewed_index, Indexes}
+use Rattle.sudoers_tree.specs.internal.Index.{renewed_index, Indexes}
 
 -- The names that these lines define, beside known ones; or the fault of the first that cannot be entered, or `NoMemory`.
 abbrev pub EntersAll : Result Renewals ReadFault → Index → List Line → Type 0

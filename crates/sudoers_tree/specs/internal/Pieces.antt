@@ -13,7 +13,7 @@ use Rattle.sudoers_tree.specs.declared.index.Renewals.{Renewals}
 use Rattle.sudoers_tree.specs.declared.line.LineRow.{LineRow}
 use Rattle.sudoers_tree.specs.Definition.{definitions}
 use Rattle.sudoers_tree.specs.Files.{read_until}
-use Rattle.sudoers_tree.specs.Index.{renewed_index, Indexes}
+use Rattle.sudoers_tree.specs.internal.Index.{renewed_index, Indexes}
 use Rattle.sudoers_tree.specs.Reading.{read_of}
 use Rattle.sudoers_tree.specs.internal.Tree.{Stands}
 use Rattle.sudoers_line_rows.specs.declared.rows.Tables.{Tables}

@@ -9,7 +9,7 @@ use Rattle.sudoers_tree.specs.declared.load_fault.LoadFault.{LoadFault}
 use Rattle.sudoers_tree.specs.declared.load_fault.LoadFault.TheVariants.{NoMemory}
 use Rattle.sudoers_tree.specs.Definition.{definitions}
 use Rattle.sudoers_tree.specs.Files.{FileReading}
-use Rattle.sudoers_tree.specs.Index.{renewed_index, Indexes}
+use Rattle.sudoers_tree.specs.internal.Index.{renewed_index, Indexes}
 use Rattle.sudoers_tree.specs.Line.{Line, line_in}
 use Rattle.sudoers_tree.specs.Walk.{Visit, Walked, and_then, leads_to, opened, site, visit_each}
 use Rattle.sudoers_tree.specs.internal.Tree.{Stands}

@@ -49,7 +49,7 @@ loop-row-preserved c =
       kept = c.in_ok-choice.ensures.kept;
       like = like_on _ _ _ so_far.like grown.like;
       appended = λ u ext. row_pushed (line_in u) c.loop-row.rows.items c.push.new.self.items _ (behind (drop i rows)) (behind (drop (i + 1) rows)) _ c.in_ok-push.ensures.items
-          (line_next base written rows u i _ (record { text = record { from = 0; to = 0 }; node = c.in_ok-node.node }) c.loop-row-test.true refl
+          (line_next base written rows u i _ (record { text = record { from = 0; to = 0 }; node = c.in_ok-node.node; bits = 18446744073709551615; lfs = 0 }) c.loop-row-test.true refl
           (c.in_ok-node.ensures.stays u ext ∙ ap (node_if source.expand lines) chosen))
           (so_far.appended u (extended_on _ _ _ grown ext));
       counted = λ is. line_counted base written rows i _ c.loop-row.tally.count _ _ c.loop-row-test.true

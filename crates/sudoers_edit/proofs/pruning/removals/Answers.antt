@@ -37,7 +37,7 @@ loop-number-preserved c =
     let says : LineRow → Line = line_in c.lines-lines.result.tables.now in
     let items : List LineRow = c.lines-lines.result.rows.now in
     let i : ℕ = c.loop-number.number in
-    let none : LineRow = record { text = record { from = 0; to = 0 }; node = node_row.Blank } in
+    let none : LineRow = record { text = record { from = 0; to = 0 }; node = node_row.Blank; bits = 0; lfs = 0 } in
     let row : LineRow = slice_index_or items i none in
     let line : Line = says row in
     let rest : List (Kind × Place) = c.loop-number.rest.now in

@@ -1,6 +1,6 @@
 use Rattle.std.proofs.Common.{◌≡◌, drop, map}
 use Rattle.sudoers_line_rows.specs.Tables.{def_in}
-use Rattle.sudoers_tree.specs.Index.{entered, renewed}
+use Rattle.sudoers_tree.specs.internal.Index.{entered, renewed}
 use Rattle.sudoers_tree.proofs.index.enter_all.Given as goal
 
 -- Entering the names that are left has the outcome of entering all.

@@ -4,7 +4,7 @@ use Rattle.sudoers_line.specs.declared.node.Kind.{Kind}
 use Rattle.sudoers_tree.specs.declared.place.Place.{Place}
 use Rattle.sudoers_tree.specs.declared.fault.ReadFault.TheVariants.{Reserved, Duplicate, TooMany}
 use Rattle.sudoers_tree.specs.Fault.{is_some}
-use Rattle.sudoers_tree.specs.Index.{named, entry_fault, renewed}
+use Rattle.sudoers_tree.specs.internal.Index.{named, entry_fault, renewed}
 use Rattle.sudoers_tree.specs.Policy.{alias_limit}
 use Rattle.sudoers_tree.proofs.index.fault_of.Goals as goal
 

@@ -2,7 +2,7 @@ use Rattle.std.proofs.Common.{◌≡◌, ◌∙◌, ◌<◌, [], ℕ, List, leng
 use Rattle.std.proofs.lemmas.List.{length-map, take_all}
 use Rattle.sudoers_tree.specs.declared.fault.ReadFault.{ReadFault}
 use Rattle.sudoers_tree.specs.Definition.{definitions}
-use Rattle.sudoers_tree.specs.Index.{renewed_index, Indexes}
+use Rattle.sudoers_tree.specs.internal.Index.{renewed_index, Indexes}
 use Rattle.sudoers_tree.specs.Line.{Line, line_in}
 use Rattle.sudoers_tree.specs.Reading.{first_name_fault}
 use Rattle.sudoers_tree.specs.internal.Passing.{EntersAll}

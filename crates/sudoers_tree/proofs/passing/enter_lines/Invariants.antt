@@ -1,6 +1,6 @@
 use Rattle.std.proofs.Common.{◌≡◌, [], take, map, None}
 use Rattle.sudoers_tree.specs.Definition.{definitions}
-use Rattle.sudoers_tree.specs.Index.{renewed_index, Indexes}
+use Rattle.sudoers_tree.specs.internal.Index.{renewed_index, Indexes}
 use Rattle.sudoers_tree.specs.Line.{line_in}
 use Rattle.sudoers_tree.specs.Reading.{first_name_fault}
 use Rattle.sudoers_tree.proofs.passing.enter_lines.Given as goal

@@ -34,7 +34,7 @@ returns-in_err-look_off c =
     subst (λ (r : Result Walking LoadFault). MatchResult r
     (λ w. (walked_over read ≡ Ok (walked t w)) × IsWalking c.args.files.now c.args.known.now w)
     (λ f. (f ≡ NoMemory) ⊎ (walked_over read ≡ Err f))) (sym told)
-    (off_stops read read (walked t c.take_file.new.self) fault walk refl c.in_err-look_off.ensures)
+    (off_stops read read (walked t c.take_file.new.self) fault walk refl (c.in_err-look_off.ensures (walked t c.take_file.new.self) (search rules)))
 
 pub returns : goal.returns
 returns c =
@@ -42,4 +42,4 @@ returns c =
     let t : Tables = c.args.files.now.tables.now in
     let walk : walk_of read ≡ Ok (walked t c.take_file.new.self) =
     sym (walk_from read (walked t c.in_ok-walking.walking) c.in_ok-walking.ensures.1) ∙ c.in_ok-take_file.ensures.0 in
-    (off_comes read read (walked t c.take_file.new.self) (Ok (walked t c.take_file.new.self)) walk refl c.in_ok-look_off.ensures, c.in_ok-take_file.ensures.1)
+    (off_comes read read (walked t c.take_file.new.self) (Ok (walked t c.take_file.new.self)) walk refl (c.in_ok-look_off.ensures (walked t c.take_file.new.self) (search rules)), c.in_ok-take_file.ensures.1)

@@ -3,7 +3,7 @@ use Rattle.sudoers_line.specs.Node.{Def, Node, Alias}
 use Rattle.sudoers_line_rows.specs.View.{defs_shown, node_shown}
 use Rattle.sudoers_line.specs.declared.node.Kind.TheVariants.{User, Runas, Host, Cmnd}
 use Rattle.sudoers_tree.specs.Definition.{definitions_in}
-use Rattle.sudoers_tree.specs.Index.{entries, entered, renewed, renewed_index, Comes, Enters}
+use Rattle.sudoers_tree.specs.internal.Index.{entries, entered, renewed, renewed_index, Comes, Enters}
 use Rattle.sudoers_tree.proofs.Entries.{enters, keeps, all_kinds}
 use Rattle.sudoers_tree.proofs.index.Renewals.enter.Goals as goal
 

@@ -1,7 +1,7 @@
 use Rattle.std.proofs.Common.{◌∙◌, ◌∷◌, [], ◌++◌, ◌<◌, length, sym, ap, subst, rules}
 use Rattle.std.specs.Prelude.{zip}
 use Rattle.std.proofs.lemmas.List.{take_all}
-use Rattle.sudoers_tree.specs.Index.{named, names_in}
+use Rattle.sudoers_tree.specs.internal.Index.{named, names_in}
 use Rattle.sudoers_tree.proofs.NameLists.{front_more, none_known, none_beside, no_name}
 use Rattle.sudoers_tree.proofs.names.Names.front.Goals as goal
 

@@ -1,6 +1,6 @@
 use Rattle.std.proofs.Common.{◌≡◌, take}
 use Rattle.std.specs.Prelude.{zip}
-use Rattle.sudoers_tree.specs.Index.{names_in}
+use Rattle.sudoers_tree.specs.internal.Index.{names_in}
 use Rattle.sudoers_tree.proofs.names.Names.front.Given as goal
 
 abbrev pub invariant-loop-number : goal.invariant-loop-number

@@ -1,5 +1,5 @@
 use Rattle.std.proofs.Common.{◌∙◌, length, take, sym, ap}
-use Rattle.sudoers_tree.specs.Index.{renewed_by}
+use Rattle.sudoers_tree.specs.internal.Index.{renewed_by}
 use Rattle.sudoers_tree.proofs.NameLists.{cut_known, cut_count}
 use Rattle.sudoers_tree.proofs.names.Names.renew.Goals as goal
 

@@ -8,7 +8,7 @@ use Rattle.sudoers_tree.specs.declared.one_file.Indexed.{Indexed}
 use Rattle.sudoers_tree.specs.Changed.{changed}
 use Rattle.sudoers_tree.specs.Definition.{definitions}
 use Rattle.sudoers_tree.specs.Fault.{IsFaultOf}
-use Rattle.sudoers_tree.specs.Index.{Indexes}
+use Rattle.sudoers_tree.specs.internal.Index.{Indexes}
 use Rattle.sudoers_tree.specs.Line.{Line}
 use Rattle.sudoers_tree.specs.Policy.{texts}
 use Rattle.sudoers_tree.specs.Reading.{read_of, IsOutcome}

@@ -6,7 +6,7 @@ use Rattle.sudoers_tree.specs.Line.{Line}
 use Rattle.sudoers_tree.specs.internal.Wrapped.{fault_of_text}
 use Rattle.sudoers_tree.specs.declared.one_file.Indexed.{Indexed}
 use Rattle.sudoers_tree.specs.Definition.{definitions}
-use Rattle.sudoers_tree.specs.Index.{Indexes}
+use Rattle.sudoers_tree.specs.internal.Index.{Indexes}
 use Rattle.sudoers_tree.specs.Fault.{IsFaultOf}
 use Rattle.sudoers_tree.specs.Reading.{read_of, IsOutcome, ReadGives}
 use Rattle.sudoers_tree.proofs.ReadText.{not_cut, is_cut, faulty, fault_given}

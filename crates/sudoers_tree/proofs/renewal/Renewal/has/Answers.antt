@@ -1,7 +1,7 @@
 use Rattle.std.proofs.Common.{◌≡◌, ◌∙◌, not, true, List, sym, ap, rules}
 use Rattle.sudoers_tree.specs.declared.place.Place.{Place}
 use Rattle.sudoers_tree.specs.Fault.{is_some}
-use Rattle.sudoers_tree.specs.Index.{named, follows, renewed_by}
+use Rattle.sudoers_tree.specs.internal.Index.{named, follows, renewed_by}
 use Rattle.sudoers_tree.proofs.NameLists.{follows_none}
 use Rattle.sudoers_tree.proofs.renewal.Renewal.has.Goals as goal
 

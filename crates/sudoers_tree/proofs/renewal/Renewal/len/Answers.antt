@@ -1,7 +1,7 @@
 use Rattle.std.proofs.Common.{◌∙◌, min, List, length, sym, ap, ap₂}
 use Rattle.std.proofs.lemmas.List.{length-map}
 use Rattle.sudoers_tree.specs.declared.place.Place.{Place}
-use Rattle.sudoers_tree.specs.Index.{names_in, renewed_by}
+use Rattle.sudoers_tree.specs.internal.Index.{names_in, renewed_by}
 use Rattle.sudoers_tree.proofs.NameLists.{length_known}
 use Rattle.sudoers_tree.proofs.renewal.Renewal.len.Goals as goal
 

@@ -1,5 +1,5 @@
 use Rattle.std.proofs.Common.{◌∙◌, [], ap}
-use Rattle.sudoers_tree.specs.Index.{names_in, known_by}
+use Rattle.sudoers_tree.specs.internal.Index.{names_in, known_by}
 use Rattle.sudoers_tree.proofs.NameLists.{none_beside}
 use Rattle.sudoers_tree.proofs.renewal.Renewal.new.Goals as goal
 

@@ -1,7 +1,7 @@
 use Rattle.std.proofs.Common.{◌≡◌, ◌∙◌, ◌∷◌, [], ◌++◌, true, List, take, sym, ap, ap₂}
 use Rattle.std.proofs.lemmas.List.{length-map}
 use Rattle.sudoers_tree.specs.declared.place.Place.{Place}
-use Rattle.sudoers_tree.specs.Index.{named, names_in, known_by, follows, renewed_by}
+use Rattle.sudoers_tree.specs.internal.Index.{named, names_in, known_by, follows, renewed_by}
 use Rattle.sudoers_tree.proofs.NameLists.{follows_push, known_cut}
 use Rattle.sudoers_tree.proofs.renewal.Renewal.push.Goals as goal
 

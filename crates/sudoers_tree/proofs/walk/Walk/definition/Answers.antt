@@ -1,6 +1,6 @@
 use Rattle.std.proofs.Common.{◌∙◌, ap}
 use Rattle.sudoers_tree.specs.Definition.{definitions}
-use Rattle.sudoers_tree.specs.Index.{named, entries}
+use Rattle.sudoers_tree.specs.internal.Index.{named, entries}
 use Rattle.sudoers_tree.proofs.Entries.{named_defined}
 use Rattle.sudoers_tree.proofs.walk.Walk.definition.Goals as goal
 

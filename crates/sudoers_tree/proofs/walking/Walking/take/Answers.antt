@@ -11,7 +11,7 @@ use Rattle.sudoers_tree.specs.declared.load_fault.LoadFault.TheVariants.{InFile,
 use Rattle.sudoers_tree.specs.declared.place.Spot.{Spot}
 use Rattle.sudoers_tree.specs.Definition.{definitions, definitions_in}
 use Rattle.sudoers_tree.specs.Files.{name_of}
-use Rattle.sudoers_tree.specs.Index.{renewed_index, Enters, Indexes}
+use Rattle.sudoers_tree.specs.internal.Index.{renewed_index, Enters, Indexes}
 use Rattle.sudoers_tree.specs.Line.{Line, line_in}
 use Rattle.sudoers_tree.specs.Reading.{first_name_fault}
 use Rattle.sudoers_tree.specs.Walk.{Walked, taken, unless_in}
