@@ -5,7 +5,6 @@ the number counted up until nothing was met any more; the run in which nothing
 was met has to answer as the program does with ample memory and honest devices.
 """
 
-import os
 import subprocess
 
 import cases

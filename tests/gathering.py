@@ -9,7 +9,7 @@ import shutil
 import subprocess
 import tempfile
 
-from tables import PROGRAM, TOP, asked, frame
+from tables import PROGRAM, TOP, frame
 from policies import drawn_gather
 from tally import difference
 

@@ -15,8 +15,8 @@ from cases import Case
 from changed_files import Change, changed_call
 from preload import Preloaded
 from program import Wanted
+from table_calls import SUBJECT, named
 from tables import PROGRAM, call, frame, joined, programs
-from tables_edit import SUBJECT, named
 from tally import difference
 
 KIND_OF = {b"U": "user", b"R": "runas", b"H": "host", b"C": "cmnd"}

@@ -22,8 +22,8 @@ from changed_files import (
     run_sessions,
 )
 from policies import KINDS
+from table_calls import named
 from tables import PROGRAM, asked, call, programs
-from tables_edit import named
 from tally import difference
 
 FILES = [

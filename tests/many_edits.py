@@ -9,8 +9,8 @@ import re
 import subprocess
 
 from policies import KINDS, bytes_of, drawn_definition, drawn_outcome, drawn_spans, lines_of
+from table_calls import SUBJECT, named
 from tables import PROGRAM, asked, call, frame, joined, programs
-from tables_edit import SUBJECT, named
 from tally import difference
 
 POLICY = rb"""# people

@@ -12,8 +12,8 @@ import subprocess
 from edited_files import files_in, problems_of_state, problems_of_turns, states_of
 from many_edits import KINDS_OF_EDITS
 from policies import KINDS, drawn_outcome
+from table_calls import named
 from tables import PROGRAM, call, programs
-from tables_edit import named
 from tally import difference
 
 MAIN = rb"""# people

@@ -33,7 +33,7 @@ import asking
 import cases
 from bundles import accepted_in_files, joined, pruned_in_files, refused_in_files
 from cases import Case, NoRow
-from program import Wanted, fault
+from program import Wanted
 
 FOLDER = os.path.join(os.path.dirname(os.path.abspath(__file__)), "rows")
 ESCAPES = {"n": b"\n", "r": b"\r", "t": b"\t", "0": b"\0", "\\": b"\\"}

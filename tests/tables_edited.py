@@ -6,7 +6,7 @@ Files are `NAME: TEXT` with ` | ` between two, the root first. The words of a gr
                 made one by one, undone and made again; and the script that undoes them leads back from those files
     refused     files, and then scripts, each with the number of the edit that is refused, and why
     calls       files, and then calls of one editor in their order, each with its answer: those of EDITOR_CALLS in
-                tables_edit.py, and those of CALLS in tables_files.py
+                table_calls.py, and those of CALLS in tables_files.py
 
 In scripts files, lines and places count from 1, and in calls from 0. After edits all that is asked of the policy has to
 be as it is if its files are loaded; after an edit that is refused, as before it. So it is asked of its walk, of all its
@@ -19,8 +19,9 @@ import subprocess
 
 from changed_files import frame_of
 from edited_files import EDITOR, problems_of_refusal, problems_of_script
+from table_calls import EDITOR_CALLS, body_of, by_size, name_of, wanted_row
+from table_pairs import files_of
 from tables import PROGRAM, TABLES, TOP, NoRow, asked, call, groups_of, programs, text_of
-from tables_edit import EDITOR_CALLS, body_of, by_size, files_of, name_of, wanted_row
 from tables_files import CALLS, aliases_of, step_of
 from tally import difference
 

@@ -36,8 +36,9 @@ from changed_files import (
     run_sessions,
 )
 from policies import KINDS, Line
+from table_calls import by_size, name_of, named, wanted_row
+from table_pairs import files_of
 from tables import PROGRAM, TABLES, TOP, NoRow, call, groups_of, programs, text_of, unrolled
-from tables_edit import by_size, files_of, name_of, named, wanted_row
 
 FOLDER = "files"
 

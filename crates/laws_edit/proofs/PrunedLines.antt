@@ -1,5 +1,5 @@
 -- A prune leaves everything but unused definitions, by what it leaves of each line of the walk.
-use Rattle.std.proofs.Common.{◌≡◌, ◌∙◌, ◌⊎◌, inl, inr, ℕ, zero, suc, ◌+◌, ◌<◌, Bool, true, false, List, [], ◌∷◌, ◌++◌, length, map, refl, sym, ap, subst, arith, if◌then◌else◌}
+use Rattle.std.proofs.Common.{◌≡◌, ◌∙◌, inl, inr, ℕ, ◌+◌, Bool, true, false, List, [], ◌∷◌, ◌++◌, length, map, refl, sym, ap, subst, arith, if◌then◌else◌}
 use Rattle.std.proofs.lemmas.Bool.{and_parts}
 use Rattle.std.proofs.lemmas.Slice.Eq.{bytes_eq-Decides}
 use Rattle.std.specs.List.{AllByRecursion, cons_option, filter}
@@ -19,7 +19,7 @@ use Rattle.sudoers_match.specs.Beside.{unless_alias, without_definitions}
 use Rattle.sudoers_match_list.proofs.Defined.{all_has}
 use Rattle.sudoers_edit.specs.Alike.{are_alike, is_same_def, is_same_member}
 use Rattle.sudoers_edit.specs.SpliceEdits.{defs_of}
-use Rattle.sudoers_edit.specs.Pruned.{AreLeftOf, IsLeftOf, gone, kept, less, unused_of, used_among}
+use Rattle.sudoers_edit.specs.Pruned.{AreLeftOf, IsLeftOf, gone, kept, less, used_among}
 use Rattle.laws_edit.specs.Pruned.{LeavesTheReachable, defines_none}
 use Rattle.laws_edit.proofs.KeptDefinitions.{AreUsed, IsUsed, UsedLaw, used_alias, used_other}
 use Rattle.laws_edit.proofs.LeftDefinitions.{AreLeft, IsIdle, Leaves, leaves_append, leaves_skip, left_itself, left_keeps, left_then, left_with, since_itself}

@@ -1,5 +1,5 @@
 -- A rename that is not refused: the alias is defined, and the new name is free.
-use Rattle.std.proofs.Common.{◌≡◌, ℕ, Bool, true, false, not, ◌||◌, List, Result, Ok, Err, refl}
+use Rattle.std.proofs.Common.{◌≡◌, ℕ, Bool, true, false, not, ◌||◌, List, Result, Ok, refl}
 use Rattle.std.proofs.lemmas.Bool.{not-false, or_parts as or_false}
 use Rattle.std.specs.List.{list_any}
 use Rattle.sudoers_text.specs.Renamed.{IsDefinableName}

@@ -16,7 +16,7 @@ use Rattle.sudoers_tree.specs.Line.{Line, line_in}
 use Rattle.sudoers_tree.specs.Mention.{members_in, of_kind}
 use Rattle.sudoers_tree.specs.Standing.{IsAbsent}
 use Rattle.sudoers_edit.specs.Renaming.{start_if, starts_among, starts_in, starts_in_def}
-use Rattle.sudoers_edit.specs.internal.FileLeading.{swap_in, swaps_of_file}
+use Rattle.sudoers_edit.specs.internal.Leading.{swap_in, swaps_of_file}
 use Rattle.sudoers_edit.proofs.StartLemmas.{picked, picked_list}
 
 abbrev IsNone : List ℕ → List (List ℕ) → Type 0

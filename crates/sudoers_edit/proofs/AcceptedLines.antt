@@ -33,14 +33,15 @@ use Rattle.sudoers_edit.specs.LineEdits.{moved, with_end, with_last, without_lf,
 use Rattle.sudoers_edit.specs.Renaming.{renamed, is_taken, rename, renamed_files}
 use Rattle.sudoers_edit.specs.OneLine.{is_one_line, gives_one, IsAlone}
 use Rattle.sudoers_edit.specs.Editing.{in_file, line_at, step, inv, run}
-use Rattle.sudoers_edit.specs.internal.LastLineInFile.{EndsStayCut}
+use Rattle.sudoers_edit.specs.internal.LastLine.{EndsStayCut}
 use Rattle.sudoers_edit.specs.internal.LeadingInFile.{AreFileLines, LandsIn, texts_of}
 use Rattle.sudoers_edit.proofs.EditLemmas.{each_at, each_insert, each_remove}
 use Rattle.sudoers_edit.proofs.PolicyLemmas.{alone_of}
 use Rattle.sudoers_edit.proofs.EndLemmas.{HasEnd, IsLast, LacksEnd, closed_lines, end_as_is, end_lands, end_one, end_too_long, no_end, open_lacks, open_lands, open_one, open_short, opened_lines}
-use Rattle.sudoers_edit.proofs.LandLemmas.{LandLaws, as_many, cut_with, file_lines, lands_back, run_one}
+use Rattle.sudoers_edit.specs.internal.EditLaws.{LandLaws}
+use Rattle.sudoers_edit.proofs.LandLemmas.{as_many, cut_with, file_lines, lands_back, run_one}
 use Rattle.sudoers_edit.proofs.LineLemmas.{delete_lands, insert_lands, move_lands}
-use Rattle.sudoers_edit.proofs.MemberLemmas.{WalkLaws}
+use Rattle.sudoers_edit.specs.internal.EditLaws.{WalkLaws}
 
 -- What the laws say of loaded files, of their lines, and of renames.
 pub record Laws : Type 0 where

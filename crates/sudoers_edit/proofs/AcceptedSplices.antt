@@ -27,8 +27,8 @@ use Rattle.sudoers_edit.specs.Landing.{refuse_if, or_refuse, is_too_long, Lines,
 use Rattle.sudoers_edit.specs.Splice.{Extent, member_extents, def_extents, seam, owned_stop, slice, line_with, line_without}
 use Rattle.sudoers_edit.specs.SpliceEdits.{place_to_add, place_to_drop, is_one_more, defs_of, with_defs, with_def, add_def, drop_def, add_member, drop_member, cut_out, put_in, with_changed}
 use Rattle.sudoers_edit.specs.Editing.{at_alias, place_in_file, step, inv}
-use Rattle.sudoers_edit.specs.internal.FileSplicing.{AreKnown, IsDefIn, ReplacesIn}
-use Rattle.sudoers_edit.specs.internal.Leading.{PutIn, CutOut}
+use Rattle.sudoers_edit.specs.internal.Splicing.{AreKnown, IsDefIn, ReplacesIn}
+use Rattle.sudoers_edit.specs.internal.OneMore.{PutIn, CutOut}
 use Rattle.sudoers_edit.specs.internal.LeadingInFile.{texts_of}
 use Rattle.sudoers_edit.proofs.AcceptedLines.{Laws, Steps, Takes, found, in_file_ok, landed_ok, lands_steps, not_refused, then_ok, whole_replaced}
 use Rattle.sudoers_edit.proofs.DefLemmas.{add_replaces as def_add_replaces, drop_replaces as def_drop_replaces}

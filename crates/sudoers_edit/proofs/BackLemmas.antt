@@ -19,12 +19,13 @@ use Rattle.sudoers_tree.specs.declared.line_change.LineChange.{LineChange}
 use Rattle.sudoers_tree.specs.declared.line_change.LineChange.TheVariants.{Put, Swap, Take}
 use Rattle.sudoers_tree.specs.declared.load.NamedFile.{NamedFile}
 use Rattle.sudoers_edit.specs.Landing.{Lines}
-use Rattle.sudoers_edit.specs.internal.FileUndone.{ChangesBack, undone, undone_since}
+use Rattle.sudoers_edit.specs.internal.Undone.{ChangesBack, undone, undone_since}
 use Rattle.sudoers_edit.specs.internal.LeadingInFile.{texts_of}
 use Rattle.sudoers_edit.specs.internal.UndoneLines.{one_undone, put_by, taken_by, undone_from}
 use Rattle.sudoers_edit.proofs.PolicyLemmas.{count_texts}
-use Rattle.sudoers_edit.proofs.LandLemmas.{LandLaws, file_lines}
-use Rattle.sudoers_edit.proofs.RenameSwaps.{NoneLaw, FirstLaw}
+use Rattle.sudoers_edit.specs.internal.EditLaws.{LandLaws}
+use Rattle.sudoers_edit.proofs.LandLemmas.{file_lines}
+use Rattle.sudoers_edit.specs.internal.ChangeLaws.{NoneLaw, FirstLaw}
 use Rattle.sudoers_edit.proofs.UndoneLemmas.{Undoes, lines_undone, next_place_after, whole_undone, within_order}
 
 -- ONE CHANGE

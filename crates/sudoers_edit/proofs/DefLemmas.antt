@@ -15,8 +15,8 @@ use Rattle.sudoers_edit.specs.Editing.{Refuses, in_file}
 use Rattle.sudoers_edit.specs.Landing.{Lines, and_then, landed, with_bytes}
 use Rattle.sudoers_edit.specs.Splice.{def_extents, seam, owned_stop, slice}
 use Rattle.sudoers_edit.specs.SpliceEdits.{defs_of, owned_def, place_to_add, place_to_drop, with_defs, add_def, cut_out, drop_def, put_in, with_changed}
-use Rattle.sudoers_edit.specs.internal.FileSplicing.{AreKnown, ReplacesIn}
-use Rattle.sudoers_edit.specs.internal.Leading.{CutOut, PutIn}
+use Rattle.sudoers_edit.specs.internal.Splicing.{AreKnown, ReplacesIn}
+use Rattle.sudoers_edit.specs.internal.OneMore.{CutOut, PutIn}
 use Rattle.sudoers_edit.specs.internal.LeadingInFile.{texts_of}
 use Rattle.sudoers_edit.proofs.ExtentLemmas.{def_more}
 use Rattle.sudoers_edit.proofs.WayBackLemmas.{said_logical}

@@ -5,7 +5,7 @@ use Rattle.sudoers_tree.specs.Changed.{changed, changed_from, place_of, next_pla
 use Rattle.sudoers_tree.specs.declared.line_change.LineChange.{LineChange}
 use Rattle.sudoers_tree.specs.declared.line_change.LineChange.TheVariants.{Swap, Take}
 use Rattle.sudoers_edit.specs.Landing.{Lines}
-use Rattle.sudoers_edit.proofs.PlanLemmas.{NoneLaw, FirstLaw}
+use Rattle.sudoers_edit.specs.internal.ChangeLaws.{NoneLaw, FirstLaw}
 use Rattle.sudoers_edit.proofs.UndoneLemmas.{both_parts, left_behind, next_place_after, suc_more, within_order, zero_more}
 
 -- LISTS

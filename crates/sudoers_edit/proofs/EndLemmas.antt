@@ -23,7 +23,7 @@ use Rattle.sudoers_edit.specs.OneLine.{is_one_line, IsAlone}
 use Rattle.sudoers_edit.specs.declared.fault.EditFault.{EditFault}
 use Rattle.sudoers_edit.specs.declared.fault.EditFault.TheVariants.{EndAsIs, TooLarge}
 use Rattle.sudoers_edit.specs.Landing.{Lines, by_load, landed, policy_or_refusal, with_bytes}
-use Rattle.sudoers_edit.specs.internal.LastLineInFile.{EndsStayCut}
+use Rattle.sudoers_edit.specs.internal.LastLine.{EndsStayCut}
 use Rattle.sudoers_edit.specs.internal.LeadingInFile.{AreFileLines, LandsIn, texts_of}
 use Rattle.sudoers_edit.proofs.EditLemmas.{is_one}
 use Rattle.sudoers_edit.proofs.LastLemmas.{last_parts, no_last}

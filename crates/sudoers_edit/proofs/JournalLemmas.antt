@@ -10,7 +10,7 @@ use Rattle.sudoers_edit.specs.declared.editor.Entry.{Entry}
 use Rattle.sudoers_edit.specs.declared.editor.Step.{Step}
 use Rattle.sudoers_edit.specs.declared.fault.EditFault.{EditFault}
 use Rattle.sudoers_edit.specs.Editing.{step, inv, run, IsUndoable, IsRedoable}
-use Rattle.sudoers_edit.specs.internal.FileUndone.{AreBacks, entries_of}
+use Rattle.sudoers_edit.specs.internal.Undone.{AreBacks, entries_of}
 
 -- THE LAST STEP
 

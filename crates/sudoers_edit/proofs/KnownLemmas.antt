@@ -9,7 +9,7 @@ use Rattle.sudoers_tree.specs.Policy.{SaysSo, texts}
 use Rattle.sudoers_tree.proofs.OneOutcome.{OneReading, NoFault}
 use Rattle.sudoers_tree.proofs.SaidLines.{LinesLaw, WholeLaw, all_said}
 use Rattle.sudoers_edit.specs.OneLine.{IsAlone}
-use Rattle.sudoers_edit.specs.internal.FileSplicing.{AreKnown}
+use Rattle.sudoers_edit.specs.internal.Splicing.{AreKnown}
 use Rattle.sudoers_edit.proofs.WayBackLemmas.{alone_at}
 use Rattle.sudoers_edit.proofs.WithinLemmas.{AscendLaw, makes_alias, says_at}
 

@@ -8,7 +8,6 @@ use Rattle.std.proofs.lemmas.List.{length-map}
 use Rattle.sudoers_text.specs.Cut.{cut_of, StandAlone}
 use Rattle.sudoers_text.specs.Ended.{has_unended_inside}
 use Rattle.sudoers_text.specs.Line.{join}
-use Rattle.sudoers_text.specs.Whole.{IsLogicalLine, is_logical_line}
 use Rattle.sudoers_tree.specs.declared.line_change.LineChange.{LineChange}
 use Rattle.sudoers_tree.specs.declared.load.NamedFile.{NamedFile}
 use Rattle.sudoers_tree.specs.Changed.{AreInOrder, changed, changed_from, file_of}
@@ -23,22 +22,10 @@ use Rattle.sudoers_edit.specs.Landing.{refuse_if, Lines, by_load, landed, policy
 use Rattle.sudoers_edit.specs.declared.fault.EditFault.{EditFault}
 use Rattle.sudoers_edit.specs.declared.fault.EditFault.TheVariants.{OpenLine}
 use Rattle.sudoers_edit.specs.Editing.{step, run}
-use Rattle.sudoers_edit.specs.internal.FileLeading.{Leads}
+use Rattle.sudoers_edit.specs.internal.Leading.{Leads}
 use Rattle.sudoers_edit.specs.internal.LeadingInFile.{AreFileLines, FitIn, LandsIn, texts_of}
-use Rattle.sudoers_edit.proofs.PolicyLemmas.{StandAloneLaw, count_texts}
-
--- WHAT THE LAWS SAY
-
--- what the laws say of loaded files, and of their lines
-pub record LandLaws : Type 0 where
-  pub bytes : (files : List NamedFile) (policy : Loaded) → load_of files ≡ Ok policy → files_of policy ≡ files
-  pub cut : (files : List NamedFile) (policy : Loaded) → load_of files ≡ Ok policy → (f : ℕ) → cut_of (join (texts (lines_of policy.files f))) ≡ Ok (texts (lines_of policy.files f))
-  pub alone : StandAloneLaw
-  pub logical : (line : List ℕ) → cut_of line ≡ Ok (line ∷ []) → is_logical_line line ≡ true
-  pub tells : (line : List ℕ) → is_logical_line line ≡ true → IsLogicalLine line
-  pub lines : (changes : List LineChange) (old new : Loaded) → load_of (files_of old) ≡ Ok old → CanBeMade changes old.files
-      → load_of (files_changed changes old.files) ≡ Ok new → (f : ℕ)
-      → texts (lines_of new.files f) ≡ changed (changes_of f changes) (texts (lines_of old.files f))
+use Rattle.sudoers_edit.proofs.PolicyLemmas.{count_texts}
+use Rattle.sudoers_edit.specs.internal.EditLaws.{LandLaws}
 
 -- what the lines of each file of a policy are
 pub file_lines : LandLaws → (policy : Loaded) → load_of (files_of policy) ≡ Ok policy → (f : ℕ) → AreFileLines (texts_of policy f)

@@ -74,7 +74,6 @@ pub mod RedoLemmas
 pub mod RemovalNumbers
 pub mod RenameCovers
 pub mod RenameFiles
-pub mod RenameLaws
 pub mod RenameLeads
 pub mod RenameLines
 pub mod RenameLong
@@ -83,6 +82,7 @@ pub mod RenameReadings
 pub mod RenameSizes
 pub mod RenameSwaps
 pub mod ReplaceLemmas
+pub mod SoundFiles
 pub mod SpotLemmas
 pub mod SwapLemmas
 pub mod UndoneLemmas

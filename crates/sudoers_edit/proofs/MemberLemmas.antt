@@ -18,7 +18,7 @@ use Rattle.sudoers_tree.specs.Load.{file_of as named_of}
 use Rattle.sudoers_tree.specs.Load.{Loaded, StandAt, files_of, load_of}
 use Rattle.sudoers_tree.specs.Mapped.{file_names}
 use Rattle.sudoers_tree.specs.Policy.{texts}
-use Rattle.sudoers_tree.specs.Walk.{Walked, walk_of}
+use Rattle.sudoers_tree.specs.Walk.{Walked}
 use Rattle.sudoers_tree.specs.declared.load.NamedFile.{NamedFile}
 use Rattle.sudoers_tree.specs.declared.place.FilePlace.{FilePlace}
 use Rattle.sudoers_tree.specs.declared.place.Place.{Place}
@@ -30,8 +30,8 @@ use Rattle.sudoers_edit.specs.Splice.{extents_in, member_extents, owned_stop, se
 use Rattle.sudoers_edit.specs.SpliceEdits.{defs_of, place_to_add, place_to_drop, with_def, add_member, cut_out, drop_member, owned_member, put_in, with_changed}
 use Rattle.sudoers_edit.specs.Editing.{at_alias, owned_by, place_in_file, step}
 use Rattle.sudoers_edit.specs.Landing.{Lines, and_then, landed, with_bytes}
-use Rattle.sudoers_edit.specs.internal.FileSplicing.{AreKnown, IsDefIn, ReplacesIn}
-use Rattle.sudoers_edit.specs.internal.Leading.{CutOut, PutIn}
+use Rattle.sudoers_edit.specs.internal.Splicing.{IsDefIn, ReplacesIn}
+use Rattle.sudoers_edit.specs.internal.OneMore.{CutOut, PutIn}
 use Rattle.sudoers_edit.specs.internal.LeadingInFile.{texts_of}
 use Rattle.sudoers_edit.proofs.PlaceLemmas.{SameHeads, SameNames, heads_append, heads_from, heads_placed, heads_refl, names_sym}
 use Rattle.sudoers_edit.proofs.ExtentLemmas.{adds, drops}
@@ -40,14 +40,7 @@ use Rattle.sudoers_edit.proofs.WayBackLemmas.{said_logical}
 use Rattle.sudoers_edit.proofs.SwapLemmas.{Swapped, cut_back, put_back, swapped}
 use Rattle.sudoers_edit.proofs.ReplacedLemmas.{line_put, one_said}
 use Rattle.sudoers_edit.proofs.SpotLemmas.{AreAlike, LeadAlike, placed, places, walks_alike}
-
--- what the laws say of loaded files, and of the walk over them
-pub record WalkLaws : Type 0 where
-  pub bytes : (files : List NamedFile) (policy : Loaded) → load_of files ≡ Ok policy → files_of policy ≡ files
-  pub cut : (files : List NamedFile) (policy : Loaded) → load_of files ≡ Ok policy → (f : ℕ) → cut_of (join (texts (lines_of policy.files f))) ≡ Ok (texts (lines_of policy.files f))
-  pub known : (files : List NamedFile) (policy : Loaded) → load_of files ≡ Ok policy → (f : ℕ) → AreKnown (lines_of policy.files f)
-  pub walk : (files : List NamedFile) (policy : Loaded) → load_of files ≡ Ok policy → walk_of policy.files ≡ Ok policy.walk
-  pub stand : (files : List NamedFile) (policy : Loaded) → load_of files ≡ Ok policy → StandAt policy.files policy.walk.spots policy.walk.lines
+use Rattle.sudoers_edit.specs.internal.EditLaws.{WalkLaws}
 
 -- OTHER FILES
 

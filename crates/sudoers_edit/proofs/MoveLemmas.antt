@@ -10,7 +10,8 @@ use Rattle.sudoers_tree.specs.declared.line_change.LineChange.TheVariants.{Put, 
 use Rattle.sudoers_edit.specs.LineEdits.{moved}
 use Rattle.sudoers_edit.specs.Landing.{Lines}
 use Rattle.sudoers_edit.specs.internal.LeadingInFile.{AreFileLines, FitIn, move_changes}
-use Rattle.sudoers_edit.proofs.PlanLemmas.{NoneLaw, FirstLaw, whole_at}
+use Rattle.sudoers_edit.specs.internal.ChangeLaws.{NoneLaw, FirstLaw}
+use Rattle.sudoers_edit.proofs.PlanLemmas.{whole_at}
 
 put_parts : (ls : Lines) (k : ℕ) (t : List ℕ) → k ≤ length ls → take k ls ++ t ∷ drop k ls ≡ insert ls k t
 put_parts ls zero t within = refl

@@ -19,7 +19,7 @@ use Rattle.sudoers_edit.specs.declared.one_more.Among.{Among}
 use Rattle.sudoers_edit.specs.declared.one_more.Among.TheVariants as among
 use Rattle.sudoers_edit.specs.declared.pruning.Removal.{Removal}
 use Rattle.sudoers_edit.specs.declared.pruning.Removal.TheVariants as removal
-use Rattle.sudoers_edit.specs.Payload.{payload, payload_of, takes_out}
+use Rattle.sudoers_edit.specs.Payload.{payload_size, payloads_size, takes_out}
 use Rattle.sudoers_edit.specs.Splice.{line_with, def_extents, member_extents}
 use Rattle.sudoers_edit.specs.SpliceEdits.{is_one_more, add_def, add_member, put_in, with_changed}
 use Rattle.sudoers_edit.specs.Editing.{removed, put_back, put_all_back, step, inv, then_or, run_all}
@@ -108,7 +108,7 @@ landed_size law policy new f more lines here is size =
 
 -- ---- one edit
 
-grows : BytesLaw → (edit : Edit) → Puts edit → (policy new : Loaded) → step edit policy ≡ Ok new → bytes_in (files_of new) ≡ bytes_in (files_of policy) + payload edit
+grows : BytesLaw → (edit : Edit) → Puts edit → (policy new : Loaded) → step edit policy ≡ Ok new → bytes_in (files_of new) ≡ bytes_in (files_of policy) + payload_size edit
 grows law (Insert f at text) puts policy new is =
     let i = in_file_ok f policy new (λ lines. with_line at text (texts lines)) is in
     let p = inserted at text (texts_of policy f) i.lines i.made in
@@ -141,7 +141,7 @@ grows law Prune puts policy new is = absurd puts
 -- ---- edits
 
 grow : BytesLaw → (edits : List Edit) → AllByRecursion Puts edits → (place : ℕ) (policy new : Loaded) → run_all place edits policy ≡ Ok new
-    → bytes_in (files_of new) ≡ bytes_in (files_of policy) + payload_of edits
+    → bytes_in (files_of new) ≡ bytes_in (files_of policy) + payloads_size edits
 grow law [] all place policy new is =
     let same : policy ≡ new = cc in
     omega (arith, ap (λ (p : Loaded). bytes_in (files_of p)) same)
@@ -174,12 +174,12 @@ back_puts (EndLine file) policy out = absurd cc
 back_puts (OpenEnd file) policy out = absurd cc
 
 pub carried : BytesLaw → LeadsBack → (edit : Edit) (policy new : Loaded) → takes_out edit ≡ true → load_of (files_of policy) ≡ Ok policy
-    → step edit policy ≡ Ok new → bytes_in (files_of new) + payload_of (inv edit policy) ≡ bytes_in (files_of policy)
+    → step edit policy ≡ Ok new → bytes_in (files_of new) + payloads_size (inv edit policy) ≡ bytes_in (files_of policy)
 carried law leads edit policy new out loaded is =
     let taken = leads (edit ∷ []) policy new loaded (ap (then_or (run_all 1 []) 0) is) in
     omega (arith, grow law (inv edit policy) (back_puts edit policy out) 0 new policy taken.back)
 
-pub none_carried : (edit : Edit) (policy : Loaded) → takes_out edit ≡ false → payload_of (inv edit policy) ≡ 0
+pub none_carried : (edit : Edit) (policy : Loaded) → takes_out edit ≡ false → payloads_size (inv edit policy) ≡ 0
 none_carried (Insert file at text) policy none = omega arith
 none_carried (Move file from to) policy none = omega arith
 none_carried (AddMember kind name at splice) policy none = omega arith

@@ -1,26 +1,17 @@
 -- Changes of one file that edits of it are.
-use Rattle.std.proofs.Common.{◌≡◌, ℕ, zero, suc, ◌+◌, ◌-◌, ◌<◌, ◌≤◌, List, [], ◌∷◌, ◌++◌, length, take, drop, slice_index_or, arith, Result, Ok, Err, refl, sym, subst}
+use Rattle.std.proofs.Common.{◌≡◌, ℕ, zero, suc, ◌<◌, ◌≤◌, List, [], ◌∷◌, length, slice_index_or, arith, Result, Ok, Err, refl, sym, subst}
 use Rattle.std.specs.List.{AllByRecursion}
-use Rattle.std.specs.Prelude.{option_to_list, IfOk}
+use Rattle.std.specs.Prelude.{IfOk}
 use Rattle.sudoers_text.specs.Whole.{IsLogicalLine}
-use Rattle.sudoers_tree.specs.Changed.{changed_from, place_of, next_place, text_brought, AreInOrder, changed}
+use Rattle.sudoers_tree.specs.Changed.{changed}
 use Rattle.sudoers_tree.specs.declared.line_change.LineChange.{LineChange}
 use Rattle.sudoers_edit.specs.Landing.{Lines}
 use Rattle.sudoers_tree.specs.declared.line_change.LineChange.TheVariants.{Put, Swap, Take}
 use Rattle.sudoers_tree.specs.Load.{Loaded, files_of, load_of}
 use Rattle.sudoers_edit_script.specs.declared.edit.Edit.{Edit}
 use Rattle.sudoers_edit.specs.declared.plan.Plan.{Plan}
-use Rattle.sudoers_edit.specs.internal.FileLeading.{Leads}
+use Rattle.sudoers_edit.specs.internal.Leading.{Leads}
 use Rattle.sudoers_edit.specs.internal.LeadingInFile.{FitIn, LandsIn, texts_of}
-
--- what the laws say of changes
-abbrev pub NoneLaw : Type 0
-NoneLaw = (n : ℕ) (lines : Lines) → changed_from n [] lines ≡ lines
-
-abbrev pub FirstLaw : Type 0
-FirstLaw = (n : ℕ) (change : LineChange) (changes : List LineChange) (lines : Lines) → AreInOrder n (change ∷ changes) (n + length lines)
-    → changed_from n (change ∷ changes) lines
-    ≡ take (place_of change - n) lines ++ (option_to_list (text_brought change) ++ changed_from (next_place change) changes (drop (next_place change - n) lines))
 
 pub whole_at : (ls : Lines) (at : ℕ) → AllByRecursion IsLogicalLine ls → at < length ls → IsLogicalLine (slice_index_or ls at [])
 whole_at [] at all within = absurd (omega (arith, within))

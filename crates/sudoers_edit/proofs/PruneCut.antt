@@ -16,8 +16,8 @@ use Rattle.sudoers_edit.specs.Editing.{Refuses}
 use Rattle.sudoers_edit.specs.Landing.{or_refuse, refuse_if, Lines}
 use Rattle.sudoers_edit.specs.Splice.{Extent, def_extents, owned_stop, seam, slice}
 use Rattle.sudoers_edit.specs.SpliceEdits.{defs_of, place_to_drop, cut_out, drop_def, with_changed}
-use Rattle.sudoers_edit.specs.internal.FileDrafts.{CutDef}
-use Rattle.sudoers_edit.specs.internal.Leading.{CutOut}
+use Rattle.sudoers_edit.specs.internal.Drafts.{CutDef}
+use Rattle.sudoers_edit.specs.internal.OneMore.{CutOut}
 use Rattle.sudoers_edit.proofs.SpliceLemmas.{owned_in}
 
 -- the line says what its text says

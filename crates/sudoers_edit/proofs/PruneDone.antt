@@ -21,10 +21,10 @@ use Rattle.sudoers_edit.specs.declared.pruning.Removal.TheVariants as removal
 use Rattle.sudoers_edit.specs.Editing.{Refuses, inv, put_all_back, removed_all, run, step}
 use Rattle.sudoers_edit.specs.Landing.{by_load, policy_or_refusal}
 use Rattle.sudoers_edit.specs.Pruning.{edit_of, removals}
-use Rattle.sudoers_edit.specs.internal.FileDrafts.{AreByFiles, Falls, IsPruned, IsTakenOut, below_after, cut_after}
-use Rattle.sudoers_edit.specs.internal.FileLeading.{Leads}
+use Rattle.sudoers_edit.specs.internal.Drafts.{AreByFiles, Falls, IsPruned, IsTakenOut, below_after, cut_after}
+use Rattle.sudoers_edit.specs.internal.Leading.{Leads}
 use Rattle.sudoers_edit.proofs.DraftLemmas.{order_weaker}
-use Rattle.sudoers_edit.proofs.PlanLemmas.{NoneLaw}
+use Rattle.sudoers_edit.specs.internal.ChangeLaws.{NoneLaw}
 use Rattle.sudoers_edit.proofs.PruneFalls.{removals_fall}
 
 -- ---- one after another

@@ -16,7 +16,7 @@ use Rattle.sudoers_check.specs.Led.{is_unused}
 use Rattle.sudoers_edit.specs.declared.pruning.Removal.{Removal}
 use Rattle.sudoers_edit.specs.declared.pruning.Removal.TheVariants as removal
 use Rattle.sudoers_edit.specs.Pruning.{removals_of, removals_since, removals}
-use Rattle.sudoers_edit.specs.internal.FileDrafts.{Falls, IsAlias, cut_after, lowered}
+use Rattle.sudoers_edit.specs.internal.Drafts.{Falls, IsAlias, cut_after, lowered}
 use Rattle.sudoers_edit.proofs.PrunePlaces.{within}
 use Rattle.sudoers_edit.proofs.PruneWalk.{Ascend, IsBefore, IsOrdered, walk_ordered}
 

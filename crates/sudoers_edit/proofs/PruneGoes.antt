@@ -37,7 +37,7 @@ use Rattle.sudoers_edit.specs.SpliceEdits.{defs_of, is_one_more, owned_def, add_
 use Rattle.sudoers_edit.specs.Editing.{in_file, line_at, run, step}
 use Rattle.sudoers_edit.specs.Landing.{Lines, and_then, landed}
 use Rattle.sudoers_edit.specs.LineEdits.{with_line, without_line}
-use Rattle.sudoers_edit.specs.internal.FileDrafts.{CutDef, DefGoes, IsOther, LineGoes}
+use Rattle.sudoers_edit.specs.internal.Drafts.{CutDef, DefGoes, IsOther, LineGoes}
 use Rattle.sudoers_edit.proofs.ExtentLemmas.{adds, def_more}
 use Rattle.sudoers_edit.proofs.DefEnds.{defs_end}
 use Rattle.sudoers_edit.proofs.DropDef.{EndsLaw, Less, less_of, less_part}
@@ -45,7 +45,8 @@ use Rattle.sudoers_edit.proofs.NameParts.{IsPart, part_none}
 use Rattle.sudoers_edit.proofs.OwnedBytes.{owned_within, same_end, shorter}
 use Rattle.sudoers_edit.proofs.PolicyLemmas.{at_get}
 use Rattle.sudoers_edit.proofs.PruneLists.{file_here, file_there, file_with, names_stay, each_parts, says_parts}
-use Rattle.sudoers_edit.proofs.PrunePut.{FileLaws, FileLines, FitsIn, IsPut, file_lines, put}
+use Rattle.sudoers_edit.specs.internal.PruneLaws.{FileLaws}
+use Rattle.sudoers_edit.proofs.PrunePut.{FileLines, FitsIn, IsPut, file_lines, put}
 use Rattle.sudoers_edit.proofs.SpliceLemmas.{size_slice, with_without}
 use Rattle.sudoers_edit.proofs.WayBackLemmas.{said_logical}
 use Rattle.sudoers_edit.proofs.Whole.{here_at}

@@ -14,7 +14,7 @@ use Rattle.sudoers_check.specs.Led.{is_unused}
 use Rattle.sudoers_edit.specs.declared.pruning.Removal.{Removal}
 use Rattle.sudoers_edit.specs.declared.pruning.Removal.TheVariants as removal
 use Rattle.sudoers_edit.specs.Pruning.{removals_of, removals_since, removals}
-use Rattle.sudoers_edit.specs.internal.FilePruneOrder.{front_count, removals_at, removals_along}
+use Rattle.sudoers_edit.specs.internal.PruneOrder.{front_count, removals_at, removals_along}
 use Rattle.sudoers_edit.proofs.PrunePlaces.{place_in, all_map, all_filter, map_reverse, map_map, in_line, since_line, front_all}
 
 at_is : (at : Spot) (count : ℕ) (ds : List Definition) → reverse (removals_at at count (map place_in ds)) ≡ removals_of at count ds

@@ -6,7 +6,6 @@ use Rattle.std.specs.List.{AllByRecursion, list_any}
 use Rattle.std.specs.Option.{option_or}
 use Rattle.std.specs.Prelude.{slice_get}
 use Rattle.sudoers_text.specs.Whole.{IsLogicalLine}
-use Rattle.sudoers_line.specs.Node.{Def}
 use Rattle.sudoers_line.specs.Node as node
 use Rattle.sudoers_tree.specs.Changed.{AreInOrder, brought, changed, file_of, replaced}
 use Rattle.sudoers_tree.specs.ChangedFiles.{changes_of}
@@ -25,9 +24,10 @@ use Rattle.sudoers_edit.specs.declared.pruning.Removal.TheVariants as removal
 use Rattle.sudoers_edit.specs.Editing.{Refuses, line_at, step}
 use Rattle.sudoers_edit.specs.Landing.{Lines, and_then, landed}
 use Rattle.sudoers_edit.specs.SpliceEdits.{drop_def}
-use Rattle.sudoers_edit.specs.internal.FileDrafts.{CutDef, DefGoes, IsAlias, IsDraft, IsMade, IsReady, IsReplaced, IsTakenOut, LineGoes, lowered, replaced_by, unless_replaced}
+use Rattle.sudoers_edit.specs.internal.Drafts.{CutDef, DefGoes, IsAlias, IsDraft, IsReady, IsReplaced, IsTakenOut, LineGoes, lowered, replaced_by, unless_replaced}
+use Rattle.sudoers_edit.specs.internal.Made.{IsMade}
 use Rattle.sudoers_edit.proofs.DraftLemmas.{again_replaced, one_replaced, one_taken, one_unchanged, order_weaker, replaced_is}
-use Rattle.sudoers_edit.proofs.PlanLemmas.{NoneLaw, FirstLaw}
+use Rattle.sudoers_edit.specs.internal.ChangeLaws.{NoneLaw, FirstLaw}
 use Rattle.sudoers_edit.proofs.PolicyLemmas.{at_get, count_texts}
 use Rattle.sudoers_edit.proofs.PruneGoes.{in_file_is}
 use Rattle.sudoers_edit.proofs.PruneLists.{file_with}

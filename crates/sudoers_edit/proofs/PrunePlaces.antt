@@ -21,7 +21,7 @@ use Rattle.sudoers_tree.specs.Load.{Loaded, StandAt, file_of, files_of, load_of}
 use Rattle.sudoers_tree.specs.Policy.{texts, count_of}
 use Rattle.sudoers_tree.specs.Walk.{spot_at}
 use Rattle.sudoers_tree.proofs.WalkSound.{loaded_as}
-use Rattle.sudoers_edit.specs.internal.FilePruneOrder.{front_count}
+use Rattle.sudoers_edit.specs.internal.PruneOrder.{front_count}
 
 -- LISTS
 

@@ -1,20 +1,13 @@
 -- A line of a file on the walk, in whose place other lines stand: the changed files are a policy again.
-use Rattle.std.proofs.Common.{◌≡◌, ◌∙◌, ℕ, ◌+◌, ◌≤◌, ◌<◌, ◌==◌, ◌&&◌, Bool, true, false, List, [], ◌∷◌, ◌++◌, length, map, Some, None, Ok, refl, sym, ap, ap₂, subst, arith, if◌then◌else◌}
+use Rattle.std.proofs.Common.{◌≡◌, ◌∙◌, ℕ, ◌+◌, ◌≤◌, ◌==◌, ◌&&◌, Bool, true, false, List, [], ◌∷◌, ◌++◌, length, map, Some, None, Ok, refl, sym, ap, ap₂, subst, arith, if◌then◌else◌}
 use Rattle.std.proofs.lemmas.Bool.{eqb-false, eqb-true, and_parts}
 use Rattle.std.proofs.lemmas.List.{length-append}
 use Rattle.std.specs.List.{AllByRecursion}
 use Rattle.std.specs.Prelude.{slice_get}
 use Rattle.sudoers_text.specs.Cut.{cut_of, StandAlone}
 use Rattle.sudoers_text.specs.Ended.{has_unended_inside}
-use Rattle.sudoers_text.specs.Fault.{text_limit, line_limit}
+use Rattle.sudoers_text.specs.Fault.{text_limit}
 use Rattle.sudoers_text.specs.Line.{join}
-use Rattle.sudoers_text.specs.Whole.{IsLogicalLine, is_logical_line}
-use Rattle.sudoers_line.specs.Ascend.{DefsAscend}
-use Rattle.sudoers_line.specs.Line.{ReadsLine}
-use Rattle.sudoers_line.specs.Node.{Def, Node}
-use Rattle.sudoers_line.specs.Node as node
-use Rattle.sudoers_line.specs.declared.node.Kind.{Kind}
-use Rattle.sudoers_line_reader.specs.Outcome.{outcome_of, IsOutcome as IsLineOutcome}
 use Rattle.sudoers_tree.specs.declared.load.NamedFile.{NamedFile}
 use Rattle.sudoers_tree.specs.declared.place.Spot.{Spot}
 use Rattle.sudoers_tree.specs.Definition.{definitions, definitions_in, definitions_since}
@@ -26,38 +19,11 @@ use Rattle.sudoers_tree.specs.Mapped.{AreMapped, CanBeLoaded, IsMappedWalk, Keep
 use Rattle.sudoers_tree.specs.Policy.{IsWalk, SaysSo, texts}
 use Rattle.sudoers_tree.specs.Walk.{Walked, is_on, walk_of}
 use Rattle.sudoers_tree.proofs.Joined.{definitions_append}
-use Rattle.sudoers_tree.proofs.OneOutcome.{OneReading, NoFault}
 use Rattle.sudoers_edit.specs.Landing.{landed, with_bytes}
 use Rattle.sudoers_edit.proofs.NameParts.{IsPart, part_append, in_part, free_part, once_part, count_part}
 use Rattle.sudoers_edit.proofs.PruneLists.{with_lines, lines_here, file_there, names_stay, faults_stay, no_faults, bytes_are, bytes_again, one_mapped, mapped_other, mapped_here, each_both, each_parts, says_both, says_parts, join_size, file_with}
 use Rattle.sudoers_edit.proofs.Whole.{ended_behind, ended_with, here_at, texts_append}
-
--- The laws of lines and of loaded files.
-pub record FileLaws : Type 0 where
-  pub loads : (g : Mapping) (policy : Loaded) (others : List FileReading) → load_of (files_of policy) ≡ Ok policy
-      → AreMapped g policy.files others policy.walk → CanBeLoaded policy.files others policy.walk
-      → NamesStand (mapped_at g policy.walk.spots policy.walk.lines)
-      → (other : Walked) × (load_of (map file_of others) ≡ Ok (record { files = others; walk = other })) × (walk_of others ≡ Ok other)
-      × IsMappedWalk g policy.walk other
-  pub walk : (files : List NamedFile) (policy : Loaded) → load_of files ≡ Ok policy → IsWalk policy.walk.lines
-  pub stand : (files : List NamedFile) (policy : Loaded) → load_of files ≡ Ok policy → StandAt policy.files policy.walk.spots policy.walk.lines
-  pub parse : (files : List NamedFile) (policy : Loaded) → load_of files ≡ Ok policy
-      → AllByRecursion (λ (file : FileReading). file.fault ≡ None) policy.files
-  pub cut : (files : List NamedFile) (policy : Loaded) → load_of files ≡ Ok policy → (f : ℕ)
-      → cut_of (join (texts (lines_of policy.files f))) ≡ Ok (texts (lines_of policy.files f))
-  pub said : (files : List NamedFile) (policy : Loaded) → load_of files ≡ Ok policy → (f : ℕ) → AllByRecursion SaysSo (lines_of policy.files f)
-  pub joined : (lines : List (List ℕ)) → StandAlone lines → has_unended_inside lines ≡ false → length (join lines) ≤ text_limit
-      → cut_of (join lines) ≡ Ok lines
-  pub alone : (text : List ℕ) (lines : List (List ℕ)) → cut_of text ≡ Ok lines
-      → StandAlone lines × (has_unended_inside lines ≡ false) × (join lines ≡ text) × (length text ≤ text_limit)
-  pub size : (line : List ℕ) → cut_of line ≡ Ok (line ∷ []) → (0 < length line) × (length line ≤ line_limit)
-  pub single : (line : List ℕ) → is_logical_line line ≡ true → length line ≤ line_limit → cut_of line ≡ Ok (line ∷ [])
-  pub whole : (line : List ℕ) → cut_of line ≡ Ok (line ∷ []) → is_logical_line line ≡ true
-  pub tells : (text : List ℕ) → is_logical_line text ≡ true → IsLogicalLine text
-  pub outcome : (line : List ℕ) → IsLineOutcome line (outcome_of line)
-  pub reading : OneReading
-  pub faultless : NoFault
-  pub ascend : (line : List ℕ) (kind : Kind) (defs : List Def) → ReadsLine line (node.Alias kind defs) → DefsAscend 0 (length line) defs
+use Rattle.sudoers_edit.specs.internal.PruneLaws.{FileLaws}
 
 -- What the lines of a loaded file are.
 pub record FileLines (lines : List Line) : Type 0 where

@@ -21,13 +21,13 @@ use Rattle.sudoers_edit.specs.Landing.{or_refuse, refuse_if, Lines, and_then, la
 use Rattle.sudoers_edit.specs.Splice.{Extent, def_extents, is_def_more, line_without, owned_stop, seam, slice}
 use Rattle.sudoers_edit.specs.SpliceEdits.{defs_of, place_to_drop, cut_out, drop_def, with_changed}
 use Rattle.sudoers_edit.specs.Editing.{step}
-use Rattle.sudoers_edit.specs.internal.FileDrafts.{CutDef, DefGoes}
-use Rattle.sudoers_edit.specs.internal.Leading.{CutOut}
+use Rattle.sudoers_edit.specs.internal.Drafts.{CutDef, DefGoes}
+use Rattle.sudoers_edit.specs.internal.OneMore.{CutOut}
 use Rattle.sudoers_edit.proofs.OwnedBytes.{owned_within}
 use Rattle.sudoers_edit.proofs.PruneCut.{drop_is}
 use Rattle.sudoers_edit.proofs.PruneGoes.{Known, def_goes, in_file_is, known}
 use Rattle.sudoers_edit.proofs.PruneLists.{file_with}
-use Rattle.sudoers_edit.proofs.PrunePut.{FileLaws}
+use Rattle.sudoers_edit.specs.internal.PruneLaws.{FileLaws}
 
 place_is : (at : ℕ) (xs : List Extent) (next : ℕ → ℕ → Result Lines EditFault) → at < length xs → 2 ≤ length xs
     → place_to_drop at xs next ≡ or_refuse (seam at xs) BadSplice (λ from. or_refuse (owned_stop at xs) BadSplice (λ to. next from to))

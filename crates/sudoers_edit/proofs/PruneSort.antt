@@ -13,7 +13,7 @@ use Rattle.sudoers_tree.specs.Changed.{brought, file_of, text_brought}
 use Rattle.sudoers_tree.specs.ChangedFiles.{GoByFiles, changes_of}
 use Rattle.sudoers_tree.specs.declared.line_change.LineChange.{LineChange}
 use Rattle.sudoers_tree.specs.declared.line_change.LineChange.TheVariants.{Take}
-use Rattle.sudoers_edit.specs.internal.FileDrafts.{AreByFiles}
+use Rattle.sudoers_edit.specs.internal.Drafts.{AreByFiles}
 use Rattle.sudoers_edit.proofs.PrunePlaces.{all_append}
 
 -- ---- numbers

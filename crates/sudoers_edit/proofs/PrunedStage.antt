@@ -11,7 +11,7 @@ use Rattle.sudoers_tree.specs.Load.{Loaded, files_of, load_of}
 use Rattle.sudoers_tree.specs.Mapped.{KeepsLead, KeepLeads, Mapping, file_names, mapped_from, nowhere, one}
 use Rattle.sudoers_tree.specs.Policy.{SaysSo, texts}
 use Rattle.sudoers_tree.specs.Walk.{is_on}
-use Rattle.sudoers_edit.specs.internal.FileDrafts.{IsOther}
+use Rattle.sudoers_edit.specs.internal.Drafts.{IsOther}
 use Rattle.sudoers_edit.proofs.PruneGoes.{Split, split}
 use Rattle.sudoers_edit.proofs.PruneLists.{says_both, says_parts}
 

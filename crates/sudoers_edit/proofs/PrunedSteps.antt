@@ -24,12 +24,12 @@ use Rattle.sudoers_edit.specs.Alike.{are_alike, is_same_def}
 use Rattle.sudoers_edit.specs.SpliceEdits.{is_one_more}
 use Rattle.sudoers_edit.specs.Editing.{removed, removed_all}
 use Rattle.sudoers_edit.specs.Landing.{and_then}
-use Rattle.sudoers_edit.specs.internal.FileDrafts.{CutDef, DefGoes, LineGoes}
+use Rattle.sudoers_edit.specs.internal.Drafts.{CutDef, DefGoes, LineGoes}
 use Rattle.sudoers_edit.proofs.DropDef.{Less, less_of}
 use Rattle.sudoers_edit.proofs.Whole.{here_at}
 use Rattle.sudoers_edit.proofs.PruneGoes.{Split, line_goes, other_one, says_of, split, without_one}
 use Rattle.sudoers_edit.proofs.PruneOut.{is_on_too}
-use Rattle.sudoers_edit.proofs.PrunePut.{FileLaws}
+use Rattle.sudoers_edit.specs.internal.PruneLaws.{FileLaws}
 use Rattle.sudoers_edit.proofs.PruneRefused.{Drops, drop_comes, gone, refused}
 use Rattle.sudoers_edit.proofs.PrunedAlike.{count_alike, defs_then, remove_alike, remove_there}
 use Rattle.sudoers_edit.proofs.PrunedStage.{AreKept, Stage, TextsTell, lines_are, renewed, renewed_here, renewed_there, stage_more}

@@ -27,7 +27,7 @@ use Rattle.sudoers_edit.specs.Pruning.{removals, removals_of, removals_since}
 use Rattle.sudoers_edit.proofs.PruneFalls.{all_parts, at_is}
 use Rattle.sudoers_edit.proofs.PruneGoes.{alias_leads}
 use Rattle.sudoers_edit.proofs.PruneLists.{no_faults}
-use Rattle.sudoers_edit.proofs.PrunePut.{FileLaws}
+use Rattle.sudoers_edit.specs.internal.PruneLaws.{FileLaws}
 use Rattle.sudoers_edit.proofs.PruneWalk.{Ascend, IsBefore, IsOrdered, walk_ordered}
 use Rattle.sudoers_edit.proofs.PrunedAlike.{defs_self}
 use Rattle.sudoers_edit.proofs.PrunedStage.{AreKept, Stage, TextsTell, first_stage, same_line}

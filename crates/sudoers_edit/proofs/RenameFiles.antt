@@ -22,12 +22,13 @@ use Rattle.sudoers_tree.specs.declared.load.NamedFile.{NamedFile}
 use Rattle.sudoers_tree.specs.declared.place.Spot.{Spot}
 use Rattle.sudoers_edit.specs.Renamed.{alias_of, renamed_line, renamed_lines}
 use Rattle.sudoers_edit.specs.Renaming.{renamed, renamed_files, renamed_from}
-use Rattle.sudoers_edit.specs.internal.FileLeading.{swaps_from}
+use Rattle.sudoers_edit.specs.internal.Leading.{swaps_from}
 use Rattle.sudoers_edit.proofs.NameFree.{IsWithout}
 use Rattle.sudoers_edit.proofs.RenamedPolicy.{says_renamed}
 use Rattle.sudoers_edit.proofs.RenamedTexts.{renamed_texts}
 use Rattle.sudoers_edit.proofs.RenameCovers.{lines_on_walk}
-use Rattle.sudoers_edit.proofs.RenameLaws.{Laws, AreSound, sound_of}
+use Rattle.sudoers_edit.specs.internal.RenameLaws.{Laws}
+use Rattle.sudoers_edit.proofs.SoundFiles.{AreSound, sound_of}
 use Rattle.sudoers_edit.proofs.RenameLines.{bring_from, ended_renamed, given_back}
 use Rattle.sudoers_edit.proofs.RenameSwaps.{go_by_files, lines_after, order_after}
 

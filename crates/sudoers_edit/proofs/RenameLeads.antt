@@ -21,10 +21,11 @@ use Rattle.sudoers_edit.specs.Landing.{is_too_long, by_load, policy_or_refusal}
 use Rattle.sudoers_edit.specs.Renamed.{renamed_lines}
 use Rattle.sudoers_edit.specs.Renaming.{is_taken, renamed, rename, renamed_files}
 use Rattle.sudoers_edit.specs.Editing.{run, step}
-use Rattle.sudoers_edit.specs.internal.FileLeading.{Leads, swaps_from}
+use Rattle.sudoers_edit.specs.internal.Leading.{Leads, swaps_from}
 use Rattle.sudoers_edit.proofs.RenamedPolicy.{walk_definable}
 use Rattle.sudoers_edit.proofs.RenameFiles.{LoadsRenamed, can_be_made, files_are, files_back, swaps, walk_is}
-use Rattle.sudoers_edit.proofs.RenameLaws.{Laws, sound_of, walk_short}
+use Rattle.sudoers_edit.specs.internal.RenameLaws.{Laws}
+use Rattle.sudoers_edit.proofs.SoundFiles.{sound_of, walk_short}
 use Rattle.sudoers_edit.proofs.RenameLines.{Back, back_in}
 
 -- The alias is defined on the walk of a policy, and the new name is free there.

@@ -24,7 +24,7 @@ use Rattle.sudoers_tree.specs.Walk.{Walked, is_on}
 use Rattle.sudoers_tree.specs.declared.line_change.LineChange.{LineChange}
 use Rattle.sudoers_edit.specs.Renamed.{alias_of, renamed_line, renamed_lines}
 use Rattle.sudoers_edit.specs.Renaming.{is_taken, put_at, renamed, starts_in}
-use Rattle.sudoers_edit.specs.internal.FileLeading.{swap_in, swaps_of_file, swaps_from}
+use Rattle.sudoers_edit.specs.internal.Leading.{swap_in, swaps_of_file, swaps_from}
 use Rattle.sudoers_edit.proofs.NameFree.{IsWithout, lines_free}
 use Rattle.sudoers_edit.proofs.NameGone.{mentions_gone}
 use Rattle.sudoers_edit.proofs.NameStarts.{starts_same}
@@ -33,7 +33,7 @@ use Rattle.sudoers_edit.proofs.RenamedNames.{AreRenamed, are_renamed}
 use Rattle.sudoers_edit.proofs.RenamedOnce.{lacks, lacked, unlike, fresh_placed, old_gone}
 use Rattle.sudoers_edit.proofs.RenamedPolicy.{says_renamed, walk_definable}
 use Rattle.sudoers_edit.proofs.RenamedTexts.{renamed_texts}
-use Rattle.sudoers_edit.proofs.RenameLaws.{LineLaws}
+use Rattle.sudoers_edit.specs.internal.RenameLaws.{LineLaws}
 
 -- ---- the texts
 

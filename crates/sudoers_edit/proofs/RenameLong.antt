@@ -21,10 +21,11 @@ use Rattle.sudoers_tree.specs.declared.load.NamedFile.{NamedFile}
 use Rattle.sudoers_tree.specs.declared.place.Spot.{Spot}
 use Rattle.sudoers_edit.specs.Landing.{is_too_long}
 use Rattle.sudoers_edit.specs.Renaming.{put_at, renamed, renamed_line, starts_in}
-use Rattle.sudoers_edit.specs.internal.FileLeading.{swap_in, swaps_of_file, swaps_from}
+use Rattle.sudoers_edit.specs.internal.Leading.{swap_in, swaps_of_file, swaps_from}
 use Rattle.sudoers_edit.proofs.RenameCovers.{lines_on_walk}
-use Rattle.sudoers_edit.proofs.RenameLaws.{Laws, LineLaws, AreSound, sound_of}
-use Rattle.sudoers_edit.proofs.RenameSwaps.{NoneLaw}
+use Rattle.sudoers_edit.specs.internal.RenameLaws.{Laws, LineLaws}
+use Rattle.sudoers_edit.proofs.SoundFiles.{AreSound, sound_of}
+use Rattle.sudoers_edit.specs.internal.ChangeLaws.{NoneLaw}
 
 -- WHAT THE CHANGES OF FILES BRING
 

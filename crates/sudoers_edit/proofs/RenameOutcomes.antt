@@ -24,10 +24,11 @@ use Rattle.sudoers_edit.proofs.RenamedPolicy.{walk_definable, walk_renamed}
 use Rattle.sudoers_edit.proofs.RenamedTexts.{renamed_texts}
 use Rattle.sudoers_edit.proofs.RenameCovers.{lines_on_walk}
 use Rattle.sudoers_edit.proofs.RenameFiles.{files_are}
-use Rattle.sudoers_edit.proofs.RenameLaws.{sound_of}
+use Rattle.sudoers_edit.proofs.SoundFiles.{sound_of}
 use Rattle.sudoers_edit.proofs.RenameLeads.{IsFresh, back_is, definable, made, too_long}
 use Rattle.sudoers_edit.proofs.RenameLong.{IsShort, all_of_walk, all_short, none_long, walk_kept}
-use Rattle.sudoers_edit.proofs.RenameSizes.{CanBeRenamed, IsLarge, Loads, SizeLaws, fit_loads, loads_or_large}
+use Rattle.sudoers_edit.specs.internal.RenameLaws.{SizeLaws}
+use Rattle.sudoers_edit.proofs.RenameSizes.{CanBeRenamed, IsLarge, Loads, fit_loads, loads_or_large}
 
 good : (fresh : List ℕ) → IsDefinableName fresh → (not (is_name fresh) || is_reserved fresh) ≡ false
 good fresh new = ap₂ (λ (a b : Bool). not a || b) new.0 new.1

@@ -12,7 +12,7 @@ use Rattle.sudoers_tree.specs.declared.load.NamedFile.{NamedFile}
 use Rattle.sudoers_edit.specs.Renamed.{renamed_lines, readings_from, renamed_reading}
 use Rattle.sudoers_edit.specs.Renaming.{renamed, renamed_from}
 use Rattle.sudoers_edit.proofs.RenamedTexts.{renamed_texts}
-use Rattle.sudoers_edit.proofs.RenameLaws.{LineLaws}
+use Rattle.sudoers_edit.specs.internal.RenameLaws.{LineLaws}
 
 -- a file, with the other name if it is on the walk
 abbrev if_on : Bool → Kind → List ℕ → List ℕ → FileReading → FileReading

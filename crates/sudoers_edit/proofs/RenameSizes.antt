@@ -1,5 +1,5 @@
 -- The files to which a rename leads are a policy, unless one is too large.
-use Rattle.std.proofs.Common.{◌≡◌, ◌∙◌, ◌⊎◌, inl, inr, ℕ, zero, suc, ◌+◌, ◌≤◌, Bool, true, false, List, [], ◌∷◌, ◌++◌, length, map, nat_lt, None, Result, Ok, Err, refl, sym, ap, subst, arith, if◌then◌else◌}
+use Rattle.std.proofs.Common.{◌≡◌, ◌∙◌, ◌⊎◌, inl, inr, ℕ, zero, suc, ◌+◌, ◌≤◌, Bool, true, false, List, [], ◌∷◌, ◌++◌, length, map, nat_lt, Result, Ok, Err, refl, sym, ap, subst, arith, if◌then◌else◌}
 use Rattle.std.proofs.lemmas.Bool.{ltb-false, or_parts as or_false}
 use Rattle.std.specs.List.{AllByRecursion, list_any}
 use Rattle.sudoers_text.specs.Cut.{StandAlone, cut_of}
@@ -7,7 +7,7 @@ use Rattle.sudoers_text.specs.Ended.{has_unended_inside}
 use Rattle.sudoers_text.specs.Fault.{line_limit, text_limit}
 use Rattle.sudoers_text.specs.Line.{join}
 use Rattle.sudoers_text.specs.Renamed.{IsDefinableName}
-use Rattle.sudoers_text.specs.Whole.{IsLogicalLine, is_logical_line}
+use Rattle.sudoers_text.specs.Whole.{IsLogicalLine}
 use Rattle.sudoers_text.specs.declared.fault.TextFault.{TextFault}
 use Rattle.sudoers_text.specs.declared.fault.TextFault.TheVariants as text
 use Rattle.sudoers_line.specs.declared.node.Kind.{Kind}
@@ -15,9 +15,9 @@ use Rattle.sudoers_line.specs.Renamed.{NamedAlias, renamed_text}
 use Rattle.sudoers_tree.specs.Files.{FileReading, lines_of, reading_of}
 use Rattle.sudoers_tree.specs.Line.{Line}
 use Rattle.sudoers_tree.specs.Load.{Loaded, cut_file, file_limit, file_of, files_of, first_repeated, load_of, loaded_over, readings}
-use Rattle.sudoers_tree.specs.Mapped.{AreMapped, CanBeLoaded, IsMappedWalk, Mapping, NamesStand, file_names, mapped_at}
+use Rattle.sudoers_tree.specs.Mapped.{AreMapped, CanBeLoaded, NamesStand, file_names, mapped_at}
 use Rattle.sudoers_tree.specs.Policy.{IsWalk, SaysSo, texts}
-use Rattle.sudoers_tree.specs.Walk.{Walked, is_on, walk_of}
+use Rattle.sudoers_tree.specs.Walk.{Walked, is_on}
 use Rattle.sudoers_tree.specs.Walk.{and_then as load_then}
 use Rattle.sudoers_tree.specs.declared.fault.ReadFault.TheVariants as read
 use Rattle.sudoers_tree.specs.declared.load.NamedFile.{NamedFile}
@@ -32,23 +32,10 @@ use Rattle.sudoers_edit.specs.Renaming.{renamed, renamed_files, renamed_from}
 use Rattle.sudoers_edit.proofs.RenamedPolicy.{says_renamed}
 use Rattle.sudoers_edit.proofs.RenamedTexts.{renamed_texts}
 use Rattle.sudoers_edit.proofs.RenameFiles.{keep_leads, mapped_in, mapped_walk, mapping}
-use Rattle.sudoers_edit.proofs.RenameLaws.{AreSound, Laws, sound_of}
+use Rattle.sudoers_edit.specs.internal.RenameLaws.{SizeLaws}
+use Rattle.sudoers_edit.proofs.SoundFiles.{AreSound, sound_of}
 use Rattle.sudoers_edit.proofs.RenameLines.{ended_renamed}
 use Rattle.sudoers_edit.proofs.RenameReadings.{faults_same, files_of_readings, lines_on, names_same, stay_off}
-
--- The laws of texts and their sizes, and that of loading files of which lines were changed.
-pub record SizeLaws : Type 0 where
-  pub base : Laws
-  pub told : (text : List ℕ) → IsLogicalLine text → is_logical_line text ≡ true
-  pub whole : (line : List ℕ) → is_logical_line line ≡ true → length line ≤ line_limit → cut_of line ≡ Ok (line ∷ [])
-  pub joined : (lines : List (List ℕ)) → StandAlone lines → has_unended_inside lines ≡ false → length (join lines) ≤ text_limit
-      → cut_of (join lines) ≡ Ok lines
-  pub parse : (files : List NamedFile) (policy : Loaded) → load_of files ≡ Ok policy → AllByRecursion (λ (file : FileReading). file.fault ≡ None) policy.files
-  pub loads : (g : Mapping) (policy : Loaded) (others : List FileReading) → load_of (files_of policy) ≡ Ok policy
-      → AreMapped g policy.files others policy.walk → CanBeLoaded policy.files others policy.walk
-      → NamesStand (mapped_at g policy.walk.spots policy.walk.lines)
-      → (other : Walked) × (load_of (map file_of others) ≡ Ok (record { files = others; walk = other })) × (walk_of others ≡ Ok other)
-      × IsMappedWalk g policy.walk other
 
 -- ONE FILE
 

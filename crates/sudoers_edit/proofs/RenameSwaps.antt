@@ -13,18 +13,11 @@ use Rattle.sudoers_tree.specs.Walk.{Walked, is_on}
 use Rattle.sudoers_tree.specs.declared.line_change.LineChange.{LineChange}
 use Rattle.sudoers_tree.specs.declared.line_change.LineChange.TheVariants.{Put, Swap, Take}
 use Rattle.sudoers_edit.specs.Renaming.{put_at, starts_in, renamed}
-use Rattle.sudoers_edit.specs.internal.FileLeading.{swap_in, swaps_of_file, swaps_from}
+use Rattle.sudoers_edit.specs.internal.ChangeLaws.{NoneLaw, FirstLaw}
+use Rattle.sudoers_edit.specs.internal.Leading.{swap_in, swaps_of_file, swaps_from}
 
 abbrev Lines : Type 0
 Lines = List (List ℕ)
-
-abbrev pub NoneLaw : Type 0
-NoneLaw = (n : ℕ) (lines : List (List ℕ)) → changed_from n [] lines ≡ lines
-
-abbrev pub FirstLaw : Type 0
-FirstLaw = (n : ℕ) (change : LineChange) (changes : List LineChange) (lines : List (List ℕ)) → AreInOrder n (change ∷ changes) (n + length lines)
-    → changed_from n (change ∷ changes) lines
-    ≡ take (place_of change - n) lines ++ (option_to_list (text_brought change) ++ changed_from (next_place change) changes (drop (next_place change - n) lines))
 
 -- THE CHANGES OF EACH FILE
 

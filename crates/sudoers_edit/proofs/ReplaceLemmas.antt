@@ -7,7 +7,7 @@ use Rattle.sudoers_tree.specs.Changed.{replaced}
 use Rattle.sudoers_tree.specs.Load.{Loaded}
 use Rattle.sudoers_edit.specs.declared.fault.EditFault.TheVariants.{OpenLine}
 use Rattle.sudoers_edit.specs.Editing.{step}
-use Rattle.sudoers_edit.specs.internal.FileSplicing.{ReplacesIn}
+use Rattle.sudoers_edit.specs.internal.Splicing.{ReplacesIn}
 use Rattle.sudoers_edit.specs.internal.LeadingInFile.{LandsIn, texts_of}
 use Rattle.sudoers_edit_script.specs.declared.edit.Edit.{Edit}
 

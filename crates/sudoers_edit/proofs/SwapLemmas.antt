@@ -13,8 +13,8 @@ use Rattle.sudoers_edit.specs.Splice.{def_extents, member_extents, seam, owned_s
 use Rattle.sudoers_edit.specs.SpliceEdits.{is_one_more, defs_of, add_def, cut_out, drop_def, put_in, with_changed}
 use Rattle.sudoers_edit.specs.declared.one_more.Among.{Among}
 use Rattle.sudoers_edit.specs.declared.one_more.Among.TheVariants as among
-use Rattle.sudoers_edit.specs.internal.FileSplicing.{AreKnown}
-use Rattle.sudoers_edit.specs.internal.Leading.{CutOut, PutIn}
+use Rattle.sudoers_edit.specs.internal.Splicing.{AreKnown}
+use Rattle.sudoers_edit.specs.internal.OneMore.{CutOut, PutIn}
 use Rattle.sudoers_edit.proofs.ExtentLemmas.{adds, drops}
 use Rattle.sudoers_edit.proofs.ReplacedLemmas.{line_put, one_said, put_here, restored, said_put, texts_put}
 use Rattle.sudoers_edit.proofs.SpliceLemmas.{seam_in, owned_in, with_without, without_with, size_slice}

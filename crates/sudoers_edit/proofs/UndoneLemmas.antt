@@ -8,7 +8,7 @@ use Rattle.sudoers_tree.specs.declared.line_change.LineChange.{LineChange}
 use Rattle.sudoers_tree.specs.declared.line_change.LineChange.TheVariants.{Put, Swap, Take}
 use Rattle.sudoers_edit.specs.Landing.{Lines}
 use Rattle.sudoers_edit.specs.internal.UndoneLines.{undone_from}
-use Rattle.sudoers_edit.proofs.RenameSwaps.{NoneLaw, FirstLaw}
+use Rattle.sudoers_edit.specs.internal.ChangeLaws.{NoneLaw, FirstLaw}
 
 -- LISTS
 

@@ -4,23 +4,23 @@ use Rattle.sudoers_edit_script.specs.declared.edit.Edit.{Edit}
 use Rattle.sudoers_edit_script.specs.declared.edit.Edit.TheVariants.{Insert, Delete, Move, AddMember, DropMember, AddDef, DropDef, Rename, EndLine, OpenEnd, Prune}
 
 -- how many bytes an edit carries: those of its line or its splice
-abbrev pub payload : Edit → ℕ
-payload (Insert file at text) = length text
-payload (Delete file at) = 0
-payload (Move file from to) = 0
-payload (AddMember kind name at splice) = length splice
-payload (DropMember kind name at) = 0
-payload (AddDef file line at splice) = length splice
-payload (DropDef file line at) = 0
-payload (Rename kind name fresh) = 0
-payload (EndLine file) = 0
-payload (OpenEnd file) = 0
-payload Prune = 0
+abbrev pub payload_size : Edit → ℕ
+payload_size (Insert file at text) = length text
+payload_size (Delete file at) = 0
+payload_size (Move file from to) = 0
+payload_size (AddMember kind name at splice) = length splice
+payload_size (DropMember kind name at) = 0
+payload_size (AddDef file line at splice) = length splice
+payload_size (DropDef file line at) = 0
+payload_size (Rename kind name fresh) = 0
+payload_size (EndLine file) = 0
+payload_size (OpenEnd file) = 0
+payload_size Prune = 0
 
 -- how many all of them carry
-abbrev pub payload_of : List Edit → ℕ
-payload_of [] = 0
-payload_of (edit ∷ edits) = payload edit + payload_of edits
+abbrev pub payloads_size : List Edit → ℕ
+payloads_size [] = 0
+payloads_size (edit ∷ edits) = payload_size edit + payloads_size edits
 
 -- The edit takes out lines, members or definitions.
 abbrev pub takes_out : Edit → Bool

@@ -1,11 +1,15 @@
 -- Devices of the proofs. No contract of an exported function cites them.
-pub mod FileDrafts
-pub mod FileLeading
-pub mod FilePruneOrder
-pub mod FileSplicing
-pub mod FileUndone
-pub mod LastLineInFile
+pub mod ChangeLaws
+pub mod Drafts
+pub mod EditLaws
+pub mod LastLine
 pub mod Leading
 pub mod LeadingInFile
-pub mod MadeInFiles
+pub mod Made
+pub mod OneMore
+pub mod PruneLaws
+pub mod PruneOrder
+pub mod RenameLaws
+pub mod Splicing
+pub mod Undone
 pub mod UndoneLines

@@ -18,7 +18,7 @@ pub struct Entry {
     pub inverse: Edits,
 }
 
-/// An edit of the journal, with the changes that take it back at once, if it is more than one edit that takes it back.
+/// An edit of the journal. A prune also has the changes that take it back at once.
 #[derive(Drop)]
 struct Step {
     entry: Entry,
@@ -53,7 +53,7 @@ impl Step {
 impl Model for Editor {
     ghost use Rattle.std.specs.Prelude.{reverse};
     ghost use Rattle.sudoers_edit.specs.Editing.{Desk, IsUndoable, IsRedoable};
-    ghost use Rattle.sudoers_edit.specs.internal.FileUndone.{AreBacks, entries_of};
+    ghost use Rattle.sudoers_edit.specs.internal.Undone.{AreBacks, entries_of};
 
     ghost Value = { Desk };
 
@@ -84,8 +84,8 @@ impl Editor {
         }
     }
 
-    /// The policy as it stands: the edits of the journal, made one after another, lead to it from the policy that the
-    /// editor began with.
+    /// Returns the policy as it stands. The edits of the journal, made one after another, lead to it from the policy with
+    /// which the editor began.
     pub fn policy(&self) -> &Policy
         ensures policy { result.now ≡ self.now.policy }
         ensures forth { run (edits_of self.now.journal) (first_of self.now) ≡ Some result.now }
@@ -94,7 +94,7 @@ impl Editor {
         &self.policy
     }
 
-    /// How many accepted edits stand.
+    /// Returns how many accepted edits stand.
     pub fn steps(&self) -> usize
         ensures { result ≡ length self.now.journal }
     {
@@ -108,7 +108,7 @@ impl Editor {
         self.undone.len()
     }
 
-    /// Makes `edit`. After that nothing can be made again.
+    /// Makes `edit`. Once it is accepted, no undone edit can be made again.
     ///
     /// # Errors
     ///
@@ -193,7 +193,7 @@ impl Editor {
         Ok(true)
     }
 
-    /// Makes the edits in order.
+    /// Makes the edits `edits` in their order, up to the first that is refused.
     ///
     /// # Errors
     ///
@@ -223,7 +223,7 @@ impl Editor {
         Ok(())
     }
 
-    /// The edits that take back all that stand, the newest first.
+    /// Returns the edits that take back all that stand, those for the newest first.
     ///
     /// # Errors
     ///
@@ -240,7 +240,7 @@ impl Editor {
     }
 }
 
-/// The inverses of the entries, the last entry's first.
+/// Returns the inverses of the steps `journal`, the last step's first.
 fn inverses_of(alloc: Global, journal: &[Step]) -> Result<Edits, AllocError>
     ensures { IfOk result (λ edits. edits ≡ flat_map (λ step. step.entry.inverse) (reverse journal.now)) }
 {

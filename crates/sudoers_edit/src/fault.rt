@@ -41,7 +41,7 @@ pub enum EditFault {
     /// `EndLine`: the last line already ends in LF. `OpenEnd`: it does not, or it is LF alone. Either: there is no line.
     #[error("EndAsIs")]
     EndAsIs,
-    /// The result would pass the limit of a policy, or a changed line that of a line.
+    /// A file of the result would pass the limit of a text, or a changed line that of a line.
     #[error("TooLarge")]
     TooLarge,
     /// The result would be no policy.

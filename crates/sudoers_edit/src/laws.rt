@@ -1,47 +1,46 @@
 //! Laws of edits. Each is the contract of a function that does nothing.
 
-ghost use Rattle.std.specs.Prelude.{◌≡◌, ◌+◌, length, true, false, List, ℕ, Ok, Err};
+ghost use Rattle.std.specs.Prelude.{◌≡◌, ◌+◌, ◌≤◌, ◌<◌, length, remove, slice_get, true, false, List, ℕ, None, Some, Ok, Err};
 ghost use Rattle.sudoers_text.specs.Renamed.{IsDefinableName};
+ghost use Rattle.sudoers_line.specs.Node.{Def as ADef};
+ghost use Rattle.sudoers_line.specs.Node as node_of;
 ghost use Rattle.sudoers_line.specs.declared.node.Kind.{Kind as AKind};
 ghost use Rattle.sudoers_tree.specs.Definition.{place_of};
 ghost use Rattle.sudoers_tree.specs.Fault.{is_some};
+ghost use Rattle.sudoers_tree.specs.Files.{lines_of};
+ghost use Rattle.sudoers_tree.specs.Lead.{lead_of};
+ghost use Rattle.sudoers_tree.specs.Line.{Line as LineOf};
 ghost use Rattle.sudoers_tree.specs.Load.{Loaded, files_of, load_of};
+ghost use Rattle.sudoers_tree.specs.Policy.{texts};
+ghost use Rattle.sudoers_tree.specs.Walk.{is_on};
 ghost use Rattle.sudoers_edit.specs.Named.{AreNamed, spelling_or_fault};
-ghost use Rattle.sudoers_edit.specs.Payload.{payload_of, takes_out};
+ghost use Rattle.sudoers_edit.specs.Payload.{payloads_size, takes_out};
+ghost use Rattle.sudoers_edit.specs.Pruned.{AreLeftOf};
 ghost use Rattle.sudoers_edit.specs.Renaming.{is_taken, renamed_files};
 ghost use Rattle.sudoers_edit.specs.declared.fault.EditFault.{EditFault as AFault};
 ghost use Rattle.sudoers_edit.specs.Editing.{Desk, step as step_of, inv, run_all, inv_run, prune_list, without_place};
 ghost use Rattle.sudoers_edit.specs.Redoing.{MakesAgain};
 ghost use Rattle.sudoers_edit.specs.Renamed.{FilesAreWithin, IsRenamed};
 ghost use Rattle.sudoers_edit.specs.Undoing.{TakesLast};
-ghost use Rattle.sudoers_edit.specs.WayBack.{IsTakenBack, bytes_in};
+ghost use Rattle.sudoers_edit.specs.WayBack.{IsTakenBack, bytes_in, names_in};
 ghost use Rattle.sudoers_edit_script.specs.Script.{writing};
 ghost use Rattle.sudoers_edit_script.specs.ScriptReading.{reading};
 ghost use Rattle.sudoers_edit_script.specs.declared.edit.Edit.{Edit as AnEdit};
 
 use crate::fault::EditFault;
-use crate::line_edits::ends_stay_cut;
-pub use crate::name_laws::edits_keep_names;
-pub use crate::prune_laws::{
-    drop_is_refused_for_a_splice_alone, policy_without_line_is_one,
-    prune_is_refused_for_a_splice_alone, prune_leaves_the_used,
+use crate::laws_below::{
+    line_edits_rest_on_laws, member_edits_rest_on_laws, prunes_rest_on_laws, renames_rest_on_laws,
 };
-use crate::splice_edits::lines_are_known;
+use crate::line_edits::ends_stay_cut;
 use sudoers_edit_script::Edit;
 use sudoers_edit_script::laws::read_is_spelling;
-use sudoers_line::laws::{names_stand, renamed_line};
-use sudoers_text::laws::{
-    cut_is, line_alone_is_whole, line_alone_size, lines_of_join, lines_stand_alone, one_list,
-    whole_line_is, whole_lines_of_join,
-};
+use sudoers_text::laws::{cut_is, one_list, whole_lines_of_join};
 use sudoers_tree::laws::{
-    changed_by_first, changed_files_have_lines, changed_walk_is_mapped, loaded_files_are,
-    loaded_files_are_cut, loaded_is_walk, loaded_lines_are_said, loaded_lines_stand,
-    loaded_walk_is, mapped_files_load, texts_tell_lines, walk_is,
+    loaded_files_are, loaded_is_walk, loaded_walk_is, texts_tell_lines, walk_is_mapped,
 };
 
-/// Edits that were read from a script are named; so is what takes named edits back; and named edits have a text, unless they
-/// are too many.
+/// The names in edits that were read from a script have a spelling. So do the names in what takes such edits back. Edits whose names
+/// have a spelling have a script, unless they are too many.
 pub fn named_are_written()
     ensures read { (text : List ℕ) (edits : List AnEdit) → reading text ≡ Ok edits → AreNamed edits }
     ensures back { (edits : List AnEdit) (policy : Loaded) → AreNamed edits → AreNamed (inv_run edits policy) }
@@ -57,19 +56,12 @@ pub fn inverse_leads_back()
         → IsTakenBack edits policy new }
     ensures count { (edits : List AnEdit) (policy other : Loaded) → length (inv_run (inv_run edits policy) other) ≡ length (inv_run edits policy) }
 {
-    loaded_files_are();
-    loaded_files_are_cut();
-    changed_files_have_lines();
-    lines_stand_alone();
-    line_alone_is_whole();
-    whole_line_is();
+    line_edits_rest_on_laws();
+    member_edits_rest_on_laws();
     cut_is();
     one_list();
     whole_lines_of_join();
     ends_stay_cut();
-    lines_are_known();
-    loaded_walk_is();
-    loaded_lines_stand();
     loaded_is_walk();
     rename_is_taken_back();
 }
@@ -78,11 +70,18 @@ pub fn inverse_leads_back()
 /// and none otherwise. The payload of the undo script shows how much is missing.
 pub fn inverse_carries_what_was_taken_out()
     ensures taken { (edit : AnEdit) (policy new : Loaded) → takes_out edit ≡ true → load_of (files_of policy) ≡ Ok policy
-        → step_of edit policy ≡ Ok new → bytes_in (files_of new) + payload_of (inv edit policy) ≡ bytes_in (files_of policy) }
-    ensures none { (edit : AnEdit) (policy : Loaded) → takes_out edit ≡ false → payload_of (inv edit policy) ≡ 0 }
+        → step_of edit policy ≡ Ok new → bytes_in (files_of new) + payloads_size (inv edit policy) ≡ bytes_in (files_of policy) }
+    ensures none { (edit : AnEdit) (policy : Loaded) → takes_out edit ≡ false → payloads_size (inv edit policy) ≡ 0 }
 {
     loaded_files_are();
     inverse_leads_back();
+}
+
+/// Edits that are accepted keep the names of the files, and their order.
+pub fn edits_keep_names()
+    ensures { (edits : List AnEdit) (policy new : Loaded) → run_all 0 edits policy ≡ Ok new → names_in (files_of new) ≡ names_in (files_of policy) }
+{
+    loaded_files_are();
 }
 
 /// A law: Prune is the edits of its list, made one after another: it is refused as the first of them that is, and its inverse is
@@ -91,6 +90,48 @@ pub fn prune_is_its_list()
     ensures step { (policy : Loaded) → step_of Edit.Prune policy ≡ without_place (run_all 0 (prune_list policy) policy) }
     ensures inverse { (policy : Loaded) → inv Edit.Prune policy ≡ inv_run (prune_list policy) policy }
 {}
+
+/// A policy without a line that leads nowhere, of a file on the walk, is a policy: what is left of it.
+pub fn policy_without_line_is_one()
+    ensures { (policy : Loaded) (f n : ℕ) (line : LineOf) → load_of (files_of policy) ≡ Ok policy → is_on policy.walk f ≡ true
+        → slice_get (lines_of policy.files f) n ≡ Some line → ((name : List ℕ) → lead_of name line.node ≡ None)
+        → (next : Loaded) × (step_of (Edit.Delete f n) policy ≡ Ok next)
+        × (texts (lines_of next.files f) ≡ remove (texts (lines_of policy.files f)) n) }
+{
+    prunes_rest_on_laws();
+}
+
+/// A drop of a definition that stands in its line with others, of a file on the walk, is refused for a splice alone. The line would not
+/// read as before but for that definition, or this would not own exactly the bytes that go with it.
+pub fn drop_is_refused_for_a_splice_alone()
+    ensures { (policy : Loaded) (line : LineOf) (kind : AKind) (defs : List ADef) (f n at : ℕ) (fault : AFault)
+        → load_of (files_of policy) ≡ Ok policy → is_on policy.walk f ≡ true → slice_get (lines_of policy.files f) n ≡ Some line
+        → line.node ≡ node_of.Alias kind defs → at < length defs → 2 ≤ length defs
+        → step_of (Edit.DropDef f n at) policy ≡ Err fault → fault ≡ EditFault.BadSplice }
+{
+    prunes_rest_on_laws();
+}
+
+/// A prune is refused for a splice alone: a line would not read as before but for a definition that goes, or this would not own exactly the
+/// bytes that go with it.
+pub fn prune_is_refused_for_a_splice_alone()
+    ensures { (policy : Loaded) (fault : AFault) → load_of (files_of policy) ≡ Ok policy → step_of Edit.Prune policy ≡ Err fault → fault ≡ EditFault.BadSplice }
+{
+    prunes_rest_on_laws();
+    loaded_walk_is();
+    texts_tell_lines();
+}
+
+/// A prune leaves of each line of the walk the definitions that are not unused, in their order, and each other line as it was.
+pub fn prune_leaves_the_used()
+    ensures { (policy new : Loaded) → load_of (files_of policy) ≡ Ok policy → step_of Edit.Prune policy ≡ Ok new
+        → AreLeftOf policy.walk.lines 0 policy.walk.lines new.walk.lines }
+{
+    prunes_rest_on_laws();
+    loaded_walk_is();
+    texts_tell_lines();
+    walk_is_mapped();
+}
 
 /// A law: an edit that is taken back and then made again leaves the policy, the journal and the undone edits as they were.
 pub fn redo_takes_undo_back()
@@ -105,25 +146,7 @@ pub fn renamed_policy_is_one()
         → FilesAreWithin kind name fresh policy
         → (new : Loaded) × (load_of (renamed_files kind name fresh policy) ≡ Ok new) × IsRenamed kind name fresh policy new }
 {
-    loaded_is_walk();
-    loaded_lines_stand();
-    loaded_files_are();
-    loaded_files_are_cut();
-    loaded_lines_are_said();
-    loaded_walk_is();
-    walk_is();
-    texts_tell_lines();
-    changed_files_have_lines();
-    changed_walk_is_mapped();
-    mapped_files_load();
-    changed_by_first();
-    lines_of_join();
-    lines_stand_alone();
-    line_alone_size();
-    line_alone_is_whole();
-    whole_line_is();
-    names_stand();
-    renamed_line();
+    renames_rest_on_laws();
 }
 
 /// A rename of a defined alias is refused for its size alone: a line of the walk or a file on it would be too long. The new name may
@@ -133,25 +156,7 @@ pub fn rename_is_refused_for_its_size_alone()
         → is_some (place_of kind name policy.walk.lines) ≡ true → IsDefinableName fresh → is_taken kind fresh policy.walk.lines ≡ false
         → step_of (Edit.Rename kind name fresh) policy ≡ Err fault → fault ≡ EditFault.TooLarge }
 {
-    loaded_is_walk();
-    loaded_lines_stand();
-    loaded_files_are();
-    loaded_files_are_cut();
-    loaded_lines_are_said();
-    loaded_walk_is();
-    walk_is();
-    texts_tell_lines();
-    changed_files_have_lines();
-    changed_walk_is_mapped();
-    mapped_files_load();
-    changed_by_first();
-    lines_of_join();
-    lines_stand_alone();
-    line_alone_size();
-    line_alone_is_whole();
-    whole_line_is();
-    names_stand();
-    renamed_line();
+    renames_rest_on_laws();
 }
 
 /// Within the limits such a rename leads to the policy with the new name, and any rename that is made does. One rename takes it back:
@@ -166,23 +171,5 @@ pub fn rename_is_taken_back()
     ensures back { (kind : AKind) (name fresh : List ℕ) (policy new : Loaded) → load_of (files_of policy) ≡ Ok policy
         → step_of (Edit.Rename kind name fresh) policy ≡ Ok new → step_of (Edit.Rename kind fresh name) new ≡ Ok policy }
 {
-    loaded_is_walk();
-    loaded_lines_stand();
-    loaded_files_are();
-    loaded_files_are_cut();
-    loaded_lines_are_said();
-    loaded_walk_is();
-    walk_is();
-    texts_tell_lines();
-    changed_files_have_lines();
-    changed_walk_is_mapped();
-    mapped_files_load();
-    changed_by_first();
-    lines_of_join();
-    lines_stand_alone();
-    line_alone_size();
-    line_alone_is_whole();
-    whole_line_is();
-    names_stand();
-    renamed_line();
+    renames_rest_on_laws();
 }

@@ -5,11 +5,12 @@ ghost use Rattle.sudoers_text.specs.Ended.{has_unended_inside};
 ghost use Rattle.sudoers_text.specs.Whole.{IsLogicalLine};
 ghost use Rattle.sudoers_edit.specs.OneLine.{is_one_line, IsAlone};
 ghost use Rattle.sudoers_edit.specs.LineEdits.{moved};
-ghost use Rattle.sudoers_edit.specs.internal.FileLeading.{Plans};
-ghost use Rattle.sudoers_edit.specs.internal.LastLineInFile.{EndsStayCut};
+ghost use Rattle.sudoers_edit.specs.internal.Leading.{Plans};
+ghost use Rattle.sudoers_edit.specs.internal.LastLine.{EndsStayCut};
 ghost use Rattle.sudoers_edit.specs.internal.LeadingInFile.{move_changes as the_move_changes, texts_of};
 
 use crate::fault::EditFault;
+use crate::laws_below::line_edits_rest_on_laws;
 use crate::plan::{Plan, file_is_sound, one_file_leads, put, refusal, swap, take};
 use std::alloc::{AllocError, Global};
 use sudoers_edit_script::{Edit, Edits, Text};
@@ -18,12 +19,10 @@ use sudoers_text::laws::{
     lines_stand_alone, whole_line_is,
 };
 use sudoers_text::{LINE_LIMIT, TextFault, cut, ends_in_lf};
-use sudoers_tree::laws::{
-    changed_by_first, changed_files_have_lines, loaded_files_are, loaded_files_are_cut,
-};
+use sudoers_tree::laws::changed_by_first;
 use sudoers_tree::{LineChange, Policy};
 
-/// Plans a line put in.
+/// Plans that the line `text` is put before the line `at` of the file `file`, or behind its last line.
 pub fn line_inserted(policy: &Policy, file: u32, at: u32, text: &[u8]) -> Result<Plan, EditFault>
     ensures { Plans (Edit.Insert file at text.now) policy.now result }
 {
@@ -47,7 +46,7 @@ pub fn line_inserted(policy: &Policy, file: u32, at: u32, text: &[u8]) -> Result
     Ok(put(alloc, number, place, text, inverse)?)
 }
 
-/// Plans a line taken out.
+/// Plans that the line `at` of the file `file` is taken out.
 pub fn line_deleted(policy: &Policy, file: u32, at: u32) -> Result<Plan, EditFault>
     ensures { Plans (Edit.Delete file at) policy.now result }
 {
@@ -66,7 +65,7 @@ pub fn line_deleted(policy: &Policy, file: u32, at: u32) -> Result<Plan, EditFau
     Ok(take(alloc, number, place, inverse)?)
 }
 
-/// Plans a line that stands elsewhere.
+/// Plans that the line `from` of the file `file` is taken out and put where it stands at `to`.
 pub fn line_moved(policy: &Policy, file: u32, from: u32, to: u32) -> Result<Plan, EditFault>
     ensures { Plans (Edit.Move file from to) policy.now result }
 {
@@ -125,7 +124,7 @@ fn move_changes(
     Ok(changes)
 }
 
-/// Plans LF behind the last line of a file.
+/// Plans that LF is put behind the last line of the file `file`.
 pub fn end_closed(policy: &Policy, file: u32) -> Result<Plan, EditFault>
     ensures { Plans (Edit.EndLine file) policy.now result }
 {
@@ -158,7 +157,7 @@ pub fn end_closed(policy: &Policy, file: u32) -> Result<Plan, EditFault>
     Ok(swap(alloc, number, at, Text::from_vec(text), inverse)?)
 }
 
-/// Plans that the last line of a file lacks the LF at its end.
+/// Plans that the LF at the end of the last line of the file `file` is taken away.
 pub fn end_opened(policy: &Policy, file: u32) -> Result<Plan, EditFault>
     ensures { Plans (Edit.OpenEnd file) policy.now result }
 {
@@ -248,12 +247,7 @@ fn last_place(policy: &Policy, file: usize) -> usize
 pub fn ends_stay_cut()
     ensures { EndsStayCut }
 {
-    loaded_files_are();
-    loaded_files_are_cut();
-    lines_stand_alone();
-    line_alone_is_whole();
-    whole_line_is();
-    changed_files_have_lines();
+    line_edits_rest_on_laws();
     line_alone_size();
     lf_behind_last_line();
     lf_from_last_line();

@@ -1,7 +1,7 @@
 //! Edits made in place.
 ghost use Rattle.std.specs.Prelude.{◌≡◌, OnErr};
-ghost use Rattle.sudoers_edit.specs.internal.FileLeading.{Plans};
-ghost use Rattle.sudoers_edit.specs.internal.FileUndone.{MakesWithBack};
+ghost use Rattle.sudoers_edit.specs.internal.Leading.{Plans};
+ghost use Rattle.sudoers_edit.specs.internal.Undone.{MakesWithBack};
 
 use crate::fault::EditFault;
 use crate::line_edits::{end_closed, end_opened, line_deleted, line_inserted, line_moved};

@@ -10,7 +10,7 @@ use sudoers_tree::{
     AliasMember, Def, DefRow, Kind, MemberRow, Node, Rows, alias_members, is_kind, list_aliases,
 };
 
-/// Returns at which bytes of a line that says this the name stands as an alias of this kind.
+/// Returns the offsets at which `name` stands as the name of an alias of the kind `kind` in a line that says `node`.
 pub fn name_starts(
     alloc: Global,
     kind: Kind,

@@ -129,7 +129,7 @@ fn members_of<'a>(defs: &Rows<'a, DefRow>, at: usize) -> Rows<'a, MemberRow>
     }
 }
 
-/// Returns so many of the first rows.
+/// Returns the first `count` rows of `items`.
 fn front<'a, T>(items: &Rows<'a, T>, count: usize) -> Rows<'a, T>
     requires { count ≤ length items.now.rows.now }
     ensures rows { result.rows.now ≡ take count items.now.rows.now }
@@ -142,7 +142,7 @@ fn front<'a, T>(items: &Rows<'a, T>, count: usize) -> Rows<'a, T>
     }
 }
 
-/// Returns the rows behind so many.
+/// Returns the rows of `items` behind the first `count`.
 fn behind<'a, T>(items: &Rows<'a, T>, count: usize) -> Rows<'a, T>
     requires { count ≤ length items.now.rows.now }
     ensures rows { result.rows.now ≡ drop count items.now.rows.now }

@@ -1,24 +1,22 @@
 //! Plans of edits of the files of a policy: what changes of their lines an edit is, and the edits that take it back.
 ghost use Rattle.std.specs.Prelude.{◌≡◌, ◌≤◌, ◌<◌, ◌∷◌, [], List, ℕ, length, insert, remove, Ok, IfOk, OnOk, OnErr, MatchResult};
 ghost use Rattle.sudoers_text.specs.Whole.{IsLogicalLine};
-ghost use Rattle.sudoers_tree.specs.Changed.{changed, replaced};
+ghost use Rattle.sudoers_tree.specs.Changed.{changed, file_of, replaced};
 ghost use Rattle.sudoers_tree.specs.ChangedFiles.{CanBeMade, files_changed};
 ghost use Rattle.sudoers_tree.specs.Load.{Loaded, files_of, load_of};
 ghost use Rattle.sudoers_tree.specs.declared.line_change.LineChange.{LineChange as LineChangeOf};
 ghost use Rattle.sudoers_edit_script.specs.declared.edit.Edit.{Edit as AnEdit};
 ghost use Rattle.sudoers_edit.specs.Editing.{Refuses};
 ghost use Rattle.sudoers_edit.specs.Landing.{policy_or_refusal, with_bytes as the_files_with};
-ghost use Rattle.sudoers_edit.specs.internal.FileLeading.{Leads};
+ghost use Rattle.sudoers_edit.specs.internal.Leading.{Leads};
 ghost use Rattle.sudoers_edit.specs.internal.LeadingInFile.{AreFileLines, FitIn, LandsIn, texts_of};
-ghost use Rattle.sudoers_edit.specs.internal.MadeInFiles.{Makes};
+ghost use Rattle.sudoers_edit.specs.internal.Made.{Makes};
 
 use crate::fault::EditFault;
+use crate::laws_below::line_edits_rest_on_laws;
 use std::alloc::{AllocError, Global};
 use sudoers_edit_script::{Edits, Text};
-use sudoers_text::laws::{line_alone_is_whole, lines_stand_alone, whole_line_is};
-use sudoers_tree::laws::{
-    changed_files_have_lines, loaded_files_are, loaded_files_are_cut, one_change,
-};
+use sudoers_tree::laws::one_change;
 use sudoers_tree::{LineChange, NamedFile, Policy};
 
 /// What an edit changes, and the edits that take it back.
@@ -93,7 +91,7 @@ pub fn carry_out(plan: Plan, policy: &mut Policy) -> Result<Edits, EditFault>
     }
 }
 
-/// Returns the files of a policy with other bytes of one.
+/// Returns the files of `policy`, with the bytes `bytes` in the file `file`.
 fn with_bytes(policy: &Policy, file: usize, bytes: Vec<u8>) -> Result<Vec<NamedFile>, AllocError>
     ensures { IfOk result (λ files. files.items ≡ the_files_with file bytes.items (files_of policy.now)) }
 {
@@ -104,7 +102,7 @@ fn with_bytes(policy: &Policy, file: usize, bytes: Vec<u8>) -> Result<Vec<NamedF
     Ok(files)
 }
 
-/// Returns the policy that the files of a policy are with other bytes of one.
+/// Returns the policy of the files of `policy`, with the bytes `bytes` in the file `file`.
 fn load_with(policy: &Policy, file: usize, bytes: Vec<u8>) -> Result<Policy, EditFault>
     ensures { MatchResult result (λ new. policy_or_refusal (the_files_with file bytes.items (files_of policy.now)) ≡ Ok new)
         (λ fault. Refuses fault (policy_or_refusal (the_files_with file bytes.items (files_of policy.now)))) }
@@ -113,7 +111,7 @@ fn load_with(policy: &Policy, file: usize, bytes: Vec<u8>) -> Result<Policy, Edi
     Ok(Policy::load(policy.allocator(), files.as_slice())?)
 }
 
-/// Returns why the files of a policy are none with other bytes of one.
+/// Returns why the files of `policy`, with the bytes `bytes` in the file `file`, are no policy.
 pub fn refusal(policy: &Policy, file: usize, bytes: Vec<u8>) -> EditFault
     requires { (new : Loaded) → policy_or_refusal (the_files_with file bytes.items (files_of policy.now)) ≡ Ok new → ⊥ }
     ensures { Refuses result (policy_or_refusal (the_files_with file bytes.items (files_of policy.now))) }
@@ -129,12 +127,7 @@ pub fn file_is_sound(policy: &Policy)
     ensures { (file : ℕ) → AreFileLines (texts_of policy.now file) }
 {
     policy.is_loaded();
-    loaded_files_are();
-    loaded_files_are_cut();
-    lines_stand_alone();
-    line_alone_is_whole();
-    whole_line_is();
-    changed_files_have_lines();
+    line_edits_rest_on_laws();
 }
 
 /// A law: changes of one file of a policy make the files to which the edit leads, and one edit leads back.
@@ -143,10 +136,16 @@ pub fn one_file_leads()
         → load_of (files_of policy) ≡ Ok policy → FitIn file changes (texts_of policy file)
         → LandsIn edit back inverse policy file (changed changes (texts_of policy file)) → Leads edit inverse policy changes }
 {
-    loaded_files_are();
-    loaded_files_are_cut();
-    lines_stand_alone();
-    line_alone_is_whole();
-    whole_line_is();
-    changed_files_have_lines();
+    line_edits_rest_on_laws();
+}
+
+/// Returns the number of the file of which `change` changes a line.
+pub fn file_of(change: &LineChange) -> usize
+    ensures { result ≡ file_of change.now }
+{
+    match change {
+        LineChange::Put { file, .. }
+        | LineChange::Swap { file, .. }
+        | LineChange::Take { file, .. } => *file,
+    }
 }

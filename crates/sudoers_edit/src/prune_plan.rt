@@ -2,7 +2,6 @@
 ghost use Rattle.std.specs.Prelude.{◌≡◌, ◌≤◌, [], ◌∷◌, true, Bool, List, ℕ, length, reverse, slice_get, None, Ok, Some, IfOk, OnOk, MatchResult};
 ghost use Rattle.std.specs.Option.{option_copied, option_or};
 ghost use Rattle.sudoers_line_rows.specs.View.{node_shown};
-ghost use Rattle.sudoers_tree.specs.Changed.{file_of as the_file};
 ghost use Rattle.sudoers_tree.specs.declared.line_change.LineChange.{LineChange as LineChangeOf};
 ghost use Rattle.sudoers_tree.specs.declared.line_change.LineChange.TheVariants.{Swap};
 ghost use Rattle.sudoers_tree.specs.Files.{lines_of};
@@ -17,25 +16,22 @@ ghost use Rattle.sudoers_edit.specs.Editing.{Refuses};
 ghost use Rattle.sudoers_edit.specs.declared.pruning.Removal.{Removal as ARemoval};
 ghost use Rattle.sudoers_edit.specs.Pruning.{removals as the_removals};
 ghost use Rattle.sudoers_edit.specs.SpliceEdits.{cut_out as with_less, with_changed};
-ghost use Rattle.sudoers_edit.specs.internal.FileDrafts.{AreByFiles, CutDef, CutsDef, DefGoes, IsDraft, IsPruned, IsReady, LineGoes, MayGo, TakesOut, replaced_by, unless_replaced};
-ghost use Rattle.sudoers_edit.specs.internal.FileLeading.{Leads, Plans};
-ghost use Rattle.sudoers_edit.specs.internal.Leading.{CutOut};
+ghost use Rattle.sudoers_edit.specs.internal.Drafts.{AreByFiles, CutDef, CutsDef, DefGoes, IsDraft, IsPruned, IsReady, LineGoes, MayGo, TakesOut, replaced_by, unless_replaced};
+ghost use Rattle.sudoers_edit.specs.internal.Leading.{Leads, Plans};
+ghost use Rattle.sudoers_edit.specs.internal.OneMore.{CutOut};
 
 use crate::fault::EditFault;
+use crate::laws_below::prunes_rest_on_laws;
 use crate::one_more::{Among, OneMore};
-use crate::plan::Plan;
+use crate::plan::{Plan, file_of};
 use crate::pruning::{Removal, removals};
 use crate::splice::{line_without, place_to_drop};
 use std::alloc::{AllocError, Global};
 use sudoers_edit_script::{Edit, Edits, Text};
-use sudoers_line::laws::{definitions_ascend, no_fault};
-use sudoers_line_reader::laws::{one_reading, outcome_is};
-use sudoers_text::laws::{
-    line_alone_is_whole, line_alone_size, lines_of_join, lines_stand_alone, whole_line_is,
-};
+use sudoers_line::laws::definitions_ascend;
+use sudoers_text::laws::lines_stand_alone;
 use sudoers_tree::laws::{
-    changed_by_first, loaded_files_are, loaded_files_are_cut, loaded_is_walk,
-    loaded_lines_are_said, loaded_lines_stand, loaded_walk_is, mapped_files_load,
+    changed_by_first, loaded_files_are_cut, loaded_lines_stand, loaded_walk_is,
 };
 use sudoers_tree::{LineChange, Node, Policy, read_line};
 
@@ -83,18 +79,8 @@ fn sort_by_files(changes: &mut Vec<LineChange>) -> Result<(), AllocError>
     Ok(())
 }
 
-/// Returns the number of the file whose line a change changes.
-fn file_of(change: &LineChange) -> usize
-    ensures { result ≡ the_file change.now }
-{
-    match change {
-        LineChange::Put { file, .. }
-        | LineChange::Swap { file, .. }
-        | LineChange::Take { file, .. } => *file,
-    }
-}
-
-/// Takes one of them out of the files that the changes make so far, the last line's change first. Returns the edit that puts it in again.
+/// Adds to `changes` what takes `removal` out of the files that they make so far. They have the change of the last line first. Returns
+/// the edit that puts it in again.
 fn taken_out(
     policy: &Policy,
     changes: &mut Vec<LineChange>,
@@ -244,24 +230,10 @@ fn drafts_stand()
     ensures said { (policy : Loaded) (f n : ℕ) (line : LineOf) → load_of (files_of policy) ≡ Ok policy
         → slice_get (lines_of policy.files f) n ≡ Some line → said line.text ≡ Some line.node }
 {
-    mapped_files_load();
-    loaded_is_walk();
-    loaded_lines_stand();
-    loaded_files_are();
-    loaded_files_are_cut();
-    loaded_lines_are_said();
-    lines_of_join();
-    lines_stand_alone();
-    line_alone_size();
-    line_alone_is_whole();
-    whole_line_is();
-    outcome_is();
-    one_reading();
-    no_fault();
-    definitions_ascend();
+    prunes_rest_on_laws();
 }
 
-/// Returns a line without the definition at a place, and the bytes that go with it.
+/// Returns the line `text` without the definition at the place `at`, and the bytes that go with that definition.
 fn def_cut(alloc: Global, text: &[u8], at: u32) -> Result<(Text, Text), EditFault>
     ensures { (n : ℕ) (lines : List LineOf) (line : LineOf) → said line.text ≡ Some line.node → slice_get lines n ≡ Some line → line.text ≡ text.now
         → CutsDef n at lines line result }
@@ -286,7 +258,7 @@ fn def_cut(alloc: Global, text: &[u8], at: u32) -> Result<(Text, Text), EditFaul
     Ok((Text::from_vec(less), splice))
 }
 
-/// Returns a line, which says this, without the definition that stands at a place and has these bytes.
+/// Returns the line `old`, which says `says`, without the definition at the place `at`, which owns the bytes from `from` up to `to`.
 fn without_def(
     alloc: Global,
     at: usize,

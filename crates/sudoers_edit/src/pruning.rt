@@ -8,7 +8,7 @@ ghost use Rattle.sudoers_tree.specs.Definition.{Definition, definitions, definit
 ghost use Rattle.sudoers_tree.specs.Policy.{alias_limit};
 ghost use Rattle.sudoers_tree.specs.Walk.{spot_at as the_spot};
 ghost use Rattle.sudoers_edit.specs.Pruning.{removals as the_removals};
-ghost use Rattle.sudoers_edit.specs.internal.FilePruneOrder.{front_count, removals_at};
+ghost use Rattle.sudoers_edit.specs.internal.PruneOrder.{front_count, removals_at};
 
 use std::alloc::{AllocError, Global};
 use sudoers_check::find_unused;
@@ -119,7 +119,7 @@ fn append_removals(
     Ok(())
 }
 
-/// A law: where a line of the walk stands, and which definition of its line each is, fits the numbers of edits.
+/// A law: the numbers of the files and lines of the walk, and of definitions in their lines, fit into the numbers of edits.
 fn places_fit(policy: &Policy)
     ensures files { (n : ℕ) → (the_spot policy.now.walk n).file < 2 ^ 32 }
     ensures lines { (n : ℕ) → (the_spot policy.now.walk n).line < 2 ^ 32 }

@@ -13,24 +13,19 @@ ghost use Rattle.sudoers_tree.specs.Walk.{is_on};
 ghost use Rattle.sudoers_tree.specs.declared.line_change.LineChange.{LineChange as LineChangeOf};
 ghost use Rattle.sudoers_edit.specs.Landing.{is_too_long};
 ghost use Rattle.sudoers_edit.specs.Renaming.{put_at, renamed, starts_in, is_taken as taken};
-ghost use Rattle.sudoers_edit.specs.internal.FileLeading.{Leads, Plans, swap_in, swaps_of_file, swaps_from};
+ghost use Rattle.sudoers_edit.specs.internal.Leading.{Leads, Plans, swap_in, swaps_of_file, swaps_from};
 
 use crate::fault::EditFault;
+use crate::laws_below::renames_rest_on_laws;
 use crate::name_places::name_starts;
 use crate::plan::Plan;
 use std::alloc::{AllocError, Global};
 use sudoers_edit_script::{Edit, Edits, Text};
-use sudoers_line::laws::{names_stand, renamed_line};
-use sudoers_text::laws::{line_alone_is_whole, line_alone_size, lines_stand_alone, whole_line_is};
 use sudoers_text::{LINE_LIMIT, is_name, is_reserved};
-use sudoers_tree::laws::{
-    changed_by_first, changed_files_have_lines, changed_walk_is_mapped, loaded_files_are_cut,
-    loaded_is_walk, loaded_lines_are_said, loaded_lines_stand, loaded_walk_is, members_are_listed,
-    texts_tell_lines, walk_is,
-};
+use sudoers_tree::laws::members_are_listed;
 use sudoers_tree::{Kind, Line, LineChange, NameBits, Policy, Walk};
 
-/// Plans another name for an alias.
+/// Plans that the alias `name` of the kind `kind` gets the name `fresh`.
 pub fn alias_renamed(
     policy: &Policy,
     kind: Kind,
@@ -84,22 +79,7 @@ fn renames_lead()
         → list_any is_too_long (brought (swaps_from 0 kind name fresh policy.walk policy.files))
         ≡ list_any is_too_long (renamed kind name fresh policy.walk.lines) }
 {
-    loaded_is_walk();
-    loaded_lines_stand();
-    loaded_files_are_cut();
-    loaded_lines_are_said();
-    loaded_walk_is();
-    walk_is();
-    texts_tell_lines();
-    changed_files_have_lines();
-    changed_walk_is_mapped();
-    changed_by_first();
-    lines_stand_alone();
-    line_alone_size();
-    line_alone_is_whole();
-    whole_line_is();
-    names_stand();
-    renamed_line();
+    renames_rest_on_laws();
 }
 
 /// Returns whether the name is defined or mentioned in the kind.
@@ -208,7 +188,7 @@ fn swap_of(
     }))
 }
 
-/// Returns the line with other bytes where at these places so many stand.
+/// Returns the line `line` with the bytes `others` in place of the `size` bytes at each offset of `starts`.
 fn with_others(
     alloc: Global,
     line: &[u8],
@@ -229,7 +209,7 @@ fn with_others(
     Ok(text)
 }
 
-/// Returns so many of the first bytes, or all.
+/// Returns the first `size` bytes of `bytes`, or all if there are fewer.
 fn front(bytes: &[u8], size: usize) -> &[u8]
     ensures { result.now ≡ take size bytes.now }
 {
@@ -237,7 +217,7 @@ fn front(bytes: &[u8], size: usize) -> &[u8]
     front
 }
 
-/// Returns what stands behind so many bytes.
+/// Returns the bytes of `bytes` behind the first `size`.
 fn behind(bytes: &[u8], size: usize) -> &[u8]
     ensures { result.now ≡ drop size bytes.now }
 {

@@ -51,7 +51,8 @@ impl Placed for DefRow {
     }
 }
 
-/// Returns where the bytes begin that the one at a place owns: at the end of the one before it; of the first, at its start.
+/// Returns the offset from which the item at the place `at` of `items` owns bytes: the end of the item before it. For the first item it is
+/// its own start.
 pub fn seam<T: Placed>(items: &Rows<'_, T>, at: usize) -> Option<usize>
     ensures { result ≡ the_seam at (map T.extent (map (T.said items.now.tables.now) items.now.rows.now)) }
 {
@@ -62,7 +63,8 @@ pub fn seam<T: Placed>(items: &Rows<'_, T>, at: usize) -> Option<usize>
     }
 }
 
-/// Returns where they stop: at its own end; of the first, at the start of the next.
+/// Returns the offset up to which the item at the place `at` of `items` owns bytes: its end. For the first item it is the start of the
+/// next.
 pub fn owned_stop<T: Placed>(items: &Rows<'_, T>, at: usize) -> Option<usize>
     ensures { result ≡ the_stop at (map T.extent (map (T.said items.now.tables.now) items.now.rows.now)) }
 {
@@ -73,7 +75,7 @@ pub fn owned_stop<T: Placed>(items: &Rows<'_, T>, at: usize) -> Option<usize>
     }
 }
 
-/// Returns where one more may be put in among these: at which byte.
+/// Returns the offset at which one more item may come in at the place `at` of `items`.
 pub fn place_to_add<T: Placed>(items: &Rows<'_, T>, at: usize) -> Result<usize, EditFault>
     ensures { (next : ℕ → Result Lines Refusal) → MatchResult result
         (λ from. (to_add at (map T.extent (map (T.said items.now.tables.now) items.now.rows.now)) next ≡ next from) × (the_seam at (map T.extent (map (T.said items.now.tables.now) items.now.rows.now)) ≡ Some from))
@@ -88,7 +90,7 @@ pub fn place_to_add<T: Placed>(items: &Rows<'_, T>, at: usize) -> Result<usize, 
     }
 }
 
-/// Returns which bytes go with one that may be taken out of these.
+/// Returns the offsets from which and up to which the item at the place `at` of `items` owns bytes, if it may be taken out.
 pub fn place_to_drop<T: Placed>(items: &Rows<'_, T>, at: usize) -> Result<(usize, usize), EditFault>
     ensures { (next : ℕ → ℕ → Result Lines Refusal) → MatchResult result
         (λ bytes. (to_drop at (map T.extent (map (T.said items.now.tables.now) items.now.rows.now)) next ≡ next bytes.0 bytes.1)
@@ -110,7 +112,7 @@ pub fn place_to_drop<T: Placed>(items: &Rows<'_, T>, at: usize) -> Result<(usize
     }
 }
 
-/// Returns a line with a splice at a place.
+/// Returns the line `line` with the bytes `splice` at the offset `at`.
 pub fn line_with(
     alloc: Global,
     line: &[u8],
@@ -127,7 +129,7 @@ pub fn line_with(
     Ok(text)
 }
 
-/// Returns a line without the bytes from one place to another.
+/// Returns the line `line` without the bytes from `from` up to `to`.
 pub fn line_without(
     alloc: Global,
     line: &[u8],

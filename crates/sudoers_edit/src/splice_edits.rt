@@ -14,13 +14,14 @@ ghost use Rattle.sudoers_edit.specs.Editing.{Refuses, at_alias};
 ghost use Rattle.sudoers_edit.specs.SpliceEdits.{defs_of, with_def, with_defs, cut_out as with_less, put_in as with_more, with_changed};
 ghost use Rattle.sudoers_edit.specs.declared.fault.EditFault.{EditFault as Refusal};
 ghost use Rattle.sudoers_edit.specs.Landing.{Lines};
-ghost use Rattle.sudoers_edit.specs.internal.FileLeading.{Plans};
-ghost use Rattle.sudoers_edit.specs.internal.FileSplicing.{AreKnown, IsDefIn, ReplacesIn};
-ghost use Rattle.sudoers_edit.specs.internal.Leading.{CutOut, PutIn};
+ghost use Rattle.sudoers_edit.specs.internal.Leading.{Plans};
+ghost use Rattle.sudoers_edit.specs.internal.Splicing.{AreKnown, IsDefIn, ReplacesIn};
+ghost use Rattle.sudoers_edit.specs.internal.OneMore.{CutOut, PutIn};
 ghost use Rattle.sudoers_edit.specs.internal.LeadingInFile.{texts_of};
 ghost use Rattle.sudoers_edit_script.specs.declared.edit.Edit.{Edit as AnEdit};
 
 use crate::fault::EditFault;
+use crate::laws_below::member_edits_rest_on_laws;
 use crate::one_more::{Among, OneMore};
 use crate::plan::{Plan, file_is_sound, swap};
 use crate::splice::{line_with, line_without, place_to_add, place_to_drop};
@@ -30,13 +31,10 @@ use sudoers_line::laws::{definitions_ascend, no_fault};
 use sudoers_line_reader::laws::{one_reading, outcome_is};
 use sudoers_text::laws::{line_alone_is_whole, line_alone_size, lines_stand_alone, whole_line_is};
 use sudoers_text::{LINE_LIMIT, ends_in_lf};
-use sudoers_tree::laws::{
-    loaded_files_are, loaded_files_are_cut, loaded_lines_are_said, loaded_lines_stand,
-    loaded_walk_is,
-};
+use sudoers_tree::laws::{loaded_files_are_cut, loaded_lines_are_said};
 use sudoers_tree::{Def, DefRow, FilePlace, Kind, Line, LineRow, Node, Policy, Rows, read_line};
 
-/// Plans a definition put into a line of a file.
+/// Plans that the bytes `splice` bring a definition, at the place `at` of the line `line` of the file `file`.
 pub fn def_added(
     policy: &Policy,
     file: u32,
@@ -69,7 +67,7 @@ pub fn def_added(
     line_replaced(policy, file as usize, line as usize, text, inverse)
 }
 
-/// Plans a definition taken out of a line of a file.
+/// Plans that the definition at the place `at` of the line `line` of the file `file` is taken out.
 pub fn def_dropped(policy: &Policy, file: u32, line: u32, at: u32) -> Result<Plan, EditFault>
     ensures { Plans (Edit.DropDef file line at) policy.now result }
 {
@@ -104,7 +102,7 @@ pub fn def_dropped(policy: &Policy, file: u32, line: u32, at: u32) -> Result<Pla
     line_replaced(policy, file as usize, line as usize, text, inverse)
 }
 
-/// Plans a member put into the list of an alias.
+/// Plans that the bytes `splice` bring a member, at the place `at` of the list of the alias `name` of the kind `kind`.
 pub fn member_added(
     policy: &Policy,
     kind: Kind,
@@ -115,11 +113,7 @@ pub fn member_added(
     ensures { Plans (Edit.AddMember kind name.now at splice.now) policy.now result }
 {
     policy.is_loaded();
-    lines_are_known();
-    loaded_files_are();
-    loaded_files_are_cut();
-    loaded_walk_is();
-    loaded_lines_stand();
+    member_edits_rest_on_laws();
     let alloc = policy.allocator();
     let (place, old, def) = match def_at(policy, kind, name) {
         Ok(found) => found,
@@ -139,16 +133,12 @@ pub fn member_added(
     line_replaced(policy, place.file, place.line, text, inverse)
 }
 
-/// Plans a member taken out of the list of an alias.
+/// Plans that the member at the place `at` of the list of the alias `name` of the kind `kind` is taken out.
 pub fn member_dropped(policy: &Policy, kind: Kind, name: &[u8], at: u32) -> Result<Plan, EditFault>
     ensures { Plans (Edit.DropMember kind name.now at) policy.now result }
 {
     policy.is_loaded();
-    lines_are_known();
-    loaded_files_are();
-    loaded_files_are_cut();
-    loaded_walk_is();
-    loaded_lines_stand();
+    member_edits_rest_on_laws();
     let alloc = policy.allocator();
     let (place, old, def) = match def_at(policy, kind, name) {
         Ok(found) => found,
@@ -243,7 +233,8 @@ fn line_in<'a>(lines: &Rows<'a, LineRow>, number: usize) -> Option<Line<'a>>
     }
 }
 
-/// Returns a line with one more, which stands at a place and has these bytes.
+/// Returns the line `old` with one more member or definition at the place `at`. That one owns the bytes `splice`, which are put in at the
+/// offset `from`.
 fn put_in(
     alloc: Global,
     among: Among,
@@ -270,7 +261,8 @@ fn put_in(
     Ok(text)
 }
 
-/// Returns a line, which says this, without one that stands at a place and has these bytes.
+/// Returns the line `old`, which says `says`, without the member or definition at the place `at`, which owns the bytes from `from` up
+/// to `to`.
 pub fn cut_out(
     alloc: Global,
     among: Among,
@@ -297,7 +289,7 @@ pub fn cut_out(
     Ok(text)
 }
 
-/// Plans a line of a file changed that reads as it should.
+/// Plans that `text`, which reads as it should, stands in the place of the line `at` of the file `file`.
 fn line_replaced(
     policy: &Policy,
     file: usize,

@@ -8,21 +8,20 @@ ghost use Rattle.sudoers_tree.specs.Load.{Loaded, files_of, load_of};
 ghost use Rattle.sudoers_tree.specs.Policy.{texts};
 ghost use Rattle.sudoers_tree.specs.declared.line_change.LineChange.{LineChange as LineChangeOf};
 ghost use Rattle.sudoers_edit.specs.Editing.{line_at as the_line_at, run};
-ghost use Rattle.sudoers_edit.specs.internal.FileUndone.{ChangesBack, LeadsBack, undone};
+ghost use Rattle.sudoers_edit.specs.internal.Undone.{ChangesBack, LeadsBack, undone};
 ghost use Rattle.sudoers_edit.specs.internal.UndoneLines.{one_undone};
 
 use crate::fault::EditFault;
+use crate::laws_below::line_edits_rest_on_laws;
 use crate::making::make;
-use crate::plan::file_is_sound;
+use crate::plan::{file_is_sound, file_of};
 use std::alloc::AllocError;
 use sudoers_edit_script::{Edits, Text};
-use sudoers_text::laws::{line_alone_is_whole, line_alone_size, lines_stand_alone, whole_line_is};
-use sudoers_tree::laws::{
-    changed_by_first, changed_files_have_lines, loaded_files_are, loaded_files_are_cut,
-};
+use sudoers_text::laws::line_alone_size;
+use sudoers_tree::laws::{changed_by_first, changed_files_have_lines};
 use sudoers_tree::{Items, LineChange, Policy};
 
-/// What takes an edit back: its inverse edits, and the changes that do the same at once, if they are more than one edit.
+/// What takes an edit back: its inverse edits. A prune also has the changes that do the same at once.
 #[derive(Drop)]
 pub struct Back {
     pub inverse: Edits,
@@ -61,11 +60,7 @@ pub fn changes_lead_back()
     ensures { (policy new : Loaded) (changes : List LineChangeOf) → load_of (files_of policy) ≡ Ok policy → CanBeMade changes policy.files
         → load_of (files_changed changes policy.files) ≡ Ok new → ChangesBack (undone policy.files changes) new policy }
 {
-    loaded_files_are();
-    loaded_files_are_cut();
-    lines_stand_alone();
-    line_alone_is_whole();
-    whole_line_is();
+    line_edits_rest_on_laws();
     changed_files_have_lines();
     changed_by_first();
 }
@@ -76,17 +71,6 @@ fn lines_are_few(policy: &Policy)
 {
     file_is_sound(policy);
     line_alone_size();
-}
-
-/// Returns the number of the file whose line a change is of.
-fn file_of(change: &LineChange) -> usize
-    ensures { result ≡ file_of change.now }
-{
-    match change {
-        LineChange::Put { file, .. }
-        | LineChange::Swap { file, .. }
-        | LineChange::Take { file, .. } => *file,
-    }
 }
 
 /// Returns the change that takes `change` back, where `put` lines were put into its file and `taken` lines taken out before.

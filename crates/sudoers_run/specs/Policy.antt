@@ -2,7 +2,6 @@
 use Rattle.std.specs.Prelude.{◌≡◌, ◌⊎◌, ℕ, List, Result, Ok, Err}
 use Rattle.sudoers_tree.specs.declared.load.NamedFile.{NamedFile}
 use Rattle.sudoers_tree.specs.declared.load_fault.LoadFault.{LoadFault}
-use Rattle.sudoers_tree.specs.declared.load_fault.LoadFault.TheVariants as load
 use Rattle.sudoers_tree.specs.Load.{Loaded, load_of}
 use Rattle.sudoers_files.specs.declared.fault.FileFault.TheVariants as device
 use Rattle.sudoers_files.specs.declared.fault.GatherFault.{GatherFault}

@@ -1,4 +1,4 @@
-use Rattle.std.proofs.Common.{◌≡◌, ◌↔◌, ℕ, List, Option, sym, subst}
+use Rattle.std.proofs.Common.{◌↔◌, ℕ, List, Option, sym, subst}
 use Rattle.sudoers_tree.specs.Line.{Line}
 use Rattle.sudoers_tree.specs.Load.{files_of}
 use Rattle.sudoers_check.specs.Chains.{HasReachableCycle}

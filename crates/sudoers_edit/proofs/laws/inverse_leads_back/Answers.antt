@@ -6,26 +6,11 @@ use Rattle.sudoers_edit.proofs.laws.inverse_leads_back.Goals as goal
 
 pub returns-clause-back : goal.returns-clause-back
 returns-clause-back c = taken_back (record {
-  land =
-      record {
-        bytes = c.loaded_files_are.ensures.bytes;
-        cut = c.loaded_files_are_cut.ensures;
-        alone = c.lines_stand_alone.ensures;
-        logical = c.line_alone_is_whole.ensures.whole;
-        tells = c.whole_line_is.ensures.tells;
-        lines = c.changed_files_have_lines.ensures.lines;
-      };
+  land = c.line_edits_rest_on_laws.ensures;
   joined = λ lines others whole ended is.
       c.one_list.ensures (join lines) others lines (subst (IsOutcome (join lines)) is (c.cut_is.ensures (join lines))).cuts (c.whole_lines_of_join.ensures lines whole ended);
   ends = c.ends_stay_cut.ensures;
-  walks =
-      record {
-        bytes = c.loaded_files_are.ensures.bytes;
-        cut = c.loaded_files_are_cut.ensures;
-        known = c.lines_are_known.ensures;
-        walk = c.loaded_walk_is.ensures;
-        stand = c.loaded_lines_stand.ensures;
-      };
+  walks = c.member_edits_rest_on_laws.ensures;
   walk = c.loaded_is_walk.ensures;
   renames = c.rename_is_taken_back.ensures.back;
 })

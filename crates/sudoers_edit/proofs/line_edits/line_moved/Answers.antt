@@ -6,7 +6,7 @@ use Rattle.sudoers_tree.specs.Files.{lines_of}
 use Rattle.sudoers_tree.specs.Load.{Loaded}
 use Rattle.sudoers_edit_script.specs.declared.edit.Edit.TheVariants.{Move}
 use Rattle.sudoers_edit.specs.LineEdits.{moved}
-use Rattle.sudoers_edit.specs.internal.FileLeading.{Leads}
+use Rattle.sudoers_edit.specs.internal.Leading.{Leads}
 use Rattle.sudoers_edit.specs.internal.LeadingInFile.{LandsIn, move_changes, texts_of}
 use Rattle.sudoers_edit.proofs.PolicyLemmas.{count_texts, at_get}
 use Rattle.sudoers_edit.proofs.LineLemmas.{move_lands}

@@ -1,15 +1,5 @@
-use Rattle.sudoers_edit.proofs.LandLemmas.{LandLaws, one_file_leads}
+use Rattle.sudoers_edit.proofs.LandLemmas.{one_file_leads}
 use Rattle.sudoers_edit.proofs.plan.one_file_leads.Goals as goal
 
 pub returns : goal.returns
-returns c = one_file_leads laws
-  where
-    laws : LandLaws
-    laws = record {
-      bytes = c.loaded_files_are.ensures.bytes;
-      cut = c.loaded_files_are_cut.ensures;
-      alone = c.lines_stand_alone.ensures;
-      logical = c.line_alone_is_whole.ensures.whole;
-      tells = c.whole_line_is.ensures.tells;
-      lines = c.changed_files_have_lines.ensures.lines;
-    }
+returns c = one_file_leads c.line_edits_rest_on_laws.ensures

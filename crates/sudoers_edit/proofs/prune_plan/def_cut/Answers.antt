@@ -11,7 +11,7 @@ use Rattle.sudoers_edit.specs.declared.one_more.Among.TheVariants as among
 use Rattle.sudoers_edit.specs.Editing.{Refuses}
 use Rattle.sudoers_edit.specs.Splice.{def_extents}
 use Rattle.sudoers_edit.specs.SpliceEdits.{defs_of, cut_out}
-use Rattle.sudoers_edit.specs.internal.FileDrafts.{CutDef}
+use Rattle.sudoers_edit.specs.internal.Drafts.{CutDef}
 use Rattle.sudoers_edit.proofs.PruneCut.{cut_def, cut_within, line_is, no_defs, refused_found, several, shown_line}
 use Rattle.sudoers_edit.proofs.prune_plan.def_cut.Goals as goal
 

@@ -7,7 +7,7 @@ use Rattle.sudoers_tree.specs.Load.{Loaded}
 use Rattle.sudoers_tree.specs.Policy.{texts}
 use Rattle.sudoers_edit_script.specs.declared.edit.Edit.TheVariants.{AddDef}
 use Rattle.sudoers_edit.specs.declared.pruning.Removal.TheVariants as removal
-use Rattle.sudoers_edit.specs.internal.FileDrafts.{IsTakenOut, replaced_by}
+use Rattle.sudoers_edit.specs.internal.Drafts.{IsTakenOut, replaced_by}
 use Rattle.sudoers_edit.proofs.PruneOut.{Found, def_is_there, def_refused, def_taken, found}
 use Rattle.sudoers_edit.proofs.prune_plan.def_out.Goals as goal
 

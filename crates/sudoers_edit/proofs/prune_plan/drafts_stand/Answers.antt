@@ -1,72 +1,11 @@
 use Rattle.sudoers_edit.proofs.PruneGoes.{def_goes, line_goes, line_is_said}
-use Rattle.sudoers_edit.proofs.PrunePut.{FileLaws}
 use Rattle.sudoers_edit.proofs.prune_plan.drafts_stand.Goals as goal
 
 pub returns-clause-line : goal.returns-clause-line
-returns-clause-line c = line_goes laws
-  where
-    laws : FileLaws
-    laws = record {
-      loads = c.mapped_files_load.ensures;
-      walk = c.loaded_is_walk.ensures;
-      stand = c.loaded_lines_stand.ensures;
-      parse = c.loaded_files_are.ensures.parse;
-      cut = c.loaded_files_are_cut.ensures;
-      said = c.loaded_lines_are_said.ensures;
-      joined = c.lines_of_join.ensures;
-      alone = c.lines_stand_alone.ensures;
-      size = c.line_alone_size.ensures;
-      single = c.line_alone_is_whole.ensures.alone;
-      whole = c.line_alone_is_whole.ensures.whole;
-      tells = c.whole_line_is.ensures.tells;
-      outcome = c.outcome_is.ensures;
-      reading = c.one_reading.ensures;
-      faultless = c.no_fault.ensures;
-      ascend = c.definitions_ascend.ensures;
-    }
+returns-clause-line c = line_goes c.prunes_rest_on_laws.ensures
 
 pub returns-clause-def : goal.returns-clause-def
-returns-clause-def c = def_goes laws
-  where
-    laws : FileLaws
-    laws = record {
-      loads = c.mapped_files_load.ensures;
-      walk = c.loaded_is_walk.ensures;
-      stand = c.loaded_lines_stand.ensures;
-      parse = c.loaded_files_are.ensures.parse;
-      cut = c.loaded_files_are_cut.ensures;
-      said = c.loaded_lines_are_said.ensures;
-      joined = c.lines_of_join.ensures;
-      alone = c.lines_stand_alone.ensures;
-      size = c.line_alone_size.ensures;
-      single = c.line_alone_is_whole.ensures.alone;
-      whole = c.line_alone_is_whole.ensures.whole;
-      tells = c.whole_line_is.ensures.tells;
-      outcome = c.outcome_is.ensures;
-      reading = c.one_reading.ensures;
-      faultless = c.no_fault.ensures;
-      ascend = c.definitions_ascend.ensures;
-    }
+returns-clause-def c = def_goes c.prunes_rest_on_laws.ensures
 
 pub returns-clause-said : goal.returns-clause-said
-returns-clause-said c = line_is_said laws
-  where
-    laws : FileLaws
-    laws = record {
-      loads = c.mapped_files_load.ensures;
-      walk = c.loaded_is_walk.ensures;
-      stand = c.loaded_lines_stand.ensures;
-      parse = c.loaded_files_are.ensures.parse;
-      cut = c.loaded_files_are_cut.ensures;
-      said = c.loaded_lines_are_said.ensures;
-      joined = c.lines_of_join.ensures;
-      alone = c.lines_stand_alone.ensures;
-      size = c.line_alone_size.ensures;
-      single = c.line_alone_is_whole.ensures.alone;
-      whole = c.line_alone_is_whole.ensures.whole;
-      tells = c.whole_line_is.ensures.tells;
-      outcome = c.outcome_is.ensures;
-      reading = c.one_reading.ensures;
-      faultless = c.no_fault.ensures;
-      ascend = c.definitions_ascend.ensures;
-    }
+returns-clause-said c = line_is_said c.prunes_rest_on_laws.ensures

@@ -8,7 +8,7 @@ use Rattle.sudoers_tree.specs.Load.{Loaded}
 use Rattle.sudoers_tree.specs.Policy.{texts}
 use Rattle.sudoers_edit_script.specs.declared.edit.Edit.TheVariants.{Insert}
 use Rattle.sudoers_edit.specs.declared.pruning.Removal.TheVariants as removal
-use Rattle.sudoers_edit.specs.internal.FileDrafts.{IsTakenOut}
+use Rattle.sudoers_edit.specs.internal.Drafts.{IsTakenOut}
 use Rattle.sudoers_edit.proofs.PruneOut.{line_is_there, line_taken}
 use Rattle.sudoers_edit.proofs.prune_plan.line_out.Goals as goal
 

@@ -10,8 +10,8 @@ use Rattle.sudoers_edit.specs.declared.pruning.Removal.{Removal}
 use Rattle.sudoers_edit.specs.declared.pruning.Removal.TheVariants as removal
 use Rattle.sudoers_edit.specs.Editing.{Refuses, removed_all, step}
 use Rattle.sudoers_edit.specs.Pruning.{removals}
-use Rattle.sudoers_edit.specs.internal.FileDrafts.{AreByFiles, IsPruned, IsTakenOut}
-use Rattle.sudoers_edit.specs.internal.FileLeading.{Leads}
+use Rattle.sudoers_edit.specs.internal.Drafts.{AreByFiles, IsPruned, IsTakenOut}
+use Rattle.sudoers_edit.specs.internal.Leading.{Leads}
 use Rattle.sudoers_edit.proofs.PruneDone.{one_pruned, refuse_more}
 use Rattle.sudoers_edit.proofs.prune_plan.pruned.Goals as goal
 

@@ -1,5 +1,5 @@
 use Rattle.std.proofs.Common.{drop, reverse}
-use Rattle.sudoers_edit.specs.internal.FileDrafts.{IsPruned}
+use Rattle.sudoers_edit.specs.internal.Drafts.{IsPruned}
 use Rattle.sudoers_edit.proofs.prune_plan.pruned.Given as goal
 
 abbrev pub invariant-loop-removal : goal.invariant-loop-removal

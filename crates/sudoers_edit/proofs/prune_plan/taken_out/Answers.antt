@@ -1,7 +1,7 @@
 use Rattle.std.proofs.Common.{ℕ, Bool, reverse, sym, subst}
 use Rattle.sudoers_tree.specs.Load.{Loaded}
 use Rattle.sudoers_edit.specs.declared.pruning.Removal.{Removal}
-use Rattle.sudoers_edit.specs.internal.FileDrafts.{IsDraft, IsReady, MayGo, TakesOut}
+use Rattle.sudoers_edit.specs.internal.Drafts.{IsDraft, IsReady, MayGo, TakesOut}
 use Rattle.sudoers_edit.proofs.prune_plan.taken_out.Goals as goal
 
 pub returns-in-Line : goal.returns-in-Line

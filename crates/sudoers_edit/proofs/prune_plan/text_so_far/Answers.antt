@@ -5,7 +5,7 @@ use Rattle.std.specs.Prelude.{slice_get}
 use Rattle.sudoers_tree.specs.declared.line_change.LineChange.{LineChange}
 use Rattle.sudoers_tree.specs.Files.{lines_of}
 use Rattle.sudoers_tree.specs.Policy.{texts}
-use Rattle.sudoers_edit.specs.internal.FileDrafts.{replaced_by}
+use Rattle.sudoers_edit.specs.internal.Drafts.{replaced_by}
 use Rattle.sudoers_edit.proofs.PruneOut.{replaced_first}
 use Rattle.sudoers_edit.proofs.prune_plan.text_so_far.Goals as goal
 

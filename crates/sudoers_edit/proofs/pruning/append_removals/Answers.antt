@@ -5,7 +5,7 @@ use Rattle.sudoers_tree.specs.declared.place.Place.{Place}
 use Rattle.sudoers_tree.specs.declared.place.Spot.{Spot}
 use Rattle.sudoers_edit.specs.declared.pruning.Removal.{Removal}
 use Rattle.sudoers_edit.specs.declared.pruning.Removal.TheVariants as removal
-use Rattle.sudoers_edit.specs.internal.FilePruneOrder.{removals_at}
+use Rattle.sudoers_edit.specs.internal.PruneOrder.{removals_at}
 use Rattle.sudoers_edit.proofs.pruning.append_removals.Goals as goal
 
 -- of some definitions all go: the line goes

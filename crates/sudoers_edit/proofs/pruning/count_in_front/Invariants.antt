@@ -1,5 +1,5 @@
 use Rattle.std.proofs.Common.{◌≡◌, ◌+◌, drop}
-use Rattle.sudoers_edit.specs.internal.FilePruneOrder.{front_count}
+use Rattle.sudoers_edit.specs.internal.PruneOrder.{front_count}
 use Rattle.sudoers_edit.proofs.pruning.count_in_front.Given as goal
 
 abbrev pub invariant-loop-place : goal.invariant-loop-place

@@ -14,7 +14,7 @@ use Rattle.sudoers_tree.specs.Policy.{alias_limit}
 use Rattle.sudoers_tree.specs.Walk.{Walked, spot_at}
 use Rattle.sudoers_check.specs.Led.{is_unused, unused_of}
 use Rattle.sudoers_edit.specs.declared.pruning.Removal.{Removal}
-use Rattle.sudoers_edit.specs.internal.FilePruneOrder.{removals_along, removals_at}
+use Rattle.sudoers_edit.specs.internal.PruneOrder.{removals_along, removals_at}
 use Rattle.sudoers_edit.proofs.PrunePlaces.{place_in}
 use Rattle.sudoers_edit.proofs.PruneOrder.{along_more, removals_are}
 use Rattle.sudoers_edit.proofs.pruning.removals.Goals as goal

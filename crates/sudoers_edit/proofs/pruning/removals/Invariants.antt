@@ -4,7 +4,7 @@ use Rattle.std.specs.Prelude.{◌^◌}
 use Rattle.sudoers_line.specs.declared.node.Kind.{Kind}
 use Rattle.sudoers_tree.specs.declared.place.Place.{Place}
 use Rattle.sudoers_tree.specs.Line.{line_in}
-use Rattle.sudoers_edit.specs.internal.FilePruneOrder.{removals_along}
+use Rattle.sudoers_edit.specs.internal.PruneOrder.{removals_along}
 use Rattle.sudoers_edit.proofs.pruning.removals.Given as goal
 
 abbrev pub invariant-loop-number : goal.invariant-loop-number

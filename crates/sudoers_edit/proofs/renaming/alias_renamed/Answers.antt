@@ -12,7 +12,7 @@ use Rattle.sudoers_edit_script.specs.declared.edit.Edit.{Edit}
 use Rattle.sudoers_edit_script.specs.declared.edit.Edit.TheVariants.{Rename}
 use Rattle.sudoers_edit.specs.Landing.{is_too_long}
 use Rattle.sudoers_edit.specs.Renaming.{is_taken, renamed}
-use Rattle.sudoers_edit.specs.internal.FileLeading.{Leads}
+use Rattle.sudoers_edit.specs.internal.Leading.{Leads}
 use Rattle.sudoers_edit.proofs.RenameLeads.{no_alias, bad_name, name_taken, too_long, definable}
 use Rattle.sudoers_edit.proofs.renaming.alias_renamed.Goals as goal
 use Rattle.sudoers_edit.proofs.renaming.alias_renamed.Goals.{then-not-is_name-via-then-not-is_name, then-not-is_name-via-else-not-is_name+then-is_reserved}

@@ -1,5 +1,4 @@
-use Rattle.std.proofs.Common.{◌≡◌, ◌++◌, ℕ, List, ap, get_or, length, sym, ◌∙◌}
-use Rattle.std.specs.Prelude.{option_to_list}
+use Rattle.std.proofs.Common.{◌≡◌, ◌++◌, ℕ, List, ap, get_or, length, ◌∙◌}
 use Rattle.sudoers_line_rows.specs.declared.rows.NodeRow.TheVariants as node_row
 use Rattle.sudoers_line_rows.specs.declared.rows.Tables.{Tables}
 use Rattle.sudoers_tree.specs.declared.line.LineRow.{LineRow}
@@ -7,7 +6,7 @@ use Rattle.sudoers_tree.specs.declared.line_change.LineChange.{LineChange}
 use Rattle.sudoers_tree.specs.Files.{lines_of}
 use Rattle.sudoers_tree.specs.Line.{Line, line_in}
 use Rattle.sudoers_edit.specs.Renaming.{starts_in}
-use Rattle.sudoers_edit.specs.internal.FileLeading.{swap_in}
+use Rattle.sudoers_edit.specs.internal.Leading.{swap_in}
 use Rattle.sudoers_edit.proofs.AbsentNames.{one_more_swap, passed_over}
 use Rattle.sudoers_edit.proofs.renaming.append_swaps_of.Goals.{then-may_name+in_ok-swap+in_ok-append_option, else-may_name}
 use Rattle.sudoers_edit.proofs.renaming.append_swaps_of.Goals as goal

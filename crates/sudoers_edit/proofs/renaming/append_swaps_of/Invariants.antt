@@ -1,6 +1,6 @@
 use Rattle.std.proofs.Common.{◌≡◌, ◌++◌, drop, map}
 use Rattle.sudoers_tree.specs.Line.{line_in, lines_shown}
-use Rattle.sudoers_edit.specs.internal.FileLeading.{swaps_of_file}
+use Rattle.sudoers_edit.specs.internal.Leading.{swaps_of_file}
 use Rattle.sudoers_edit.proofs.renaming.append_swaps_of.Given as goal
 
 abbrev pub invariant-loop-at : goal.invariant-loop-at

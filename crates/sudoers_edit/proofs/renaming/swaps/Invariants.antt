@@ -1,5 +1,5 @@
 use Rattle.std.proofs.Common.{◌≡◌, ◌++◌, drop}
-use Rattle.sudoers_edit.specs.internal.FileLeading.{swaps_from}
+use Rattle.sudoers_edit.specs.internal.Leading.{swaps_from}
 use Rattle.sudoers_edit.proofs.renaming.swaps.Given as goal
 
 abbrev pub invariant-loop-file : goal.invariant-loop-file

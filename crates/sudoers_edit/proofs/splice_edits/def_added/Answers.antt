@@ -9,7 +9,7 @@ use Rattle.sudoers_edit.specs.Editing.{Refuses}
 use Rattle.sudoers_edit.specs.declared.one_more.Among.TheVariants as among
 use Rattle.sudoers_edit.specs.SpliceEdits.{add_def, put_in, with_changed}
 use Rattle.std.specs.Prelude.{slice_get}
-use Rattle.sudoers_edit.specs.internal.FileSplicing.{AreKnown, ReplacesIn}
+use Rattle.sudoers_edit.specs.internal.Splicing.{AreKnown, ReplacesIn}
 use Rattle.sudoers_edit.proofs.DefLemmas.{add_found, add_replaces, add_unfound, in_lines, refused_so, refuses_so}
 use Rattle.sudoers_edit.proofs.SwapLemmas.{def_begins}
 use Rattle.sudoers_edit.proofs.splice_edits.def_added.Goals as goal

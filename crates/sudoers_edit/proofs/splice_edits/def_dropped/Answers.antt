@@ -11,7 +11,7 @@ use Rattle.sudoers_edit.specs.Editing.{Refuses}
 use Rattle.sudoers_edit.specs.Splice.{slice}
 use Rattle.sudoers_edit.specs.declared.one_more.Among.TheVariants as among
 use Rattle.sudoers_edit.specs.SpliceEdits.{cut_out, drop_def, with_changed}
-use Rattle.sudoers_edit.specs.internal.FileSplicing.{AreKnown, ReplacesIn}
+use Rattle.sudoers_edit.specs.internal.Splicing.{AreKnown, ReplacesIn}
 use Rattle.sudoers_edit.proofs.DefLemmas.{drop_found, drop_replaces, drop_unfound, in_lines, refused_so, refuses_so}
 use Rattle.sudoers_edit.proofs.SwapLemmas.{def_goes_on}
 use Rattle.sudoers_edit.proofs.splice_edits.def_dropped.Goals as goal

@@ -13,9 +13,9 @@ use Rattle.sudoers_edit.specs.declared.fault.EditFault.{EditFault}
 use Rattle.sudoers_edit.specs.declared.one_more.Among.TheVariants as among
 use Rattle.sudoers_edit.specs.Landing.{Lines}
 use Rattle.sudoers_edit.specs.SpliceEdits.{drop_member, cut_out}
-use Rattle.sudoers_edit.specs.internal.FileSplicing.{IsDefIn, ReplacesIn}
+use Rattle.sudoers_edit.specs.internal.Splicing.{IsDefIn, ReplacesIn}
 use Rattle.sudoers_edit.proofs.DefLemmas.{refused_so, refuses_so}
-use Rattle.sudoers_edit.proofs.MemberLemmas.{WalkLaws, alias_refused, at_alias_is, drop_found, drop_replaces}
+use Rattle.sudoers_edit.proofs.MemberLemmas.{alias_refused, at_alias_is, drop_found, drop_replaces}
 use Rattle.sudoers_edit.specs.Splice.{member_extents, owned_stop, seam, slice}
 use Rattle.sudoers_edit.proofs.SwapLemmas.{member_goes_on}
 use Rattle.sudoers_edit.proofs.splice_edits.member_dropped.Goals as goal
@@ -64,7 +64,7 @@ cut_out-requires c =
     let begins : seam c.args.at (member_extents d.members) ≡ Some c.in-Ok-place_to_drop.bytes.0 = bytes.1 in
     let stops : owned_stop c.args.at (member_extents d.members) ≡ Some c.in-Ok-place_to_drop.bytes.1 = bytes.2 in
     member_goes_on lines place.line place.def c.args.at c.in-Ok-place_to_drop.bytes.0 c.in-Ok-place_to_drop.bytes.1 line is.defs d
-    (c.lines_are_known.ensures (files_of policy) policy c.is_loaded.ensures place.file) is.here is.makes is.stands begins stops
+    (c.member_edits_rest_on_laws.ensures.known (files_of policy) policy c.is_loaded.ensures place.file) is.here is.makes is.stands begins stops
 
 pub line_replaced-requires : goal.line_replaced-requires
 line_replaced-requires c =
@@ -85,18 +85,11 @@ returns c =
     let text : List ℕ = c.in-Ok-cut_out.text.items in
     let lines : List Line = lines_of policy.files place.file in
     let next : ℕ → ℕ → Result Lines EditFault = λ from to. cut_out (among.Members place.def) at from to place.line line lines in
-    let laws : WalkLaws = record {
-      bytes = c.loaded_files_are.ensures.bytes;
-      cut = c.loaded_files_are_cut.ensures;
-      known = c.lines_are_known.ensures;
-      walk = c.loaded_walk_is.ensures;
-      stand = c.loaded_lines_stand.ensures;
-    } in
     let bytes = c.in-Ok-place_to_drop.ensures next in
     let begins : seam at (member_extents d.members) ≡ Some from = bytes.1 in
     let stops : owned_stop at (member_extents d.members) ≡ Some to = bytes.2 in
     let leads : ReplacesIn (DropMember k name at) (AddMember k name at s) (AddMember k name at s ∷ []) policy place.file place.line text =
-    drop_replaces laws k name at from to s text policy place line d c.is_loaded.ensures c.in-Ok.ensures.found begins stops c.in-Ok-cut_out.ensures.cut refl
+    drop_replaces c.member_edits_rest_on_laws.ensures k name at from to s text policy place line d c.is_loaded.ensures c.in-Ok.ensures.found begins stops c.in-Ok-cut_out.ensures.cut refl
     (drop_found at k name policy place line d c.in-Ok.ensures.found ∙ bytes.0 ∙ c.in-Ok-cut_out.ensures.outcome place.line lines) in
     let inverse : AddMember k name at s ∷ [] ≡ c.in_ok-inverse.inverse = sym c.in_ok-inverse.ensures in
     c.line_replaced.ensures (DropMember k name at) (AddMember k name at s)

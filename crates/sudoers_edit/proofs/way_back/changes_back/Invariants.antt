@@ -1,5 +1,5 @@
 use Rattle.std.proofs.Common.{◌≡◌, ◌≤◌, ◌++◌, drop}
-use Rattle.sudoers_edit.specs.internal.FileUndone.{undone, undone_since}
+use Rattle.sudoers_edit.specs.internal.Undone.{undone, undone_since}
 use Rattle.sudoers_edit.proofs.way_back.changes_back.Given as goal
 
 abbrev pub invariant-loop-change : goal.invariant-loop-change

@@ -4,7 +4,7 @@ use Rattle.std.specs.List.{flat_map}
 use Rattle.sudoers_edit_script.specs.declared.edit.Edit.{Edit}
 use Rattle.sudoers_edit.specs.declared.editor.Step.{Step}
 use Rattle.sudoers_edit.specs.Editing.{Desk}
-use Rattle.sudoers_edit.specs.internal.FileUndone.{entries_of}
+use Rattle.sudoers_edit.specs.internal.Undone.{entries_of}
 use Rattle.sudoers_edit.proofs.JournalLemmas.{inverses_are}
 use Rattle.sudoers_edit.proofs.HistoryLemmas.{TakesBack, takes_back}
 use Rattle.sudoers_edit.proofs.editor.Editor.inverse.Goals as goal

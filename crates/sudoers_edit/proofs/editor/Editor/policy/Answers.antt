@@ -1,6 +1,6 @@
 use Rattle.std.proofs.Common.{◌≡◌, ◌∙◌, Some, reverse, ap, sym, subst}
 use Rattle.sudoers_edit.specs.Editing.{edits_of, Desk, run, first_of}
-use Rattle.sudoers_edit.specs.internal.FileUndone.{entries_of}
+use Rattle.sudoers_edit.specs.internal.Undone.{entries_of}
 use Rattle.sudoers_edit.proofs.HistoryLemmas.{leads_here, run_accepted}
 use Rattle.sudoers_edit.proofs.editor.Editor.policy.Goals as goal
 

@@ -3,7 +3,7 @@ use Rattle.std.specs.Prelude.{slice_get, option_to_list}
 use Rattle.sudoers_edit.specs.declared.editor.Step.{Step}
 use Rattle.sudoers_edit.specs.Editing.{Desk, run}
 use Rattle.sudoers_edit.specs.Undoing.{TakesLast}
-use Rattle.sudoers_edit.specs.internal.FileUndone.{entries_of}
+use Rattle.sudoers_edit.specs.internal.Undone.{entries_of}
 use Rattle.sudoers_edit.proofs.JournalLemmas.{TakenBack, last_step, taken_back, undone_first, redoable_more}
 use Rattle.sudoers_edit.proofs.editor.Editor.undo.Goals.{Joined-step}
 use Rattle.sudoers_edit.proofs.editor.Editor.undo.Goals as goal

@@ -11,7 +11,7 @@ use Rattle.sudoers_edit.specs.declared.editor.Step.{Step}
 use Rattle.sudoers_edit.specs.declared.fault.EditFault.{EditFault}
 use Rattle.sudoers_edit.specs.declared.way_back.Back.{Back}
 use Rattle.sudoers_edit.specs.Editing.{Refuses, run, step}
-use Rattle.sudoers_edit.specs.internal.MadeInFiles.{IsMade}
+use Rattle.sudoers_edit.specs.internal.Made.{IsMade}
 use Rattle.sudoers_edit.specs.internal.UndoneLines.{one_undone, put_by, taken_by}
 use Rattle.sudoers_edit_script.specs.declared.edit.Edit.{Edit}
 

@@ -1,8 +1,6 @@
--- The laws on which a rename over files rests, and what they say of the lines of a policy's files.
-use Rattle.std.proofs.Common.{◌≡◌, ℕ, ◌≤◌, ◌<◌, ◌||◌, Bool, true, false, List, [], ◌∷◌, length, zero, suc, Some, Ok, refl, ap₂, subst}
-use Rattle.std.proofs.lemmas.Bool.{le-ltb}
-use Rattle.std.specs.List.{AllByRecursion, list_any}
-use Rattle.std.specs.Prelude.{slice_get}
+-- A device of the proofs, which no public contract cites: the laws on which renames rest.
+use Rattle.std.specs.List.{AllByRecursion}
+use Rattle.std.specs.Prelude.{◌≡◌, ℕ, ◌<◌, ◌≤◌, true, false, List, [], ◌∷◌, length, map, None, Ok}
 use Rattle.sudoers_text.specs.Cut.{StandAlone, cut_of}
 use Rattle.sudoers_text.specs.Ended.{ends_in_lf, has_unended_inside}
 use Rattle.sudoers_text.specs.Fault.{line_limit, text_limit}
@@ -18,16 +16,13 @@ use Rattle.sudoers_tree.specs.ChangedFiles.{CanBeMade, changes_of, files_changed
 use Rattle.sudoers_tree.specs.Files.{FileReading, lines_of}
 use Rattle.sudoers_tree.specs.Goes.{IsWalkOf}
 use Rattle.sudoers_tree.specs.Line.{Line}
-use Rattle.sudoers_tree.specs.Load.{Loaded, StandAt, files_of, load_of}
-use Rattle.sudoers_tree.specs.Mapped.{IsMappedWalk, MakeMapped, Mapping, file_names}
+use Rattle.sudoers_tree.specs.Load.{Loaded, StandAt, file_of, files_of, load_of}
+use Rattle.sudoers_tree.specs.Mapped.{AreMapped, CanBeLoaded, IsMappedWalk, MakeMapped, Mapping, NamesStand, file_names, mapped_at}
 use Rattle.sudoers_tree.specs.Policy.{IsWalk, SaysSo, texts}
-use Rattle.sudoers_tree.specs.Walk.{walk_of}
+use Rattle.sudoers_tree.specs.Walk.{Walked, walk_of}
 use Rattle.sudoers_tree.specs.declared.line_change.LineChange.{LineChange}
 use Rattle.sudoers_tree.specs.declared.load.NamedFile.{NamedFile}
-use Rattle.sudoers_tree.specs.declared.place.Spot.{Spot}
-use Rattle.sudoers_edit.specs.Landing.{is_too_long}
-use Rattle.sudoers_edit.specs.OneLine.{IsAlone}
-use Rattle.sudoers_edit.proofs.RenameSwaps.{NoneLaw, FirstLaw}
+use Rattle.sudoers_edit.specs.internal.ChangeLaws.{NoneLaw, FirstLaw}
 
 -- The laws of one line, and those of a line with another name.
 pub record LineLaws : Type 0 where
@@ -69,38 +64,16 @@ pub record Laws : Type 0 where
   pub none : NoneLaw
   pub first : FirstLaw
 
--- What the lines of each file are.
-pub record AreSound (files : List FileReading) : Type 0 where
-  pub says : (f : ℕ) → AllByRecursion SaysSo (lines_of files f)
-  pub each : (f : ℕ) → StandAlone (texts (lines_of files f))
-  pub ended : (f : ℕ) → has_unended_inside (texts (lines_of files f)) ≡ false
-
-pub sound_of : Laws → (policy : Loaded) → load_of (files_of policy) ≡ Ok policy → AreSound policy.files
-sound_of l policy loaded = record {
-  says = l.said (files_of policy) policy loaded;
-  each = λ f. (parts f).0;
-  ended = λ f. (parts f).1;
-}
-  where
-    parts : (f : ℕ) → StandAlone (texts (lines_of policy.files f)) × (has_unended_inside (texts (lines_of policy.files f)) ≡ false)
-    parts f =
-        let a = l.lines.alone (join (texts (lines_of policy.files f))) (texts (lines_of policy.files f)) (l.cut (files_of policy) policy loaded f) in
-        (a.0, a.1)
-
--- ---- a line of a walk is within the limit
-
-alone_at : (lines : List Line) (n : ℕ) (line : Line) → StandAlone (texts lines) → slice_get lines n ≡ Some line → IsAlone line.text
-alone_at [] n line each at = absurd cc
-alone_at (first ∷ lines) zero line each at =
-    let same : first ≡ line = cc in
-    subst (λ (x : Line). IsAlone x.text) same each.0
-alone_at (first ∷ lines) (suc n) line each at = alone_at lines n line each.1 at
-
-pub walk_short : LineLaws → (files : List FileReading) → AreSound files → (spots : List Spot) (lines : List Line) → StandAt files spots lines
-    → list_any is_too_long (texts lines) ≡ false
-walk_short l files sound [] [] stand = refl
-walk_short l files sound [] (line ∷ lines) stand = absurd stand
-walk_short l files sound (at ∷ spots) [] stand = absurd stand
-walk_short l files sound (at ∷ spots) (line ∷ lines) stand =
-    let alone : IsAlone line.text = alone_at (lines_of files at.file) at.line line (sound.each at.file) stand.0.is_line in
-    ap₂ (λ (a b : Bool). a || b) (le-ltb line_limit (length line.text) (l.size line.text alone).1) (walk_short l files sound spots lines stand.1)
+-- The laws of texts and their sizes, and that of loading files of which lines were changed.
+pub record SizeLaws : Type 0 where
+  pub base : Laws
+  pub told : (text : List ℕ) → IsLogicalLine text → is_logical_line text ≡ true
+  pub whole : (line : List ℕ) → is_logical_line line ≡ true → length line ≤ line_limit → cut_of line ≡ Ok (line ∷ [])
+  pub joined : (lines : List (List ℕ)) → StandAlone lines → has_unended_inside lines ≡ false → length (join lines) ≤ text_limit
+      → cut_of (join lines) ≡ Ok lines
+  pub parse : (files : List NamedFile) (policy : Loaded) → load_of files ≡ Ok policy → AllByRecursion (λ (file : FileReading). file.fault ≡ None) policy.files
+  pub loads : (g : Mapping) (policy : Loaded) (others : List FileReading) → load_of (files_of policy) ≡ Ok policy
+      → AreMapped g policy.files others policy.walk → CanBeLoaded policy.files others policy.walk
+      → NamesStand (mapped_at g policy.walk.spots policy.walk.lines)
+      → (other : Walked) × (load_of (map file_of others) ≡ Ok (record { files = others; walk = other })) × (walk_of others ≡ Ok other)
+      × IsMappedWalk g policy.walk other

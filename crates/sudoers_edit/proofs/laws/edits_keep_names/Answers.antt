@@ -1,5 +1,5 @@
 use Rattle.sudoers_edit.proofs.NameLemmas.{run_named}
-use Rattle.sudoers_edit.proofs.name_laws.edits_keep_names.Goals as goal
+use Rattle.sudoers_edit.proofs.laws.edits_keep_names.Goals as goal
 
 pub returns : goal.returns
 returns c = run_named c.loaded_files_are.ensures.bytes 0

@@ -23,16 +23,11 @@ use Rattle.sudoers_edit.specs.Splice.{def_extents, owned_stop, seam, slice}
 use Rattle.sudoers_edit.specs.declared.fault.EditFault.{EditFault}
 use Rattle.sudoers_edit.specs.declared.pruning.Removal.{Removal}
 use Rattle.sudoers_edit.specs.declared.pruning.Removal.TheVariants as removal
-use Rattle.sudoers_edit.specs.Editing.{Refuses, inv, line_at, put_all_back, removed_all, run, step}
+use Rattle.sudoers_edit.specs.Editing.{Refuses, line_at, put_all_back, removed_all, run, step}
 use Rattle.sudoers_edit.specs.Pruning.{edit_of}
 use Rattle.sudoers_edit.specs.SpliceEdits.{drop_def, with_changed}
-use Rattle.sudoers_edit.specs.internal.Leading.{CutOut}
-
--- The edit has led to the new policy, and these edits lead back.
-pub record IsMade (edit : Edit) (inverse : List Edit) (old new : Loaded) : Type 0 where
-  pub forth : step edit old ≡ Ok new
-  pub inverse_is : inverse ≡ inv edit old
-  pub back : run inverse new ≡ Some old
+use Rattle.sudoers_edit.specs.internal.Made.{IsMade}
+use Rattle.sudoers_edit.specs.internal.OneMore.{CutOut}
 
 -- The new policy is the old one with these lines of the file f.
 pub record IsOther (f : ℕ) (lines : List (List ℕ)) (old new : Loaded) : Type 0 where
