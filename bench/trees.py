@@ -4,6 +4,14 @@ import os
 
 import policies
 
+# edits of the bundle of these files, by their names
+EDITS = (
+    ("a rename", b"rename user TEAM1 CREW1\n"),
+    ("a line inserted in one", b"file 100\ninsert 2\n|# edited\n"),
+    ("an include line turned", b"move 1 2\n"),
+    ("a prune of nothing", b"prune\n"),
+)
+
 
 def parts(lines, count):
     """`lines` in `count` parts of about the same number of bytes, with whole lines."""
