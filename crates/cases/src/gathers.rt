@@ -67,6 +67,26 @@ impl<F: Files> Files for Failing<F> {
         }
     }
 
+    fn wanted(&mut self, alloc: Global, dir: &[u8]) -> Result<Vec<Items<u8>>, FileFault> {
+        if self.count() {
+            return Err(self.fail());
+        }
+        match self.files.wanted(alloc, dir) {
+            Err(FileFault::Failed) => Err(self.fail()),
+            result => result,
+        }
+    }
+
+    fn unread(&mut self, alloc: Global, dir: &[u8]) -> Result<Option<Vec<Items<u8>>>, FileFault> {
+        if self.count() {
+            return Err(self.fail());
+        }
+        match self.files.unread(alloc, dir) {
+            Err(FileFault::Failed) => Err(self.fail()),
+            result => result,
+        }
+    }
+
     fn failures(&self) -> u64 {
         self.failures
     }
@@ -85,12 +105,10 @@ pub fn push_answer(
 
 /// Adds what is gathered of the files of the disk.
 pub fn push_on_disk(rt: &HostRuntime, body: &[u8], answers: &mut String) -> Result<(), AllocError> {
-    push_gathered(
-        rt.alloc(),
-        body,
-        FilesOnDisk::new(rt.clone()?, String::new(rt.alloc())),
-        answers,
-    )
+    let (_, root) = number_of(body);
+    let root = Items::from_slice(rt.alloc(), root)?;
+    let files = FilesOnDisk::new(rt.alloc(), rt.clone()?, None, root, rt.stdin());
+    push_gathered(rt.alloc(), body, files, answers)
 }
 
 /// Adds the names of the files that are gathered, or the fault; and how often the files were asked. The body of the call has the

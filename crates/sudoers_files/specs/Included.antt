@@ -6,14 +6,14 @@ use Rattle.sudoers_tree.specs.declared.load.NamedFile.{NamedFile}
 use Rattle.sudoers_tree.specs.declared.lead.Lead.{Lead}
 use Rattle.sudoers_tree.specs.declared.lead.Lead.TheVariants.{File, Dir}
 use Rattle.sudoers_tree.specs.Lead.{leads}
-use Rattle.sudoers_files.specs.Shelf.{names_in}
-use Rattle.sudoers_files.specs.Folder.{led_in}
+use Rattle.sudoers_files.specs.Shelf.{wanted_in}
+use Rattle.sudoers_files.specs.Folder.{named_in}
 
--- the names of the files to which a line leads: the named file, also if it is missing; or the files of a folder that are not skipped
+-- the names of the files to which a line leads: the named file, also if it is missing; or the files of a folder that an include of it reads
 abbrev pub led_by : List NamedFile → Option Lead → List (List ℕ)
 led_by files None = []
 led_by files (Some (File name)) = name ∷ []
-led_by files (Some (Dir dir)) = led_in dir (names_in dir files)
+led_by files (Some (Dir dir)) = named_in dir (wanted_in dir files)
 
 -- the names that `names_of` gives for each of these lines of the file `name`, in the order of the lines
 abbrev pub by_lines : (Option Lead → List (List ℕ)) → List ℕ → List (List ℕ) → List (List ℕ)

@@ -1,7 +1,7 @@
 pub mod Shelf
 pub mod Folder
 pub mod Included
-pub mod Skipped
+pub mod Unread
 pub mod Gather
 pub mod Gathers
 pub mod internal

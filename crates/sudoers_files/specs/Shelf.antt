@@ -1,11 +1,13 @@
 -- Files by their names: the files that are known, the counts of their device, and what a call returns.
-use Rattle.std.specs.Prelude.{◌≡◌, ℕ, ◌+◌, ◌-◌, ◌^◌, ◌≤◌, ◌<◌, ◌⊎◌, List, [], ◌∷◌, ◌++◌, length, take, Option, Some, None, Result, Ok, Err, IfOk, IfSome, Vec, if◌then◌else◌}
+use Rattle.std.specs.Prelude.{◌≡◌, ℕ, not, ◌+◌, ◌-◌, ◌^◌, ◌≤◌, ◌<◌, ◌⊎◌, List, [], ◌∷◌, ◌++◌, length, take, Option, Some, None, Result, Ok, Err, IfOk, IfSome, Vec, if◌then◌else◌}
 use Rattle.std.specs.declared.alloc.Global.{Global}
+use Rattle.std.specs.List.{filter}
+use Rattle.std.specs.Option.{option_map}
 use Rattle.std.specs.Str.{bytes_eq}
 use Rattle.sudoers_text.specs.Fault.{text_limit}
 use Rattle.sudoers_tree.specs.declared.load.NamedFile.{NamedFile}
 use Rattle.sudoers_tree.specs.Lead.{folder_of}
-use Rattle.sudoers_tree.specs.Targets.{base_of}
+use Rattle.sudoers_tree.specs.Targets.{base_of, is_base}
 use Rattle.sudoers_files.specs.declared.fault.FileFault.{FileFault}
 use Rattle.sudoers_files.specs.declared.fault.FileFault.TheVariants.{Failed, NoEnd, NoMemory}
 
@@ -53,7 +55,25 @@ pub record Reads (result : Result (Option (List ℕ)) FileFault) (name : List �
   pub told : IfOk result (λ bytes. IfSome old.files (λ files. bytes ≡ front_of name files))
   pub most : IfOk result (λ bytes. IfSome bytes (λ bytes. length bytes ≤ text_limit + 1))
 
--- What a call that reads a folder returns, and what it does to the files.
-pub record Lists (result : Result (Vec (List ℕ) Global) FileFault) (dir : List ℕ) (old new : Shelf) : Type 0 where
+-- the other names, if there is a name
+abbrev unless_empty : List (List ℕ) → List (List ℕ) → Option (List (List ℕ))
+unless_empty [] others = None
+unless_empty (name ∷ names) others = Some others
+
+-- those of these names that an include of the folder reads
+abbrev pub wanted_in : List ℕ → List NamedFile → List (List ℕ)
+wanted_in dir files = filter is_base (names_in dir files)
+
+-- the names of the other files in the folder; none at all if no file is in it, as then there is no such folder
+abbrev pub unread_in : List ℕ → List NamedFile → Option (List (List ℕ))
+unread_in dir files = unless_empty (names_in dir files) (filter (λ base. not (is_base base)) (names_in dir files))
+
+-- What a call that lists a folder returns, and what it does to the files. `names_of` gives the names for files that are known.
+pub record Lists (result : Result (Vec (List ℕ) Global) FileFault) (names_of : List NamedFile → List (List ℕ)) (old new : Shelf) : Type 0 where
   pub counts : Counts result old new
-  pub told : IfOk result (λ names. IfSome old.files (λ files. names.items ≡ names_in dir files))
+  pub told : IfOk result (λ names. IfSome old.files (λ files. names.items ≡ names_of files))
+
+-- the same of the names that an include of the folder does not read
+pub record ListsUnread (result : Result (Option (Vec (List ℕ) Global)) FileFault) (dir : List ℕ) (old new : Shelf) : Type 0 where
+  pub counts : Counts result old new
+  pub told : IfOk result (λ names. IfSome old.files (λ files. option_map (λ (some : Vec (List ℕ) Global). some.items) names ≡ unread_in dir files))

@@ -6,52 +6,88 @@ ghost use Rattle.sudoers_text.specs.Fault.{text_limit};
 use crate::counts::{Counts, read_front};
 use crate::fault::FileFault;
 use crate::files::Files;
-use std::alloc::{AllocError, Global};
+use crate::path::path_below;
+use std::alloc::Global;
 use std::fs;
-use std::io::ErrorKind;
+use std::fs::DirEntry;
+use std::io;
+use std::io::{ErrorKind, Read};
 use std::rt::Files as FileSystem;
-use sudoers_tree::Items;
+use sudoers_tree::{Items, is_base};
 
-/// The files of a disk. A file whose name is not UTF-8 is missing. A name that begins with `/` is read below the folder `top`. With an
-/// empty `top` it is read as it is.
+/// The name of the file that a reader gives.
+pub const STREAM_NAME: &[u8] = b"-";
+
+/// The files of a disk. One of them is the file that a command line names, the root. A root named `-` is what a reader gives. Any other
+/// file has to be a regular file, once links are followed. A file whose name is not UTF-8 is missing.
 #[derive(Drop)]
-pub struct FilesOnDisk<R> {
-    system: R,
-    top: String,
+pub struct FilesOnDisk<S, R> {
+    system: S,
+    top: Option<String>,
+    root: Items<u8>,
+    input: R,
+    asked: Items<u8>,
     counts: Counts,
 }
 
-impl<R: FileSystem + AllocGlobal + Clone + Drop> FilesOnDisk<R> {
-    /// Returns the files of `system`. Names that begin with `/` are read below `top`. No file was read yet.
-    pub fn new(system: R, top: String) -> FilesOnDisk<R>
-        ensures { result ≡ record { system = system; top = top; counts = record { failures = 0; endless = 0 } } }
+/// Which names of a folder are listed.
+#[derive(Clone, Copy)]
+enum Listed {
+    /// Those of regular files.
+    Regular,
+    /// Those of regular files that an include of the folder reads.
+    Wanted,
+    /// Those that an include of the folder does not read.
+    Unread,
+}
+
+impl<S: FileSystem + AllocGlobal + Clone + Drop, R: Read + Drop> FilesOnDisk<S, R> {
+    /// Returns the files of `system`, of which `root` is the root. With the folder `top` they are those of a system whose root and current
+    /// folder are `top`. `input` gives the root if its name is `-`. No file was read yet.
+    pub fn new(
+        alloc: Global,
+        system: S,
+        top: Option<String>,
+        root: Items<u8>,
+        input: R,
+    ) -> FilesOnDisk<S, R>
+        ensures { result.counts ≡ record { failures = 0; endless = 0 } }
     {
         FilesOnDisk {
             system,
             top,
+            root,
+            input,
+            asked: Items::new(alloc),
             counts: Counts::new(),
         }
     }
 
+    /// Returns the name of the file or the folder that was asked for last.
+    pub fn asked(&self) -> &[u8] {
+        self.asked.as_slice()
+    }
+
     /// Returns the path on the disk of the file or the folder `name`.
-    fn path(&self, alloc: Global, name: &str) -> Result<String, AllocError> {
-        let mut path = String::new(alloc);
-        if name.starts_with('/') {
-            path.push_str(self.top.as_str())?;
+    fn path_of(&self, alloc: Global, name: &str) -> io::Result<String> {
+        match &self.top {
+            Some(top) => path_below(&self.system, alloc, top.as_str(), name),
+            None => Ok(String::from_str(alloc, name)?),
         }
-        path.push_str(name)?;
-        Ok(path)
     }
 
     /// Returns the bytes of the file `name`, up to the first past the limit of a text. Returns nothing if the file is missing.
-    fn read_file(&self, alloc: Global, name: &[u8]) -> Result<Option<Items<u8>>, FileFault>
+    fn read_file(&mut self, alloc: Global, name: &[u8]) -> Result<Option<Items<u8>>, FileFault>
         ensures { IfOk result (λ bytes. IfSome bytes (λ bytes. length bytes ≤ text_limit + 1)) }
     {
+        let is_root = name == self.root.as_slice();
+        if is_root && name == STREAM_NAME {
+            return Ok(Some(read_front(alloc, &mut self.input)?));
+        }
         let Ok(name) = str::from_utf8(name) else {
             return Ok(None);
         };
-        let path = self.path(alloc, name)?;
-        match fs::open(&self.system, path.as_str()) {
+        match self.open(alloc, name, is_root) {
             Ok(mut file) => Ok(Some(read_front(alloc, &mut file)?)),
             Err(error) => {
                 none_there(error.kind())?;
@@ -60,41 +96,118 @@ impl<R: FileSystem + AllocGlobal + Clone + Drop> FilesOnDisk<R> {
         }
     }
 
-    /// Returns the names, without their folder, of the regular files in the folder `dir`. A link to a regular file counts as one.
-    fn read_folder(&self, alloc: Global, dir: &[u8]) -> Result<Vec<Items<u8>>, FileFault> {
-        let mut names = Vec::new(alloc);
+    /// Opens the file `name`. Unless it is the root, it has to be a regular file.
+    fn open(&self, alloc: Global, name: &str, is_root: bool) -> io::Result<S::File> {
+        let path = self.path_of(alloc, name)?;
+        if !is_root && !fs::metadata(&self.system, path.as_str())?.is_file() {
+            return Err(io::Error::from(ErrorKind::Other));
+        }
+        fs::open(&self.system, path.as_str())
+    }
+
+    /// Returns those names in the folder `dir` that are `listed`, without the folder. Returns nothing if the folder is missing.
+    fn list_folder(
+        &self,
+        alloc: Global,
+        dir: &[u8],
+        listed: Listed,
+    ) -> Result<Option<Vec<Items<u8>>>, FileFault> {
         let Ok(dir) = str::from_utf8(dir) else {
-            return Ok(names);
+            return Ok(None);
         };
-        let mut path = self.path(alloc, dir)?;
-        path.push('/')?;
-        let entries = match fs::read_dir(&self.system, path.as_str()) {
+        let mut folder = String::from_str(alloc, dir)?;
+        folder.push('/')?;
+        let entries = match self.open_folder(alloc, folder.as_str()) {
             Ok(entries) => entries,
             Err(error) => {
                 none_there(error.kind())?;
-                return Ok(names);
+                return Ok(None);
             }
         };
+        let mut names = Vec::new(alloc);
         for entry in entries {
-            let entry = match entry {
-                Ok(entry) => entry,
-                Err(error) if error.kind() == ErrorKind::OutOfMemory => return Err(
-                    FileFault::NoMemory,
-                ),
-                Err(_) => return Err(FileFault::Failed),
-            };
-            if is_regular(&self.system, entry.path().to_string_lossy())? {
+            let entry = known_entry(entry)?;
+            if self.is_listed(alloc, folder.as_str(), &entry, listed)? {
                 names.push(Items::from_slice(alloc, entry.file_name().as_bytes())?)?;
             }
         }
-        Ok(names)
+        Ok(Some(names))
+    }
+
+    /// Opens the folder `folder`, whose name ends in `/`.
+    fn open_folder(&self, alloc: Global, folder: &str) -> io::Result<fs::ReadDir<S, Global>> {
+        let path = self.path_of(alloc, folder)?;
+        fs::read_dir(&self.system, path.as_str())
+    }
+
+    /// Returns whether `entry` of the folder `folder` is `listed`. Looks at no file whose name decides that.
+    fn is_listed(
+        &self,
+        alloc: Global,
+        folder: &str,
+        entry: &DirEntry<S, Global>,
+        listed: Listed,
+    ) -> Result<bool, FileFault> {
+        let is_base = is_base(entry.file_name().as_bytes());
+        match listed {
+            Listed::Wanted if !is_base => Ok(false),
+            Listed::Unread if !is_base => Ok(true),
+            Listed::Regular | Listed::Wanted => self.is_regular(alloc, folder, entry),
+            Listed::Unread => Ok(!self.is_regular(alloc, folder, entry)?),
+        }
+    }
+
+    /// Returns whether `entry` of the folder `folder` is a regular file, or a link that leads to one.
+    fn is_regular(
+        &self,
+        alloc: Global,
+        folder: &str,
+        entry: &DirEntry<S, Global>,
+    ) -> Result<bool, FileFault> {
+        match self.look(alloc, folder, entry) {
+            Ok(metadata) => Ok(metadata.is_file()),
+            Err(error) if error.kind() == ErrorKind::FilesystemLoop => Ok(false),
+            Err(error) => {
+                none_there(error.kind())?;
+                Ok(false)
+            }
+        }
+    }
+
+    /// Returns what the disk has of `entry` of the folder `folder`, or of the file or folder to which it leads as a link.
+    fn look(
+        &self,
+        alloc: Global,
+        folder: &str,
+        entry: &DirEntry<S, Global>,
+    ) -> io::Result<fs::Metadata> {
+        if self.top.is_none() {
+            return fs::metadata(&self.system, entry.path());
+        }
+        let metadata = entry.metadata()?;
+        if !metadata.is_symlink() {
+            return Ok(metadata);
+        }
+        let mut name = String::from_str(alloc, folder)?;
+        name.push_str(entry.file_name())?;
+        let path = self.path_of(alloc, name.as_str())?;
+        fs::metadata(&self.system, path.as_str())
+    }
+
+    /// Keeps the name of the file or the folder that is asked for.
+    fn note_asked(&mut self, alloc: Global, name: &[u8]) -> Result<(), FileFault>
+        ensures { self.new.counts ≡ self.old.counts }
+    {
+        self.asked = Items::from_slice(alloc, name)?;
+        Ok(())
     }
 }
 
-impl<R: FileSystem + AllocGlobal + Clone + Drop> Files for FilesOnDisk<R> {
+impl<S: FileSystem + AllocGlobal + Clone + Drop, R: Read + Drop> Files for FilesOnDisk<S, R> {
     ghost shelf = { λ disk. record { files = None; failures = disk.counts.failures; endless = disk.counts.endless } };
 
     fn read(&mut self, alloc: Global, name: &[u8]) -> Result<Option<Items<u8>>, FileFault> {
+        self.note_asked(alloc, name)?;
         match self.read_file(alloc, name) {
             Ok(bytes) => Ok(bytes),
             Err(fault) => Err(self.counts.count(fault)),
@@ -102,7 +215,26 @@ impl<R: FileSystem + AllocGlobal + Clone + Drop> Files for FilesOnDisk<R> {
     }
 
     fn names(&mut self, alloc: Global, dir: &[u8]) -> Result<Vec<Items<u8>>, FileFault> {
-        match self.read_folder(alloc, dir) {
+        self.note_asked(alloc, dir)?;
+        match self.list_folder(alloc, dir, Listed::Regular) {
+            Ok(Some(names)) => Ok(names),
+            Ok(None) => Ok(Vec::new(alloc)),
+            Err(fault) => Err(self.counts.count(fault)),
+        }
+    }
+
+    fn wanted(&mut self, alloc: Global, dir: &[u8]) -> Result<Vec<Items<u8>>, FileFault> {
+        self.note_asked(alloc, dir)?;
+        match self.list_folder(alloc, dir, Listed::Wanted) {
+            Ok(Some(names)) => Ok(names),
+            Ok(None) => Ok(Vec::new(alloc)),
+            Err(fault) => Err(self.counts.count(fault)),
+        }
+    }
+
+    fn unread(&mut self, alloc: Global, dir: &[u8]) -> Result<Option<Vec<Items<u8>>>, FileFault> {
+        self.note_asked(alloc, dir)?;
+        match self.list_folder(alloc, dir, Listed::Unread) {
             Ok(names) => Ok(names),
             Err(fault) => Err(self.counts.count(fault)),
         }
@@ -125,14 +257,13 @@ fn none_there(kind: ErrorKind) -> Result<(), FileFault> {
     }
 }
 
-/// Returns whether the path `path` leads to a regular file.
-fn is_regular<R: FileSystem>(system: &R, path: &str) -> Result<bool, FileFault> {
-    match fs::metadata(system, path) {
-        Ok(metadata) => Ok(metadata.is_file()),
-        Err(error) if error.kind() == ErrorKind::FilesystemLoop => Ok(false),
-        Err(error) => {
-            none_there(error.kind())?;
-            Ok(false)
-        }
+/// Returns an entry of a folder, or why it cannot be read. A name that is not UTF-8 is `Failed`.
+fn known_entry<S: FileSystem>(
+    entry: io::Result<DirEntry<S, Global>>,
+) -> Result<DirEntry<S, Global>, FileFault> {
+    match entry {
+        Ok(entry) => Ok(entry),
+        Err(error) if error.kind() == ErrorKind::OutOfMemory => Err(FileFault::NoMemory),
+        Err(_) => Err(FileFault::Failed),
     }
 }

@@ -1,7 +1,7 @@
 //! Files by their names.
 
 ghost use Rattle.std.specs.Prelude.{◌≡◌};
-ghost use Rattle.sudoers_files.specs.Shelf.{Lists, Reads, Shelf};
+ghost use Rattle.sudoers_files.specs.Shelf.{Lists, ListsUnread, Reads, Shelf, names_in, wanted_in};
 
 use crate::fault::FileFault;
 use std::alloc::Global;
@@ -21,13 +21,32 @@ pub trait Files {
         ensures { Reads result name.now (shelf self.old) (shelf self.new) };
 
     /// Returns the names, without their folder, of the regular files in the folder `dir`. Returns no name if the folder is missing. The
-    /// name `dir` does not end in `/`.
+    /// name `dir` does not end in `/`; that of the folder `/` is empty.
     ///
     /// # Errors
     ///
     /// [`FileFault`].
     fn names(&mut self, alloc: Global, dir: &[u8]) -> Result<Vec<Items<u8>>, FileFault>
-        ensures { Lists result dir.now (shelf self.old) (shelf self.new) };
+        ensures { Lists result (names_in dir.now) (shelf self.old) (shelf self.new) };
+
+    /// Returns those of the names [`Files::names`] that an include of the folder `dir` reads: they have no `.` and do not end in `~`. Looks
+    /// at no other files. The name `dir` does not end in `/`; that of the folder `/` is empty.
+    ///
+    /// # Errors
+    ///
+    /// [`FileFault`].
+    fn wanted(&mut self, alloc: Global, dir: &[u8]) -> Result<Vec<Items<u8>>, FileFault>
+        ensures { Lists result (wanted_in dir.now) (shelf self.old) (shelf self.new) };
+
+    /// Returns the other names in the folder `dir`, without their folder: those that contain `.` or end in `~`, and those of links, folders
+    /// and devices that are no regular file. Returns nothing if the folder is missing. The name `dir` does not end in `/`; that of the
+    /// folder `/` is empty.
+    ///
+    /// # Errors
+    ///
+    /// [`FileFault`].
+    fn unread(&mut self, alloc: Global, dir: &[u8]) -> Result<Option<Vec<Items<u8>>>, FileFault>
+        ensures { ListsUnread result dir.now (shelf self.old) (shelf self.new) };
 
     /// Returns how often the device failed. The count stops at the greatest number.
     fn failures(&self) -> u64

@@ -1,12 +1,15 @@
 //! The files of an included folder.
 
-ghost use Rattle.std.specs.Prelude.{◌≡◌, ◌++◌, ◌∷◌, [], ℕ, true, false, Vec, map, IfOk, OnOk};
+ghost use Rattle.std.specs.Prelude.{◌≡◌, ◌++◌, ◌∷◌, [], ℕ, Vec, map, IfOk, OnOk};
+ghost use Rattle.std.specs.Cmp.Lexicographic.{slice_cmp};
+ghost use Rattle.std.specs.BTreeSet.{insert_key};
+ghost use Rattle.std.specs.Ordering.{nat_cmp};
 ghost use Rattle.std.specs.declared.alloc.Global.{Global as GlobalOf};
-ghost use Rattle.sudoers_files.specs.Folder.{in_order, is_wanted, led_in, name_in, skipped_in, with_base};
+ghost use Rattle.sudoers_files.specs.Folder.{in_order, name_in, named_in};
 
 use std::alloc::{AllocError, Global};
 use std::collections::BTreeSet;
-use sudoers_tree::{Items, is_base};
+use sudoers_tree::Items;
 
 /// Returns the whole name of the file `base` in the folder `dir`.
 fn name_in(alloc: Global, dir: &[u8], base: &[u8]) -> Result<Items<u8>, AllocError>
@@ -18,84 +21,46 @@ fn name_in(alloc: Global, dir: &[u8], base: &[u8]) -> Result<Items<u8>, AllocErr
     Ok(Items::from_vec(name))
 }
 
-/// If `led`, returns whether an include of a folder leads to the file `base` in it. Otherwise returns whether it skips that file.
-fn is_wanted(base: &[u8], led: bool) -> bool
-    ensures { result ≡ is_wanted led base.now }
-{
-    if led { is_base(base) } else { !is_base(base) }
-}
-
-/// Returns those of the names `bases` that are wanted by `led`, in the order of their bytes.
-fn in_order(alloc: Global, bases: &[Items<u8>], led: bool) -> Result<BTreeSet<Vec<u8>>, AllocError>
-    ensures { IfOk result (λ order. map (λ (base : Vec ℕ GlobalOf). base.items) order.keys ≡ in_order led [] bases.now) }
+/// Returns the names `names` in the order of their bytes, each once.
+///
+/// # Errors
+///
+/// Memory ran out.
+pub fn in_order(alloc: Global, names: &[Items<u8>]) -> Result<BTreeSet<Vec<u8>>, AllocError>
+    ensures { IfOk result (λ order. map (λ (name : Vec ℕ GlobalOf). name.items) order.keys ≡ in_order [] names.now) }
 {
     let mut order = BTreeSet::new(alloc);
-    for base in bases {
-        put(alloc, base.as_slice(), led, &mut order)?;
+    for name in names {
+        put(alloc, name.as_slice(), &mut order)?;
     }
     Ok(order)
 }
 
-/// Inserts the name `base` into `order`, if it is wanted by `led`. The names of `order` are in the order of their bytes.
-fn put(
-    alloc: Global,
-    base: &[u8],
-    led: bool,
-    order: &mut BTreeSet<Vec<u8>>,
-) -> Result<(), AllocError>
+/// Inserts the name `name` into `order`, whose names are in the order of their bytes.
+fn put(alloc: Global, name: &[u8], order: &mut BTreeSet<Vec<u8>>) -> Result<(), AllocError>
     ensures { OnOk result (map (λ (name : Vec ℕ GlobalOf). name.items) order.new.keys
-        ≡ with_base led base.now (map (λ (name : Vec ℕ GlobalOf). name.items) order.old.keys)) }
+        ≡ insert_key (slice_cmp nat_cmp) (map (λ (name : Vec ℕ GlobalOf). name.items) order.old.keys) name.now) }
 {
-    if !is_wanted(base, led) {
-        return Ok(());
-    }
-    order.insert(Vec::from_slice(alloc, base)?)?;
+    order.insert(Vec::from_slice(alloc, name)?)?;
     Ok(())
 }
 
-/// Appends to `names` the whole names of those files `bases` of the folder `dir` that are wanted by `led`, in the order of their bytes.
-fn append_in_order(
+/// Returns the whole names of the files `bases` of the folder `dir`, in the order of their bytes.
+///
+/// # Errors
+///
+/// Memory ran out.
+pub fn named_in(
     alloc: Global,
     dir: &[u8],
     bases: &[Items<u8>],
-    led: bool,
-    names: &mut Vec<Items<u8>>,
-) -> Result<(), AllocError>
-    ensures { OnOk result (names.new.items ≡ names.old.items ++ map (name_in dir.now) (in_order led [] bases.now)) }
+) -> Result<Vec<Items<u8>>, AllocError>
+    ensures { IfOk result (λ names. names.items ≡ named_in dir.now bases.now) }
 {
-    let mut order = in_order(alloc, bases, led)?;
+    let mut order = in_order(alloc, bases)?;
+    let mut names = Vec::new(alloc);
     while let Some(base) = order.pop_first() {
         names.push(name_in(alloc, dir, base.as_slice())?)?;
     }
-    Ok(())
-}
-
-/// Returns the whole names of those files `bases` of the folder `dir` to which an include of it leads, in the order of their bytes.
-///
-/// # Errors
-///
-/// Memory ran out.
-pub fn led_in(alloc: Global, dir: &[u8], bases: &[Items<u8>]) -> Result<Vec<Items<u8>>, AllocError>
-    ensures { IfOk result (λ names. names.items ≡ led_in dir.now bases.now) }
-{
-    let mut names = Vec::new(alloc);
-    append_in_order(alloc, dir, bases, true, &mut names)?;
     Ok(names)
-}
-
-/// Appends to `names` the whole names of those files `bases` of the folder `dir` that an include of it skips, in the order of their
-/// bytes.
-///
-/// # Errors
-///
-/// Memory ran out.
-pub fn append_skipped(
-    alloc: Global,
-    dir: &[u8],
-    bases: &[Items<u8>],
-    names: &mut Vec<Items<u8>>,
-) -> Result<(), AllocError>
-    ensures { OnOk result (names.new.items ≡ names.old.items ++ skipped_in dir.now bases.now) }
-{
-    append_in_order(alloc, dir, bases, false, names)
 }

@@ -4,15 +4,18 @@ ghost use Rattle.std.specs.Prelude.{◌≡◌, ◌⊎◌, ◌++◌, ◌∷◌, [
 ghost use Rattle.sudoers_tree.specs.declared.load.NamedFile.{NamedFile as NamedFileOf};
 ghost use Rattle.sudoers_files.specs.Gather.{Asks, IsOutside, gathered, take_file, visit, visit_each};
 ghost use Rattle.sudoers_files.specs.Included.{included_by, led_by};
+ghost use Rattle.sudoers_files.specs.Folder.{named_in};
 ghost use Rattle.sudoers_tree.specs.Lead.{leads};
-ghost use Rattle.sudoers_files.specs.Shelf.{front_of};
-ghost use Rattle.sudoers_files.specs.internal.Gathering.{Comes};
+ghost use Rattle.sudoers_files.specs.Shelf.{front_of, wanted_in};
+ghost use Rattle.sudoers_files.specs.internal.Gathering.{Comes, IsSettled};
 
 use crate::fault::GatherFault;
 use crate::files::Files;
-use crate::included::{include_lines, led_by};
+use crate::folder::named_in;
+use crate::included::include_lines;
 use std::alloc::Global;
-use sudoers_tree::{FILE_LIMIT, Items, NamedFile, has_name};
+use std::collections::BTreeSet;
+use sudoers_tree::{FILE_LIMIT, Items, Lead, NamedFile, has_name, leads};
 
 /// Returns the policy file `root` and the files to which it leads, by itself or through others (sudoers(5), Including other files from
 /// within sudoers). Each comes once, in the order of the include lines. Missing files are left out. A file that cannot be cut into
@@ -36,9 +39,29 @@ pub fn gather<F: Files>(
     let Some(bytes) = read(alloc, files, root)? else {
         return Err(GatherFault::NoRoot);
     };
-    let mut found = Vec::new(alloc);
-    take_file(alloc, FILE_LIMIT, files, root, bytes, &mut found)?;
-    Ok(found)
+    let mut gathered = Gathered::new(alloc);
+    take_file(alloc, FILE_LIMIT, files, root, bytes, &mut gathered)?;
+    Ok(gathered.found)
+}
+
+/// The files that are gathered so far.
+#[derive(Drop)]
+struct Gathered {
+    found: Vec<NamedFile>,
+    /// Folders each of whose files is among these, or missing.
+    folders: BTreeSet<Vec<u8>>,
+}
+
+impl Gathered {
+    /// Returns no files.
+    fn new(alloc: Global) -> Gathered
+        ensures { (result.found.items ≡ []) × (result.folders.keys ≡ []) }
+    {
+        Gathered {
+            found: Vec::new(alloc),
+            folders: BTreeSet::new(alloc),
+        }
+    }
 }
 
 /// Returns the bytes of the file `name`, as [`Files::read`] does.
@@ -56,75 +79,102 @@ fn read<F: Files>(
 }
 
 #[cycle(gather)]
-/// Appends the file `name` with the bytes `bytes` to the files `found`, and then the files to which it leads. Below it files may be
-/// nested `left` levels deep.
+/// Appends the file `name` with the bytes `bytes` to the files that are gathered, and then the files to which it leads. Below it files may
+/// be nested `left` levels deep.
 fn take_file<F: Files>(
     alloc: Global,
     left: usize,
     files: &mut F,
     name: &[u8],
     bytes: Items<u8>,
-    found: &mut Vec<NamedFile>,
+    gathered: &mut Gathered,
 ) -> Result<(), GatherFault>
-    ensures comes { (known : List NamedFileOf) → (F.shelf files.old).files ≡ Some known
-        → Comes result found.new.items (take_file (visit left known) known found.old.items (record { name = name.now; bytes = bytes })) }
+    ensures comes { (known : List NamedFileOf) → (F.shelf files.old).files ≡ Some known → IsSettled known gathered.old
+        → Comes known result gathered.new (take_file (visit left known) known gathered.old.found.items (record { name = name.now; bytes = bytes })) }
     ensures asks { Asks result (F.shelf files.old) (F.shelf files.new) }
 {
     let lines = include_lines(alloc, name, bytes.as_slice())?;
-    found.push(NamedFile {
+    gathered.found.push(NamedFile {
         name: Items::from_slice(alloc, name)?,
         bytes,
     })?;
     for line in lines.as_slice() {
-        follow(alloc, left, files, name, line.as_slice(), found)?;
+        follow(alloc, left, files, name, line.as_slice(), gathered)?;
     }
     Ok(())
 }
 
 #[cycle(gather)]
-/// Appends to `found` the files to which the line `line` of the file `name` leads, by itself or through others. Below the file `name`
-/// files may be nested `left` levels deep.
+/// Appends the files to which the line `line` of the file `name` leads, and those to which they lead. They may be nested `left` levels
+/// deep.
 fn follow<F: Files>(
     alloc: Global,
     left: usize,
     files: &mut F,
     name: &[u8],
     line: &[u8],
-    found: &mut Vec<NamedFile>,
+    gathered: &mut Gathered,
 ) -> Result<(), GatherFault>
-    ensures comes { (known : List NamedFileOf) → (F.shelf files.old).files ≡ Some known
-        → Comes result found.new.items (visit_each (visit left known) found.old.items (led_by known (leads name.now line.now))) }
+    ensures comes { (known : List NamedFileOf) → (F.shelf files.old).files ≡ Some known → IsSettled known gathered.old
+        → Comes known result gathered.new (visit_each (visit left known) gathered.old.found.items (led_by known (leads name.now line.now))) }
     ensures asks { Asks result (F.shelf files.old) (F.shelf files.new) }
 {
-    let names = led_by(alloc, files, name, line)?;
-    for name in names.as_slice() {
-        visit(alloc, left, files, name.as_slice(), found)?;
+    match leads(alloc, name, line)? {
+        None => Ok(()),
+        Some(Lead::File(name)) => visit(alloc, left, files, name.as_slice(), gathered),
+        Some(Lead::Dir(dir)) => enter(alloc, left, files, dir.as_slice(), gathered),
     }
+}
+
+#[cycle(gather)]
+/// Appends the files that an include of the folder `dir` reads, and those to which they lead. They may be nested `left` levels deep.
+/// Does not list a folder of which no file is left.
+fn enter<F: Files>(
+    alloc: Global,
+    left: usize,
+    files: &mut F,
+    dir: &[u8],
+    gathered: &mut Gathered,
+) -> Result<(), GatherFault>
+    ensures comes { (known : List NamedFileOf) → (F.shelf files.old).files ≡ Some known → IsSettled known gathered.old
+        → Comes known result gathered.new (visit_each (visit left known) gathered.old.found.items (named_in dir.now (wanted_in dir.now known))) }
+    ensures asks { Asks result (F.shelf files.old) (F.shelf files.new) }
+{
+    let folder = Vec::from_slice(alloc, dir)?;
+    if gathered.folders.contains(&folder) {
+        return Ok(());
+    }
+    let bases = files.wanted(alloc, dir)?;
+    let names = named_in(alloc, dir, bases.as_slice())?;
+    for name in names.as_slice() {
+        visit(alloc, left, files, name.as_slice(), gathered)?;
+    }
+    gathered.folders.insert(folder)?;
     Ok(())
 }
 
 #[cycle(gather)]
-/// Appends to `found` the file `name` and the files to which it leads, where files may be nested `left` levels deeper. Appends nothing
-/// if the file is missing, or found already.
+/// Appends the file `name` and the files to which it leads, where files may be nested `left` levels deeper. Appends nothing if the file is
+/// missing, or gathered already.
 fn visit<F: Files>(
     alloc: Global,
     left: usize,
     files: &mut F,
     name: &[u8],
-    found: &mut Vec<NamedFile>,
+    gathered: &mut Gathered,
 ) -> Result<(), GatherFault>
-    ensures comes { (known : List NamedFileOf) → (F.shelf files.old).files ≡ Some known
-        → Comes result found.new.items (visit left known found.old.items name.now) }
+    ensures comes { (known : List NamedFileOf) → (F.shelf files.old).files ≡ Some known → IsSettled known gathered.old
+        → Comes known result gathered.new (visit left known gathered.old.found.items name.now) }
     ensures asks { Asks result (F.shelf files.old) (F.shelf files.new) }
 {
-    if has_name(found.as_slice(), name) {
+    if has_name(gathered.found.as_slice(), name) {
         return Ok(());
     }
     let Some(bytes) = read(alloc, files, name)? else {
         return Ok(());
     };
-    if left == 0 || found.len() >= FILE_LIMIT {
+    if left == 0 || gathered.found.len() >= FILE_LIMIT {
         return Err(GatherFault::TooManyFiles);
     }
-    take_file(alloc, left - 1, files, name, bytes, found)
+    take_file(alloc, left - 1, files, name, bytes, gathered)
 }

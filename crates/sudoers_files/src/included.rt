@@ -1,21 +1,15 @@
-//! The files to which the lines of a file lead.
+//! The lines of a file that lead somewhere.
 
-ghost use Rattle.std.specs.Prelude.{◌≡◌, ◌++◌, [], ℕ, List, Option, Some, None, IfErr, IfOk, OnOk};
+ghost use Rattle.std.specs.Prelude.{◌≡◌, ◌++◌, [], ℕ, List, Option, None, IfOk, OnOk};
 ghost use Rattle.sudoers_text.specs.Cut.{cut_of};
-ghost use Rattle.sudoers_tree.specs.declared.load.NamedFile.{NamedFile as NamedFileOf};
 ghost use Rattle.sudoers_tree.specs.declared.lead.Lead.{Lead as LeadOf};
 ghost use Rattle.sudoers_tree.specs.Lead.{leads};
-ghost use Rattle.sudoers_files.specs.Gather.{Asks, IsOutside};
-ghost use Rattle.sudoers_files.specs.Shelf.{names_in};
-ghost use Rattle.sudoers_files.specs.Included.{by_lines, led_by, lines_of};
+ghost use Rattle.sudoers_files.specs.Included.{by_lines, lines_of};
 
-use crate::fault::GatherFault;
-use crate::files::Files;
-use crate::folder::led_in;
 use std::alloc::{AllocError, Global};
 use sudoers_text::laws::cut_is;
 use sudoers_text::{Lines, TextFault, cut};
-use sudoers_tree::{Items, Lead, leads, may_lead};
+use sudoers_tree::{Items, leads, may_lead};
 
 /// Returns those lines of the file `name` with the bytes `bytes` that lead somewhere. If the bytes cannot be cut into lines, returns none.
 ///
@@ -71,48 +65,4 @@ fn keep(
     };
     kept.push(Items::from_slice(alloc, line)?)?;
     Ok(())
-}
-
-/// Returns the names of the files in the folder `dir`, as [`Files::names`] does.
-pub fn names_in<F: Files>(
-    alloc: Global,
-    files: &mut F,
-    dir: &[u8],
-) -> Result<Vec<Items<u8>>, GatherFault>
-    ensures told { (known : List NamedFileOf) → (F.shelf files.old).files ≡ Some known
-        → IfOk result (λ names. names.items ≡ names_in dir.now known) }
-    ensures asks { Asks result (F.shelf files.old) (F.shelf files.new) }
-    ensures named { IfErr result IsOutside }
-{
-    Ok(files.names(alloc, dir)?)
-}
-
-/// Returns the names of the files to which the line `line` of the file `name` leads.
-///
-/// # Errors
-///
-/// `Device`: a folder cannot be read. `NoMemory`: memory ran out.
-pub fn led_by<F: Files>(
-    alloc: Global,
-    files: &mut F,
-    name: &[u8],
-    line: &[u8],
-) -> Result<Vec<Items<u8>>, GatherFault>
-    ensures told { (known : List NamedFileOf) → (F.shelf files.old).files ≡ Some known
-        → IfOk result (λ names. names.items ≡ led_by known (leads name.now line.now)) }
-    ensures asks { Asks result (F.shelf files.old) (F.shelf files.new) }
-    ensures named { IfErr result IsOutside }
-{
-    let mut names = Vec::new(alloc);
-    match leads(alloc, name, line)? {
-        None => Ok(names),
-        Some(Lead::File(name)) => {
-            names.push(name)?;
-            Ok(names)
-        }
-        Some(Lead::Dir(dir)) => {
-            let bases = names_in(alloc, files, dir.as_slice())?;
-            Ok(led_in(alloc, dir.as_slice(), bases.as_slice())?)
-        }
-    }
 }

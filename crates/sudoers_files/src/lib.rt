@@ -10,13 +10,12 @@ mod gathering;
 mod included;
 pub mod laws;
 mod memory;
-mod skipping;
-mod stream;
+mod path;
+mod unread;
 
-pub use disk::FilesOnDisk;
+pub use disk::{FilesOnDisk, STREAM_NAME};
 pub use fault::{FileFault, GatherFault};
 pub use files::Files;
 pub use gathering::gather;
 pub use memory::FilesInMemory;
-pub use skipping::skipped;
-pub use stream::{FileOfStream, STREAM_NAME};
+pub use unread::{Unread, find_unread};

@@ -2,13 +2,16 @@
 
 ghost use Rattle.std.specs.Prelude.{◌≡◌, ◌++◌, ◌∷◌, [], Some, IfOk, MatchOption, None};
 ghost use Rattle.std.specs.Str.{bytes_eq};
-ghost use Rattle.sudoers_files.specs.Shelf.{front_of, names_in};
+ghost use Rattle.sudoers_files.specs.Shelf.{front_of, names_in, unread_in, wanted_in};
+ghost use Rattle.sudoers_tree.specs.Targets.{is_base};
+ghost use Rattle.std.specs.List.{filter};
+ghost use Rattle.std.specs.Option.{option_map};
 
 use crate::fault::FileFault;
 use crate::files::Files;
 use std::alloc::{AllocError, Global};
 use sudoers_text::TEXT_LIMIT;
-use sudoers_tree::{Items, NamedFile, base_of, folder_of};
+use sudoers_tree::{Items, NamedFile, base_of, folder_of, is_base};
 
 /// Files in memory. The name of a file gives its folder. Of two files with one name, the first counts.
 #[derive(Drop)]
@@ -37,6 +40,19 @@ impl Files for FilesInMemory {
 
     fn names(&mut self, alloc: Global, dir: &[u8]) -> Result<Vec<Items<u8>>, FileFault> {
         Ok(names_in(alloc, self.files.as_slice(), dir)?)
+    }
+
+    fn wanted(&mut self, alloc: Global, dir: &[u8]) -> Result<Vec<Items<u8>>, FileFault> {
+        let names = names_in(alloc, self.files.as_slice(), dir)?;
+        Ok(bases_of(alloc, names, true)?)
+    }
+
+    fn unread(&mut self, alloc: Global, dir: &[u8]) -> Result<Option<Vec<Items<u8>>>, FileFault> {
+        let names = names_in(alloc, self.files.as_slice(), dir)?;
+        if names.is_empty() {
+            return Ok(None);
+        }
+        Ok(Some(bases_of(alloc, names, false)?))
     }
 
     fn failures(&self) -> u64 {
@@ -79,4 +95,21 @@ fn names_in(alloc: Global, files: &[NamedFile], dir: &[u8]) -> Result<Vec<Items<
         }
     }
     Ok(names)
+}
+
+/// Returns those of the names `names` that an include of their folder reads, or with `read` false the others.
+fn bases_of(
+    alloc: Global,
+    names: Vec<Items<u8>>,
+    read: bool,
+) -> Result<Vec<Items<u8>>, AllocError>
+    ensures { IfOk result (λ bases. bases.items ≡ filter (λ base. is_base base == read) names.items) }
+{
+    let mut bases = Vec::new(alloc);
+    for name in names {
+        if is_base(name.as_slice()) == read {
+            bases.push(name)?;
+        }
+    }
+    Ok(bases)
 }

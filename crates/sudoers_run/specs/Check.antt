@@ -1,13 +1,16 @@
 -- What `check` writes for a policy.
 use Rattle.std.specs.Prelude.{ℕ, Bool, if◌then◌else◌, List, [], ◌∷◌, ◌++◌, codes, Result, Ok, Err}
+use Rattle.std.specs.List.{flat_map}
 use Rattle.sudoers_line.specs.Piece.{has_byte}
 use Rattle.sudoers_tree.specs.declared.load.NamedFile.{NamedFile}
 use Rattle.sudoers_tree.specs.declared.load_fault.LoadFault.{LoadFault}
 use Rattle.sudoers_tree.specs.Load.{Loaded, has_name, load_of}
-use Rattle.sudoers_tree.specs.Targets.{base_of}
+use Rattle.sudoers_tree.specs.Targets.{base_of, is_base}
 use Rattle.sudoers_check.specs.Report.{report_of, report_text, is_fine}
 use Rattle.sudoers_files.specs.Gather.{gathered}
-use Rattle.sudoers_files.specs.Skipped.{skipped}
+use Rattle.sudoers_files.specs.declared.unread.Unread.{Unread}
+use Rattle.sudoers_files.specs.declared.unread.Unread.TheVariants.{Folder, File}
+use Rattle.sudoers_files.specs.Unread.{unread}
 use Rattle.sudoers_run.specs.declared.fault.LayerFault.{LayerFault}
 use Rattle.sudoers_run.specs.declared.fault.ToolFault.{ToolFault}
 use Rattle.sudoers_run.specs.declared.words.CheckWords.{CheckWords}
@@ -29,22 +32,28 @@ check_status strict (Err fault) = 1
 abbrev pub status_of : Bool → List ℕ → List NamedFile → Result ℕ LayerFault
 status_of strict root known = of_files (λ policy. Ok (check_status strict policy)) root known
 
--- why an include of its folder skips the file with this name
-abbrev pub skip_reason : List ℕ → List ℕ
-skip_reason name = if has_byte 46 (base_of name) then codes "contains '.'" else codes "ends in '~'"
+-- why an include of its folder does not read the file with this name
+abbrev pub why_unread : List ℕ → List ℕ
+why_unread name =
+    if is_base (base_of name) then codes "no regular file"
+    else (if has_byte 46 (base_of name) then codes "its name contains '.'" else codes "its name ends in '~'")
 
--- the line for a skipped file
-abbrev pub skipped_line : List ℕ → List ℕ
-skipped_line name = name ++ codes ": not read: its name " ++ skip_reason name ++ codes "\n"
+-- the line that says that a file or a folder is not read, and why
+abbrev pub unread_line : List ℕ → List ℕ → List ℕ
+unread_line name reason = name ++ codes ": not read: " ++ reason ++ codes "\n"
 
--- the lines for those of these files that are not among the files `found`: a skipped file may be included by its name
-abbrev pub skipped_text : List NamedFile → List (List ℕ) → List ℕ
-skipped_text found [] = []
-skipped_text found (name ∷ names) = (if has_name name found then [] else skipped_line name) ++ skipped_text found names
+-- the line for a missing folder, or for a file unless it is among the files `found`, since another line may include it by its name
+abbrev pub line_of : List NamedFile → Unread → List ℕ
+line_of found (Folder dir) = unread_line dir (codes "no such folder")
+line_of found (File name) = if has_name name found then [] else unread_line name (why_unread name)
 
--- the report on the files `found`, which are gathered from the known ones, and the lines for the files that they skip, if asked for
+-- the lines for what is not read
+abbrev pub unread_text : List NamedFile → List Unread → List ℕ
+unread_text found all = flat_map (line_of found) all
+
+-- the report on the files `found`, which are gathered from the known ones, and the lines for what their includes do not read, if asked for
 abbrev pub found_text : CheckWords → List NamedFile → List NamedFile → List ℕ
-found_text words known found = check_text words.strict (load_of found) ++ (if words.skipped then skipped_text found (skipped known found) else [])
+found_text words known found = check_text words.strict (load_of found) ++ (if words.skipped then unread_text found (unread known found) else [])
 
 -- what is written; nothing with `quiet`
 abbrev pub check_output : CheckWords → List ℕ → List NamedFile → Result (List ℕ) LayerFault

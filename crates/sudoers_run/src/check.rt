@@ -1,12 +1,12 @@
 //! Checking a policy.
-ghost use Rattle.std.specs.Prelude.{◌≡◌, ◌≢◌, ◌+◌, ◌<◌, ◌≤◌, ◌++◌, true, codes, length, List, Ok, Err, Some, IfOk, IfErr, IfSome, IsOkAnd, OnOk, min, ◌-◌, ◌^◌, [], if◌then◌else◌};
+ghost use Rattle.std.specs.Prelude.{◌≡◌, ◌≢◌, ◌+◌, ◌<◌, ◌≤◌, ◌++◌, true, codes, length, List, Ok, Err, Some, IfOk, IfErr, IfSome, IsOkAnd, OnOk, min, ◌-◌, ◌^◌};
 ghost use Rattle.std.specs.Io.KnownBytes.{Keeps, Appends};
 ghost use Rattle.sudoers_run.specs.Device.{Writes, AppendsFront};
 ghost use Rattle.sudoers_tree.specs.declared.load.NamedFile.{NamedFile as NamedFileOf};
-ghost use Rattle.sudoers_tree.specs.Load.{has_name, load_of};
+ghost use Rattle.sudoers_tree.specs.Load.{load_of};
 ghost use Rattle.sudoers_run.specs.Policy.{IsOutside, Searches};
 ghost use Rattle.sudoers_run.specs.FaultText.{text_of_load};
-ghost use Rattle.sudoers_run.specs.Check.{check_text as text_of_check, check_status, check_output, found_text, skip_reason, skipped_line, skipped_text, status_of, IsCheckFault, TellsCheck};
+ghost use Rattle.sudoers_run.specs.Check.{check_text as text_of_check, check_status, check_output, found_text, line_of, status_of, unread_line, unread_text, why_unread, IsCheckFault, TellsCheck};
 ghost use Rattle.sudoers_run.specs.internal.LayerOf.{by_layer};
 
 use crate::device::Sink;
@@ -17,15 +17,15 @@ use crate::output::{Output, write_all};
 use crate::words::CheckWords;
 use std::alloc::{AllocError, Global};
 use sudoers_check::{check, report_text};
-use sudoers_files::{Files, skipped};
-use sudoers_tree::{Items, LoadFault, NamedFile, Policy, base_of, has_name};
+use sudoers_files::{Files, Unread, find_unread};
+use sudoers_tree::{LoadFault, NamedFile, Policy, base_of, has_name, is_base};
 
 /// Reads the policy `root` with the files that it includes, and writes the notes on its aliases. If the files are no policy, writes the
 /// first fault instead. Returns status 0 if the policy passes, and else 1 (visudo(8)). `words` has the options.
 ///
 /// # Errors
 ///
-/// [`ToolFault`]: of gathering the files, then of memory, then of reading an included folder for its skipped files, then of writing.
+/// [`ToolFault`]: of gathering the files, then of memory, then of reading an included folder again for what is not read there, then of writing.
 /// Nothing is written before a fault other than `Write`.
 pub fn run_check<F: Files, W: Sink>(
     alloc: Global,
@@ -75,58 +75,58 @@ fn check_found<F: Files>(
 {
     let mut output = check_text(alloc, load_found(alloc, found)?, words.strict)?;
     if words.skipped {
-        let names = skipped(alloc, files, found)?;
-        append_skipped(&mut output.text, found, names.as_slice())?;
+        let all = find_unread(alloc, files, found)?;
+        append_unread(&mut output.text, found, all.as_slice())?;
     }
     Ok(output)
 }
 
-/// Appends to `out` a line for each of the skipped files `names` that is not among the files `found`.
-fn append_skipped(
+/// Appends to `out` a line for each folder or file of `all`, which was not read, unless it is among the files `found`.
+fn append_unread(
     out: &mut Vec<u8>,
     found: &[NamedFile],
-    names: &[Items<u8>],
+    all: &[Unread],
 ) -> Result<(), AllocError>
-    ensures { OnOk result (out.new.items ≡ out.old.items ++ skipped_text found.now names.now) }
+    ensures { OnOk result (out.new.items ≡ out.old.items ++ unread_text found.now all.now) }
 {
-    for name in names {
-        append_unless_found(out, found, name.as_slice())?;
+    for one in all {
+        append_line(out, found, one)?;
     }
     Ok(())
 }
 
-/// Appends to `out` the line for the skipped file `name`, unless it is among the files `found`.
-fn append_unless_found(
-    out: &mut Vec<u8>,
-    found: &[NamedFile],
-    name: &[u8],
-) -> Result<(), AllocError>
-    ensures { OnOk result (out.new.items ≡ out.old.items ++ (if has_name name.now found.now then [] else skipped_line name.now)) }
+/// Appends to `out` the line for `one`, which was not read, unless it is among the files `found`.
+fn append_line(out: &mut Vec<u8>, found: &[NamedFile], one: &Unread) -> Result<(), AllocError>
+    ensures { OnOk result (out.new.items ≡ out.old.items ++ line_of found.now one.now) }
 {
-    if has_name(found, name) {
-        return Ok(());
+    match one {
+        Unread::Folder(dir) => append_reason(out, dir.as_slice(), b"no such folder"),
+        Unread::File(name) if has_name(found, name.as_slice()) => Ok(()),
+        Unread::File(name) => append_reason(out, name.as_slice(), why_unread(name.as_slice())),
     }
-    append_skipped_line(out, name)
 }
 
-/// Appends to `out` the line for the skipped file `name`.
-fn append_skipped_line(out: &mut Vec<u8>, name: &[u8]) -> Result<(), AllocError>
-    ensures { OnOk result (out.new.items ≡ out.old.items ++ skipped_line name.now) }
+/// Appends to `out` the line that says that the file or folder `name` is not read, and why.
+fn append_reason(out: &mut Vec<u8>, name: &[u8], reason: &[u8]) -> Result<(), AllocError>
+    ensures { OnOk result (out.new.items ≡ out.old.items ++ unread_line name.now reason.now) }
 {
     out.extend_from_slice(name)?;
-    out.extend_from_slice(b": not read: its name ")?;
-    out.extend_from_slice(skip_reason(name))?;
+    out.extend_from_slice(b": not read: ")?;
+    out.extend_from_slice(reason)?;
     out.extend_from_slice(b"\n")
 }
 
-/// Returns why an include of its folder skips the file `name`.
-fn skip_reason(name: &[u8]) -> &'static [u8]
-    ensures { result.now ≡ skip_reason name.now }
+/// Returns why an include of its folder does not read the file `name`.
+fn why_unread(name: &[u8]) -> &'static [u8]
+    ensures { result.now ≡ why_unread name.now }
 {
-    if base_of(name).contains(&b'.') {
-        b"contains '.'"
+    let base = base_of(name);
+    if is_base(base) {
+        b"no regular file"
+    } else if base.contains(&b'.') {
+        b"its name contains '.'"
     } else {
-        b"ends in '~'"
+        b"its name ends in '~'"
     }
 }
 

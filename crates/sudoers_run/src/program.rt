@@ -83,7 +83,7 @@ fn answer(alloc: Global, input: &[u8], undo: u32, redo: u32) -> Result<Vec<u8>, 
         return Err(ToolFault::NoMark);
     };
     let files = files_given(alloc, form, text)?;
-    let out = edit_output(alloc, form, script, files.as_slice(), undo, redo)?;
+    let out = edit_given(alloc, script, form, files.as_slice(), undo, redo)?;
     Ok(out)
 }
 
@@ -149,11 +149,17 @@ fn is_mark(line: &[u8]) -> bool
     }
 }
 
-/// Returns the inverse script and the edited policy, for the script `script` and the files `files`, and for `undo` and `redo`.
-fn edit_output(
+/// Applies the script `script` to the policy of the files `files`. Then takes back up to `undo` of its edits, the last first, and makes
+/// up to `redo` of these again. Returns the script that takes back the edits that stand then, and after it the files in the form `form`.
+/// [`run_edit`] and the files of a disk both come to this.
+///
+/// # Errors
+///
+/// [`LayerFault`]: of the script, then of the policy, the edits and the inverse; or of memory.
+pub fn edit_given(
     alloc: Global,
-    form: Given,
     script: &[u8],
+    form: Given,
     files: &[NamedFile],
     undo: u32,
     redo: u32,

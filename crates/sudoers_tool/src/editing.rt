@@ -1,16 +1,25 @@
 //! The subcommand `edit`: its command line, and its run.
 
-use crate::files::{STDIN, disk, open};
-use clap::{Arg, ArgMatches, Command};
+use crate::budget::Budget;
+use crate::files::{Disk, STDIN, disk, name_of, open};
+use crate::terminal::output;
+use crate::trouble::Trouble;
+use clap::{Arg, ArgAction, ArgMatches, Command};
 use std::alloc::{AllocError, Global};
-use std::io::Read;
-use sudoers_bundle::append_bundle;
-use sudoers_files::{Files, GatherFault};
-use sudoers_run::{Counted, LayerFault, ToolFault, run_edit};
-use sudoers_tree::{Items, NamedFile};
+use std::io::{Read, Write};
+use sudoers_files::{Files, GatherFault, gather};
+use sudoers_line::Items;
+use sudoers_run::{
+    Counted, Given, INPUT_LIMIT, LayerFault, ToolFault, edit_given, read_all, run_edit,
+};
+use sudoers_tree::{LoadFault, NamedFile, has_name};
 
 /// The name of the subcommand.
 pub const EDIT: &str = "edit";
+
+/// The two forms of the command line.
+const USAGE: &str =
+    "sudoers_tool edit [--undo <N>] [--redo <N>]\n       sudoers_tool edit [OPTIONS] --files <SCRIPT> <POLICY>";
 
 /// The option that says how many edits to take back.
 const UNDO: &str = "undo";
@@ -18,20 +27,32 @@ const UNDO: &str = "undo";
 /// The option that says how many of these to make again.
 const REDO: &str = "redo";
 
+/// The option that names a script for the files of the disk.
+const SCRIPT: &str = "SCRIPT";
+
+/// The argument that names the policy.
+const POLICY: &str = "POLICY";
+
+/// The option that names a further file.
+const ALSO: &str = "NAME";
+
 /// Returns the command line of `edit`.
-pub fn edit_words<'a>(alloc: Global) -> Result<Command<'a>, AllocError> {
+pub fn edit_words<'a>(alloc: Global, top: Arg<'a>) -> Result<Command<'a>, AllocError> {
     let undo = number_word(alloc, UNDO).help(
         "After the script, take back up to N of its edits, the last first",
     );
     let redo = number_word(alloc, REDO).help("Then make up to N of these edits again");
     Command::new(alloc, EDIT)
         .about(
-            "Apply an edit script to a policy. Read SCRIPT, `%%`, POLICY on standard input; write UNDO, `%%`, POLICY. UNDO fits that POLICY only. EDIT SCRIPTS of sudoers_tool(8) has the commands",
+            "Apply an edit script to a policy. Read SCRIPT, `%%`, POLICY on standard input; write UNDO, `%%`, POLICY. With --files, edit a policy with the files that it includes. UNDO fits that policy only. EDIT SCRIPTS of sudoers_tool(8) has the commands",
         )
+        .override_usage(USAGE)
         .arg(undo)?
         .arg(redo)?
         .arg(script_word(alloc)?)?
-        .arg(files_word(alloc)?)
+        .arg(also_word(alloc)?)?
+        .arg(top.requires_arg(SCRIPT)?)?
+        .arg(policy_word(alloc)?)
 }
 
 /// Returns the option `name`, whose value is a number of edits.
@@ -42,30 +63,70 @@ fn number_word<'a>(alloc: Global, name: &'a str) -> Arg<'a> {
         .value_parser(clap::value_parser!(u32))
 }
 
-/// Returns the option that names the script for the files of the command line.
+/// Returns the option that names the script for the files of the disk.
 fn script_word<'a>(alloc: Global) -> Result<Arg<'a>, AllocError> {
-    Arg::new(alloc, "SCRIPT")
+    Arg::new(alloc, SCRIPT)
         .long("files")
         .help(
-            "Apply SCRIPT, or `-` for standard input, to the policy of the FILEs, the root first; write UNDO and a bundle: each file behind a line `%% LENGTH NAME`",
+            "Apply SCRIPT, or `-` for standard input, to POLICY and the files that it includes, numbered as `show` has them; write UNDO and a bundle: each file behind a line `%% LENGTH NAME`",
         )
-        .requires_arg("FILE")
+        .requires_arg(POLICY)
 }
 
-/// Returns the arguments that name the files of the policy.
-fn files_word<'a>(alloc: Global) -> Result<Arg<'a>, AllocError> {
-    Arg::new(alloc, "FILE")
+/// Returns the option that names a file which no line includes yet.
+fn also_word<'a>(alloc: Global) -> Result<Arg<'a>, AllocError> {
+    Arg::new(alloc, ALSO)
+        .long("also")
+        .action(ArgAction::Append)
+        .help(
+            "Add the file NAME behind the others, empty if it is missing, so that an include of it can be inserted",
+        )
+        .requires_arg(SCRIPT)
+}
+
+/// Returns the argument that names the policy. It takes further words, so that they get an error of their own.
+fn policy_word<'a>(alloc: Global) -> Result<Arg<'a>, AllocError> {
+    Arg::new(alloc, POLICY)
         .num_args(1..)
-        .help("With --files, a file of the policy, by the name that includes it")
-        .requires_arg("SCRIPT")
+        .help("With --files, the policy file, or `-` for standard input")
+        .requires_arg(SCRIPT)
 }
 
-/// Edits the files that `words` name, or the policy on standard input. Writes to standard output.
-pub fn edit_policy(rt: &HostRuntime, words: &ArgMatches<'_>) -> Result<u8, ToolFault> {
+/// Returns what is wrong with the words of `edit`.
+pub fn wrong_edit_words(words: &ArgMatches<'_>) -> Option<&'static str> {
+    let Some(files) = words.get_strs(POLICY) else {
+        return None;
+    };
+    if files.len() > 1 {
+        return Some(
+            "--files takes one POLICY and finds the files that it includes; write `--also NAME` for a file that no line includes",
+        );
+    }
+    if words.get_str(SCRIPT) == Some(STDIN) && files.first() == Some(&STDIN) {
+        return Some("standard input cannot be both SCRIPT and POLICY");
+    }
+    None
+}
+
+/// Edits the files of the policy that `words` name, or the policy on standard input. Writes to standard output.
+pub fn edit_policy(rt: &HostRuntime, words: &ArgMatches<'_>) -> Result<u8, Trouble> {
     let (undo, redo) = (number_of(words, UNDO), number_of(words, REDO));
-    match words.get_str("SCRIPT") {
-        Some(script) => edit_files(rt, script, words, undo, redo),
-        None => edit_stream(rt, rt.stdin(), undo, redo),
+    let Some(script) = words.get_str(SCRIPT) else {
+        return Ok(edit_stream(rt, undo, redo)?);
+    };
+    let script = read_script(rt, script)?;
+    let files = found_files(rt, words, script.len())?;
+    let edited = edit_given(
+        rt.alloc(),
+        script.as_slice(),
+        Given::Bundle,
+        files.as_slice(),
+        undo,
+        redo,
+    )?;
+    match output(rt).write_all(edited.as_slice()) {
+        Ok(()) => Ok(0),
+        Err(_) => Err(Trouble::from(ToolFault::Write)),
     }
 }
 
@@ -74,80 +135,118 @@ fn number_of(words: &ArgMatches<'_>, name: &str) -> u32 {
     words.get_one::<u32>(name).unwrap_or(0)
 }
 
-/// Edits the policy that `input` gives after its script, takes back up to `undo` edits and makes up to `redo` of these again. Writes to
-/// standard output.
-pub fn edit_stream<R: Read + Drop>(
-    rt: &HostRuntime,
-    input: R,
-    undo: u32,
-    redo: u32,
-) -> Result<u8, ToolFault> {
-    let mut reader = Counted::new(input);
-    let mut writer = Counted::new(rt.stdout());
+/// Edits the policy that the standard input gives after its script, takes back up to `undo` edits and makes up to `redo` of these again.
+/// Writes to standard output.
+pub fn edit_stream(rt: &HostRuntime, undo: u32, redo: u32) -> Result<u8, ToolFault> {
+    let mut reader = Counted::new(rt.stdin());
+    let mut writer = Counted::new(output(rt));
     run_edit(rt.alloc(), &mut reader, undo, redo, &mut writer)
 }
 
-/// Edits the files that `words` name by the script `script`. Its input is the script, and then the bundle of the files.
-fn edit_files(
-    rt: &HostRuntime,
-    script: &str,
-    words: &ArgMatches<'_>,
-    undo: u32,
-    redo: u32,
-) -> Result<u8, ToolFault> {
-    // The script is opened last: were the standard input closed, an open script would be it.
-    let bundle = bundle_of(rt, words)?;
-    if script == STDIN {
-        return edit_stream(rt, rt.stdin().chain(bundle.as_slice()), undo, redo);
-    }
-    edit_stream(rt, open(rt, script)?.chain(bundle.as_slice()), undo, redo)
-}
-
-/// Returns the bundle of the files that `words` name.
-fn bundle_of(rt: &HostRuntime, words: &ArgMatches<'_>) -> Result<Vec<u8>, ToolFault> {
-    let mut bundle = Vec::new(rt.alloc());
-    if let Some(names) = words.get_strs("FILE") {
-        let files = named_files(rt.alloc(), &mut disk(rt, words)?, names)?;
-        append_bundle(rt.alloc(), &mut bundle, files.as_slice())?;
-    }
-    Ok(bundle)
-}
-
-/// Returns the files `names` of `files`.
-fn named_files<F: Files>(
-    alloc: Global,
-    files: &mut F,
-    names: &[&str],
-) -> Result<Vec<NamedFile>, ToolFault> {
-    let mut named = Vec::with_capacity(alloc, names.len())?;
-    for name in names {
-        // A bundle cannot hold such a name.
-        if name.contains('\n') {
-            return Err(ToolFault::BadBundle {
-                file: named.len() + 1,
-            });
+/// Returns the bytes of the script `script`.
+fn read_script(rt: &HostRuntime, script: &str) -> Result<Vec<u8>, Trouble> {
+    let read = if script == STDIN {
+        read_input(rt, rt.stdin())
+    } else {
+        match open(rt, script) {
+            Ok(file) => read_input(rt, file),
+            Err(fault) => Err(fault),
         }
-        let file = named_file(alloc, files, name.as_bytes())?;
-        if named.push(file).is_err() {
-            return Err(ToolFault::from(AllocError));
-        }
-    }
-    Ok(named)
-}
-
-/// Returns the file `name` of `files`.
-fn named_file<F: Files>(
-    alloc: Global,
-    files: &mut F,
-    name: &[u8],
-) -> Result<NamedFile, LayerFault> {
-    let bytes = match files.read(alloc, name) {
-        Ok(Some(bytes)) => bytes,
-        Ok(None) => return Err(LayerFault::from(GatherFault::NoRoot)),
-        Err(fault) => return Err(LayerFault::from(GatherFault::from(fault))),
     };
-    Ok(NamedFile {
-        name: Items::from_slice(alloc, name)?,
-        bytes,
-    })
+    match read {
+        Ok(bytes) => Ok(bytes),
+        Err(ToolFault::InputTooLarge) => Err(Trouble::from(ToolFault::InputTooLarge)),
+        Err(fault) => Err(Trouble::in_file(rt.alloc(), script.as_bytes(), fault)),
+    }
+}
+
+/// Returns all that `reader` gives.
+fn read_input<R: Read + Drop>(rt: &HostRuntime, reader: R) -> Result<Vec<u8>, ToolFault> {
+    read_all(rt.alloc(), &mut Counted::new(reader), INPUT_LIMIT)
+}
+
+/// Returns the files of the policy that `words` name, in the order of `show`, and those of `--also`. `used` bytes of the input are read
+/// already.
+fn found_files(
+    rt: &HostRuntime,
+    words: &ArgMatches<'_>,
+    used: usize,
+) -> Result<Vec<NamedFile>, Trouble> {
+    let alloc = rt.alloc();
+    let root = match words.get_strs(POLICY) {
+        Some([root, ..]) => *root,
+        _ => STDIN,
+    };
+    let mut files = Budget::new(disk(rt, words, root)?, INPUT_LIMIT.saturating_sub(used));
+    let mut found = match gather(alloc, root.as_bytes(), &mut files) {
+        Ok(found) => found,
+        Err(fault) => return Err(trouble_of(alloc, &files, fault)),
+    };
+    if let Some(names) = words.get_strs(ALSO) {
+        add_files(alloc, &mut files, names, &mut found)?;
+    }
+    check_names(alloc, found.as_slice())?;
+    Ok(found)
+}
+
+/// Adds the files `names` to `found`, each empty if it is missing.
+fn add_files(
+    alloc: Global,
+    files: &mut Budget<Disk>,
+    names: &[&str],
+    found: &mut Vec<NamedFile>,
+) -> Result<(), Trouble> {
+    for name in names {
+        let file = added_file(alloc, files, name, found.as_slice())?;
+        found.push(file)?;
+    }
+    Ok(())
+}
+
+/// Returns the file `name`, which is not among the files `found`.
+fn added_file(
+    alloc: Global,
+    files: &mut Budget<Disk>,
+    name: &str,
+    found: &[NamedFile],
+) -> Result<NamedFile, Trouble> {
+    let name = name_of(alloc, name)?;
+    if has_name(found, name.as_slice()) {
+        let fault = LoadFault::SameName {
+            file: Items::from_slice(alloc, name.as_slice())?,
+        };
+        let fault = ToolFault::Layer(LayerFault::Load(fault));
+        return Err(Trouble::in_file(alloc, name.as_slice(), fault));
+    }
+    let bytes = match files.read(alloc, name.as_slice()) {
+        Ok(Some(bytes)) => bytes,
+        Ok(None) => Items::new(alloc),
+        Err(fault) => return Err(trouble_of(alloc, files, GatherFault::from(fault))),
+    };
+    Ok(NamedFile { name, bytes })
+}
+
+/// Returns an error if a bundle cannot hold one of the names of the files `found`.
+fn check_names(alloc: Global, found: &[NamedFile]) -> Result<(), Trouble> {
+    for (number, file) in found.iter().enumerate() {
+        let name = file.name.as_slice();
+        if name.is_empty() || name.contains(&b'\n') {
+            let fault = ToolFault::BadBundle { file: number + 1 };
+            return Err(Trouble::in_file(alloc, name, fault));
+        }
+    }
+    Ok(())
+}
+
+/// Returns the error of files that cannot be gathered, with the name of the file or the folder that was asked for last.
+fn trouble_of(alloc: Global, files: &Budget<Disk>, fault: GatherFault) -> Trouble {
+    if files.is_used_up() {
+        return Trouble::from(ToolFault::InputTooLarge);
+    }
+    let named = matches!(fault, GatherFault::NoRoot | GatherFault::Device(_));
+    let fault = ToolFault::Layer(LayerFault::from(fault));
+    if named {
+        return Trouble::in_file(alloc, files.files().asked(), fault);
+    }
+    Trouble::from(fault)
 }

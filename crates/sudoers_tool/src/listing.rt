@@ -1,11 +1,12 @@
 //! The subcommand `list`: its command line, and its run.
 
 use crate::files::{STDIN, STDIN_NUMBER, disk, open};
+use crate::terminal::output;
 use clap::{Arg, ArgAction, ArgMatches, Command};
 use std::alloc::{AllocError, Global};
 use std::fs;
 use std::os::fd::AsRawFd;
-use sudoers_files::{FileFault, FileOfStream, Files, GatherFault};
+use sudoers_files::{FileFault, GatherFault};
 use sudoers_line::Items;
 use sudoers_run::{Counted, LayerFault, ListWords, ToolFault, run_list};
 
@@ -196,16 +197,20 @@ fn command_of(alloc: Global, words: &ArgMatches<'_>) -> Result<Vec<Items<u8>>, A
 pub fn list_file(rt: &HostRuntime, file: &str, words: &ArgMatches<'_>) -> Result<u8, ToolFault> {
     let asked = Asked::of(rt.alloc(), file, words)?;
     let (passwd, group) = open_people(rt, words)?;
-    if file == STDIN {
-        // Had the standard input been closed, the first file that was opened would be it.
-        if passwd.as_raw_fd() == STDIN_NUMBER {
-            let closed = GatherFault::Device(FileFault::Failed);
-            return Err(ToolFault::Layer(LayerFault::Gather(closed)));
-        }
-        let mut files = FileOfStream::new(rt.stdin());
-        return list_policy(rt, &mut files, passwd, group, &asked);
+    // Had the standard input been closed, the first file that was opened would be it.
+    if file == STDIN && passwd.as_raw_fd() == STDIN_NUMBER {
+        let closed = GatherFault::Device(FileFault::Failed);
+        return Err(ToolFault::Layer(LayerFault::Gather(closed)));
     }
-    list_policy(rt, &mut disk(rt, words)?, passwd, group, &asked)
+    run_list(
+        rt.alloc(),
+        &mut disk(rt, words, file)?,
+        asked.file.as_slice(),
+        &mut Counted::new(passwd),
+        &mut Counted::new(group),
+        &asked.words(),
+        &mut Counted::new(output(rt)),
+    )
 }
 
 /// Opens the files of users and of groups that `words` name.
@@ -216,23 +221,4 @@ fn open_people(
     let passwd = open(rt, words.get_str("PASSWD").unwrap_or(""))?;
     let group = open(rt, words.get_str("GROUPS").unwrap_or(""))?;
     Ok((passwd, group))
-}
-
-/// Lists by the files of a policy, and by files of people that are open.
-fn list_policy<F: Files>(
-    rt: &HostRuntime,
-    files: &mut F,
-    passwd: fs::File,
-    group: fs::File,
-    asked: &Asked,
-) -> Result<u8, ToolFault> {
-    run_list(
-        rt.alloc(),
-        files,
-        asked.file.as_slice(),
-        &mut Counted::new(passwd),
-        &mut Counted::new(group),
-        &asked.words(),
-        &mut Counted::new(rt.stdout()),
-    )
 }

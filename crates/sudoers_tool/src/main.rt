@@ -1,23 +1,26 @@
 //! A tool for sudoers policies whose promises are proved.
 #![tactic(auto)]
 
+mod budget;
 mod editing;
 mod files;
 mod listing;
+mod terminal;
+mod trouble;
 
-use crate::editing::{EDIT, edit_policy, edit_stream, edit_words};
-use crate::files::{STDIN, disk};
+use crate::editing::{EDIT, edit_policy, edit_stream, edit_words, wrong_edit_words};
+use crate::files::{STDIN, disk, is_folder};
 use crate::listing::{list_file, list_words};
+use crate::terminal::{errors, output};
+use crate::trouble::Trouble;
 use clap::error::ErrorKind;
 use clap::{Arg, ArgAction, ArgMatches, Command, Error};
 use std::alloc::{AllocError, Global};
 use std::io;
 use std::io::Write;
 use std::process::ExitCode;
-use sudoers_files::FileOfStream;
 use sudoers_run::{
-    CheckWords, ConvertWords, Counted, Form, ToolFault, fault_text, run_check, run_convert,
-    run_show,
+    CheckWords, ConvertWords, Counted, Form, ToolFault, run_check, run_convert, run_show,
 };
 
 /// The forms in which `convert` prints.
@@ -35,7 +38,7 @@ const EXIT_STATUS: &str =
 fn main(rt: HostRuntime) -> ExitCode {
     match run(&rt) {
         Ok(code) => code,
-        Err(fault) => told(&rt, &fault),
+        Err(fault) => told(&rt, &Trouble::from(fault)),
     }
 }
 
@@ -54,8 +57,40 @@ fn run(rt: &HostRuntime) -> Result<ExitCode, ToolFault> {
         }
     };
     match command.try_get_matches_from(words.as_slice()) {
-        Ok(matches) => Ok(obey(rt, &matches)),
+        Ok(matches) => match wrong_words(rt, &matches)? {
+            Some(message) => {
+                let mut command = command_words(rt.alloc())?;
+                show_usage(
+                    rt,
+                    &command.error(ErrorKind::InvalidValue, message.as_str())?,
+                )
+            }
+            None => Ok(obey(rt, &matches)),
+        },
         Err(error) => show_usage(rt, &error),
+    }
+}
+
+/// Returns what is wrong with a command line that has the right form: it names a folder that is none, or too many files.
+fn wrong_words(
+    rt: &HostRuntime,
+    matches: &ArgMatches<'_>,
+) -> Result<Option<String>, ToolFault> {
+    let Some((name, words)) = matches.subcommand() else {
+        return Ok(None);
+    };
+    if let Some(dir) = words.get_str("DIR")
+        && !is_folder(rt, dir)?
+    {
+        let message = format!(in rt.alloc(); "invalid value '{dir}' for '--root <DIR>': no such folder")?;
+        return Ok(Some(message));
+    }
+    if name != EDIT {
+        return Ok(None);
+    }
+    match wrong_edit_words(words) {
+        Some(message) => Ok(Some(String::from_str(rt.alloc(), message)?)),
+        None => Ok(None),
     }
 }
 
@@ -64,10 +99,18 @@ fn obey(rt: &HostRuntime, matches: &ArgMatches<'_>) -> ExitCode {
     match matches.subcommand() {
         Some((name, words)) if name != EDIT => {
             let file = words.get_str("FILE").unwrap_or(STDIN);
-            ended(rt, run_on_file(rt, name, file, words))
+            ended(rt, without_file(run_on_file(rt, name, file, words)))
         }
         Some((_, words)) => ended(rt, edit_policy(rt, words)),
-        None => ended(rt, edit_stream(rt, rt.stdin(), 0, 0)),
+        None => ended(rt, without_file(edit_stream(rt, 0, 0))),
+    }
+}
+
+/// Returns the outcome of a command whose errors name their files themselves.
+fn without_file(outcome: Result<u8, ToolFault>) -> Result<u8, Trouble> {
+    match outcome {
+        Ok(status) => Ok(status),
+        Err(fault) => Err(Trouble::from(fault)),
     }
 }
 
@@ -87,10 +130,10 @@ fn run_on_file(
 }
 
 /// Returns the exit status of a command that ended so, and prints its error.
-fn ended(rt: &HostRuntime, outcome: Result<u8, ToolFault>) -> ExitCode {
+fn ended(rt: &HostRuntime, outcome: Result<u8, Trouble>) -> ExitCode {
     match outcome {
         Ok(status) => ExitCode::from(status),
-        Err(fault) => told(rt, &fault),
+        Err(trouble) => told(rt, &trouble),
     }
 }
 
@@ -112,7 +155,7 @@ fn command_words<'a>(alloc: Global) -> Result<Command<'a>, AllocError> {
         .after_help(EXIT_STATUS)
         .subcommand(check_words(alloc)?)?
         .subcommand(convert_words(alloc)?)?
-        .subcommand(edit_words(alloc)?)?
+        .subcommand(edit_words(alloc, top_word(alloc))?)?
         .subcommand(list_words(alloc, top_word(alloc), file_word(alloc))?)?
         .subcommand(show_words(alloc)?)
 }
@@ -130,7 +173,7 @@ fn check_words<'a>(alloc: Global) -> Result<Command<'a>, AllocError> {
     let skipped = Arg::new(alloc, "skipped")
         .long("skipped")
         .action(ArgAction::SetTrue)
-        .help("After the report, list the files in included folders that are not read");
+        .help("After the report, list the folders and the files in included folders that are not read");
     Command::new(alloc, "check")
         .about(
             "Check the syntax of a policy with the files that it includes, and report undefined, cyclic and unused aliases; names of Defaults are not checked",
@@ -187,7 +230,7 @@ fn prune_word<'a>(alloc: Global) -> Arg<'a> {
 /// Returns the option with the folder below which absolute names are read.
 fn top_word<'a>(alloc: Global) -> Arg<'a> {
     Arg::new(alloc, "DIR").long("root").help(
-        "Read FILE and included files whose names begin with `/` below this folder, as of an image; messages name them without it",
+        "Read FILE and included files as a system does whose root is this folder, as an image; messages name them without it",
     )
 }
 
@@ -209,11 +252,12 @@ fn show_usage(rt: &HostRuntime, error: &Error) -> Result<ExitCode, ToolFault> {
     if error.kind() == ErrorKind::OutOfMemory {
         return Err(ToolFault::from(AllocError));
     }
-    let printed = error.print(rt);
+    let text = error.to_string(rt.alloc())?;
     if error.use_stderr() {
+        let _ = errors(rt).write_all(text.as_bytes());
         return Ok(ExitCode::from(2));
     }
-    match printed {
+    match output(rt).write_all(text.as_bytes()) {
         Ok(()) => Ok(ExitCode::from(0)),
         Err(_) => Err(ToolFault::Write),
     }
@@ -221,13 +265,9 @@ fn show_usage(rt: &HostRuntime, error: &Error) -> Result<ExitCode, ToolFault> {
 
 /// Shows a policy, or standard input.
 fn show_file(rt: &HostRuntime, file: &str, words: &ArgMatches<'_>) -> Result<u8, ToolFault> {
-    let mut writer = Counted::new(rt.stdout());
+    let mut writer = Counted::new(output(rt));
     let root = file.as_bytes();
-    if file == STDIN {
-        let mut files = FileOfStream::new(rt.stdin());
-        return run_show(rt.alloc(), &mut files, root, &mut writer);
-    }
-    run_show(rt.alloc(), &mut disk(rt, words)?, root, &mut writer)
+    run_show(rt.alloc(), &mut disk(rt, words, file)?, root, &mut writer)
 }
 
 /// Returns the form that the words of `convert` name.
@@ -253,43 +293,35 @@ fn asked_of<'a>(words: &ArgMatches<'a>) -> ConvertWords<'a> {
 
 /// Converts a policy, or standard input.
 fn convert_file(rt: &HostRuntime, file: &str, words: &ArgMatches<'_>) -> Result<u8, ToolFault> {
-    let mut writer = Counted::new(rt.stdout());
+    let mut writer = Counted::new(output(rt));
     let asked = asked_of(words);
     let root = file.as_bytes();
-    if file == STDIN {
-        let mut files = FileOfStream::new(rt.stdin());
-        return run_convert(rt.alloc(), &mut files, root, &asked, &mut writer);
-    }
-    run_convert(rt.alloc(), &mut disk(rt, words)?, root, &asked, &mut writer)
+    run_convert(rt.alloc(), &mut disk(rt, words, file)?, root, &asked, &mut writer)
 }
 
 /// Checks a policy, or standard input.
 fn check_file(rt: &HostRuntime, file: &str, words: &ArgMatches<'_>) -> Result<u8, ToolFault> {
-    let mut writer = Counted::new(rt.stdout());
+    let mut writer = Counted::new(output(rt));
     let root = file.as_bytes();
     let asked = CheckWords {
         quiet: words.get_flag("quiet"),
         strict: words.get_flag("strict"),
         skipped: words.get_flag("skipped"),
     };
-    if file == STDIN {
-        let mut files = FileOfStream::new(rt.stdin());
-        return run_check(rt.alloc(), &mut files, root, &asked, &mut writer);
-    }
-    run_check(rt.alloc(), &mut disk(rt, words)?, root, &asked, &mut writer)
+    run_check(rt.alloc(), &mut disk(rt, words, file)?, root, &asked, &mut writer)
 }
 
 /// Prints an error, and returns exit status 1.
-fn told(rt: &HostRuntime, fault: &ToolFault) -> ExitCode {
-    let _ = tell(rt, fault);
+fn told(rt: &HostRuntime, trouble: &Trouble) -> ExitCode {
+    let _ = tell(rt, trouble);
     ExitCode::from(1)
 }
 
 /// Writes the text of an error to standard error, or nothing if memory runs out.
-fn tell(rt: &HostRuntime, fault: &ToolFault) -> io::Result<()> {
-    let text = fault_text(rt.alloc(), fault)?;
+fn tell(rt: &HostRuntime, trouble: &Trouble) -> io::Result<()> {
+    let text = trouble.text(rt.alloc())?;
     let mut message = Vec::from_slice(rt.alloc(), b"sudoers_tool: ")?;
     message.extend_from_slice(text.as_slice())?;
     message.extend_from_slice(b"\n")?;
-    rt.stderr().write_all(message.as_slice())
+    errors(rt).write_all(message.as_slice())
 }

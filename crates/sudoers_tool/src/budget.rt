@@ -1,0 +1,123 @@
+//! Files of which no more than a number of bytes is read.
+
+ghost use Rattle.std.specs.Prelude.{◌≡◌, None};
+ghost use Rattle.sudoers_files.specs.Shelf.{FailedBy};
+ghost use Rattle.sudoers_files.specs.declared.fault.FileFault.TheVariants.{Failed};
+
+use std::alloc::Global;
+use sudoers_files::{FileFault, Files};
+use sudoers_line::Items;
+
+/// Files that fail once the bundle of those that were read passes a number of bytes.
+#[derive(Drop)]
+pub struct Budget<F> {
+    files: F,
+    left: usize,
+    is_used_up: bool,
+    failures: u64,
+}
+
+impl<F: Files> Budget<F> {
+    /// Returns the files `files`, of which a bundle of `left` bytes may be read.
+    pub fn new(files: F, left: usize) -> Budget<F> {
+        Budget {
+            files,
+            left,
+            is_used_up: false,
+            failures: 0,
+        }
+    }
+
+    /// Returns whether the files were larger than they may be.
+    pub fn is_used_up(&self) -> bool {
+        self.is_used_up
+    }
+
+    /// Returns the files.
+    pub fn files(&self) -> &F {
+        &self.files
+    }
+
+    /// Takes `size` bytes of those that are left, and returns whether there are as many.
+    fn spend(&mut self, size: usize) -> bool
+        ensures { (self.new.files ≡ self.old.files) × (self.new.failures ≡ self.old.failures) }
+    {
+        self.is_used_up = size > self.left;
+        self.left = self.left.saturating_sub(size);
+        !self.is_used_up
+    }
+
+    /// Counts a failure, and returns it.
+    fn fail(&mut self) -> FileFault
+        ensures same { (result ≡ Failed) × (self.new.files ≡ self.old.files) }
+        ensures failed { FailedBy Failed self.old.failures self.new.failures }
+    {
+        self.failures = self.failures.saturating_add(1);
+        FileFault::Failed
+    }
+}
+
+impl<F: Files> Files for Budget<F> {
+    ghost shelf = { λ budget. record {
+      files = None;
+      failures = budget.failures;
+      endless = (F.shelf budget.files).endless;
+    } };
+
+    fn read(&mut self, alloc: Global, name: &[u8]) -> Result<Option<Items<u8>>, FileFault> {
+        let bytes = match self.files.read(alloc, name) {
+            Ok(Some(bytes)) => bytes,
+            Err(FileFault::Failed) => return Err(self.fail()),
+            result => return result,
+        };
+        if self.spend(held_len(name, bytes.as_slice())) {
+            return Ok(Some(bytes));
+        }
+        Err(self.fail())
+    }
+
+    fn names(&mut self, alloc: Global, dir: &[u8]) -> Result<Vec<Items<u8>>, FileFault> {
+        match self.files.names(alloc, dir) {
+            Err(FileFault::Failed) => Err(self.fail()),
+            result => result,
+        }
+    }
+
+    fn wanted(&mut self, alloc: Global, dir: &[u8]) -> Result<Vec<Items<u8>>, FileFault> {
+        match self.files.wanted(alloc, dir) {
+            Err(FileFault::Failed) => Err(self.fail()),
+            result => result,
+        }
+    }
+
+    fn unread(&mut self, alloc: Global, dir: &[u8]) -> Result<Option<Vec<Items<u8>>>, FileFault> {
+        match self.files.unread(alloc, dir) {
+            Err(FileFault::Failed) => Err(self.fail()),
+            result => result,
+        }
+    }
+
+    fn failures(&self) -> u64 {
+        self.failures
+    }
+}
+
+/// Returns how many bytes the file `name` with the bytes `bytes` takes in a bundle. Its header is a line `%% LENGTH NAME`.
+fn held_len(name: &[u8], bytes: &[u8]) -> usize {
+    (5 + digits_of(bytes.len()))
+        .saturating_add(name.len())
+        .saturating_add(bytes.len())
+}
+
+/// Returns how many digits the size `size` of a file has. A file that is read has at most seven.
+fn digits_of(size: usize) -> usize {
+    match size {
+        0..=9 => 1,
+        10..=99 => 2,
+        100..=999 => 3,
+        1_000..=9_999 => 4,
+        10_000..=99_999 => 5,
+        100_000..=999_999 => 6,
+        _ => 7,
+    }
+}

@@ -1,0 +1,79 @@
+//! What a terminal is shown.
+
+use std::io;
+use std::io::{IsTerminal, Stderr, Stdout, Write};
+
+/// A writer that shows a terminal no control bytes: those below 32 but LF and tab, and 127, are spelled `\xHH`. A file and a pipe get the
+/// bytes as they are.
+#[derive(Drop)]
+pub struct Shown<W> {
+    writer: W,
+    is_terminal: bool,
+}
+
+/// Returns the standard output.
+pub fn output(rt: &HostRuntime) -> Shown<Stdout> {
+    let writer = rt.stdout();
+    let is_terminal = writer.is_terminal();
+    Shown {
+        writer,
+        is_terminal,
+    }
+}
+
+/// Returns the standard error.
+pub fn errors(rt: &HostRuntime) -> Shown<Stderr> {
+    let writer = rt.stderr();
+    let is_terminal = writer.is_terminal();
+    Shown {
+        writer,
+        is_terminal,
+    }
+}
+
+impl<W: Write> Write for Shown<W> {
+    fn write(&mut self, buf: &[u8]) -> io::Result<usize> {
+        let size = if self.is_terminal {
+            plain_len(buf)
+        } else {
+            buf.len()
+        };
+        if size > 0 {
+            return self.writer.write(&buf[..size]);
+        }
+        match buf.first() {
+            Some(byte) => {
+                self.writer.write_all(&spelled(*byte))?;
+                Ok(1)
+            }
+            None => self.writer.write(buf),
+        }
+    }
+
+    fn flush(&mut self) -> io::Result<()> {
+        self.writer.flush()
+    }
+}
+
+/// Returns whether `byte` is a control byte that is spelled.
+fn is_spelled(byte: u8) -> bool {
+    (byte < 32 && byte != b'\n' && byte != b'\t') || byte == 127
+}
+
+/// Returns how many bytes stand in `bytes` before the first that is spelled.
+fn plain_len(bytes: &[u8]) -> usize {
+    match bytes.iter().position(|byte| is_spelled(*byte)) {
+        Some(at) => at,
+        None => bytes.len(),
+    }
+}
+
+/// Returns the spelling of `byte`.
+fn spelled(byte: u8) -> [u8; 4] {
+    [b'\\', b'x', hex_digit(byte / 16), hex_digit(byte % 16)]
+}
+
+/// Returns the hexadecimal digit `value`, which is below 16.
+fn hex_digit(value: u8) -> u8 {
+    if value < 10 { b'0' + value % 10 } else { b'a' + value % 16 - 10 }
+}
