@@ -2,10 +2,10 @@
 
 A row of PRINTED has a name, the files of a folder, words, and what they print on standard output, with the exit status.
 A row of ERRORS has the text of an error of a policy, whose first file is `main`, and a row of RUN_ERRORS an error of the
-run. A row of EDITS has what `edit --files` answers, and a row of STREAMS what comes of standard input.
+run. A row of NOT_REGULAR is `Failed`, and the program waits for nothing before that.
 """
 
-from program import Wanted, fault
+from stand import EMPTY_FOLDER, PIPE, Link
 
 # A question about bob and ann, who are users of the files passwd and group.
 PEOPLE = {"passwd": "root:x:0:0:::\nbob:x:1:5:::\nann:x:2:5:::\n", "group": "users:x:5:\n"}
@@ -60,7 +60,7 @@ PRINTED = (
         "check --skipped main",
         "d/c:1:1: undefined User_Alias DBA\nd/b:2:12: unused User_Alias IDLE\nmain: parsed OK\n"
         "d/.hidden: not read: its name contains '.'\nd/b~: not read: its name ends in '~'\n"
-        "d/x.y: not read: its name contains '.'\n",
+        "d/sub: not read: no regular file\nd/x.y: not read: its name contains '.'\n",
         0,
     ),
     ("skipped_files_with_quiet", {**SITE, **OTHER_NAMES}, "check -q --skipped main", "", 0),
@@ -69,15 +69,58 @@ PRINTED = (
         "skipped_files_of_a_policy_with_an_error",
         {"main": "@includedir d\nbob\n@includedir a.d", "d/x.y~": "", "a.d/x~": ""},
         "check --skipped main",
-        "main:2:4: syntax error: EndOfLine\nd/x.y~: not read: its name contains '.'\na.d/x~: not read: its name ends in '~'\n",
+        "main:2:4: syntax error: EndOfLine\na.d/x~: not read: its name ends in '~'\nd/x.y~: not read: its name contains '.'\n",
         1,
     ),
     (
         "skipped_files_of_an_included_file",
         {"main": "@include d/a\n", "d/a": "@includedir e\n@includedir none\n", "d/e/f": "# f\n", "d/e/f.rpmsave": "# f\n"},
         "check --skipped main",
-        "main: parsed OK\nd/e/f.rpmsave: not read: its name contains '.'\n",
+        "main: parsed OK\nd/e/f.rpmsave: not read: its name contains '.'\nd/none: not read: no such folder\n",
         0,
+    ),
+    (
+        "skipped_names_of_no_regular_file",
+        {
+            "main": "@includedir d\n",
+            **{"d/a": "# a\n", "d/dangling": Link("none"), "d/folder": EMPTY_FOLDER, "d/link": Link("a"), "d/loop": Link("loop")},
+            **{"d/null": Link("/dev/null"), "d/pipe": PIPE, "d/pipe.x": PIPE, "d/to_a_folder": Link("folder"), "d/z~": EMPTY_FOLDER},
+        },
+        "check --skipped main",
+        "main: parsed OK\nd/dangling: not read: no regular file\nd/folder: not read: no regular file\n"
+        "d/loop: not read: no regular file\nd/null: not read: no regular file\nd/pipe: not read: no regular file\n"
+        "d/pipe.x: not read: its name contains '.'\nd/to_a_folder: not read: no regular file\n"
+        "d/z~: not read: its name ends in '~'\n",
+        0,
+    ),
+    (
+        "skipped_folders_in_the_order_of_their_bytes",
+        {"main": "@includedir b\n@includedir a/\n@includedir B\n@include c/m\n", "b/x.y": "", "c/m": "@includedir a\n@includedir n\n", "c/a/x.z": ""},
+        "check --skipped main",
+        "main: parsed OK\nB: not read: no such folder\na: not read: no such folder\nb/x.y: not read: its name contains '.'\n"
+        "c/a/x.z: not read: its name contains '.'\nc/n: not read: no such folder\n",
+        0,
+    ),
+    (
+        "skipped_files_of_a_folder_of_two_lines_once",
+        {"main": "@includedir d\n@include a\n@includedir d/\n", "a": "@includedir d//\n", "d/x.y": "", "d/z": EMPTY_FOLDER},
+        "check --skipped main",
+        "main: parsed OK\nd/x.y: not read: its name contains '.'\nd/z: not read: no regular file\n",
+        0,
+    ),
+    (
+        "skipped_file_in_the_place_of_a_folder",
+        {"main": "@includedir a\n@includedir a/b\n", "a": "no policy\n"},
+        "check --skipped main",
+        "main: parsed OK\na: not read: no such folder\na/b: not read: no such folder\n",
+        0,
+    ),
+    (
+        "skipped_files_of_a_file_off_the_walk",
+        {"main": "@include a\nbob\n@include b\n", "a": "@includedir d\n", "b": "@includedir e\n", "d/x.y": "", "e/x~": ""},
+        "check --skipped main",
+        "main:2:4: syntax error: EndOfLine\nd/x.y: not read: its name contains '.'\ne/x~: not read: its name ends in '~'\n",
+        1,
     ),
     (
         "skipped_file_that_is_included_by_its_name",
@@ -212,8 +255,8 @@ PRINTED = (
     ),
     ("convert_of_an_image", IMAGE, "convert -f sudoers -e --root image /etc/sudoers", "ann ALL = ALL\n", 0),
     (
-        "relative_name_is_not_below_the_root",
-        {**IMAGE, "main": "@include /etc/local\n@include image/etc/sudoers.d/web\n"},
+        "relative_names_are_below_the_root",
+        {**IMAGE, "image/main": "@include /etc/local\n@include etc/sudoers.d/web\n", "main": "no policy\n"},
         "check --root image main",
         "/etc/local:2:12: unused User_Alias IDLE\nmain: parsed OK\n",
         0,
@@ -268,52 +311,24 @@ RUN_ERRORS = (
     ("file_that_includes_itself_by_another_name", {"main": "@include ./main\n"}, "TooManyFiles"),
 )
 
+# Names that an include line leads to, and that are no regular file once links are followed.
+NOT_REGULAR = (
+    ("included_pipe", {"main": "@include a\n", "a": PIPE}),
+    ("included_pipe_of_an_included_file", {"main": "@include d/a\n", "d/a": "@include b\n", "d/b": PIPE}),
+    ("included_link_to_a_pipe", {"main": "@include a\n", "a": Link("b"), "b": PIPE}),
+    ("included_device", {"main": "@include /dev/null\n"}),
+    ("included_device_without_end", {"main": "@include /dev/zero\n"}),
+    ("included_link_to_a_device", {"main": "@include a\n", "a": Link("/dev/null")}),
+    ("included_folder", {"main": "@include d\n", "d": EMPTY_FOLDER}),
+    ("included_link_to_a_folder", {"main": "@include a\n", "a": Link("d"), "d": EMPTY_FOLDER}),
+    ("included_loop_of_links", {"main": "@include a\n", "a": Link("b"), "b": Link("a")}),
+    ("included_pipe_before_an_error_of_the_policy", {"main": "bob\n@include a\n", "a": PIPE}),
+)
+
 # The same, with a file or a folder that the user may not read.
 NOT_READABLE = (
     ("first_file_that_may_not_be_read", {"main": "# a\n"}, "main", 0),
     ("included_file_that_may_not_be_read", {"main": "@include a\n", "a": "# a\n"}, "a", 0),
     ("folder_that_may_not_be_read", {"main": "@includedir d\n", "d/a": "# a\n"}, "d", 0),
     ("folder_whose_files_may_not_be_looked_at", {"main": "@includedir d\n", "d/a": "# a\n"}, "d", 0o444),
-)
-
-# Standard input includes no file, also one that is there; and `edit` reads no file but those of its input.
-STREAMS = (
-    ("check -", "@include main\n", Wanted(b"-:1:1: include main not loaded\n", status=1)),
-    ("check --skipped -", "@includedir d\n", Wanted(b"-: parsed OK\n")),
-    ("check -", "@include -\n", Wanted(b"-:1:1: include - twice\n", status=1)),
-    ("check -", "@includedir d\nbob ALL = SH\n", Wanted(b"-:2:11: undefined Cmnd_Alias SH\n-: parsed OK\n")),
-    ("show -", "#include /none\n", fault("-:1:1: include /none not loaded")),
-    ("show -", "@includedir d\n", Wanted(b"1 include 1\n")),
-    ("convert -f sudoers -", "@include main\n", fault("-:1:1: include main not loaded")),
-    (f"{ASKED} bob -", "@include main\n", fault("-:1:1: include main not loaded")),
-    ("edit", "%%\n@include main\n@include none\n", fault("policy:1:1: include main not loaded")),
-    ("edit", "%% 25 policy\n@include a\n@include none\n%% 0 a\n", fault("policy:2:1: include none not loaded")),
-    ("", "%%\n@includedir d\nbob ALL = SH\n", Wanted(b"%%\n@includedir d\nbob ALL = SH\n")),
-)
-
-# `edit` of files: the script `s`, the files of a policy, words, and what comes.
-LATE = {"s": "insert 1\n|# first\nfile 2\ndelete 1\n", "a": "@include b\nUser_Alias A = x\n", "b": "# gone\nA ALL=ALL\n"}
-EDITED = b"file 2\ninsert 1\n|# gone\nfile 1\ndelete 1\n%% 36 a\n# first\n@include b\nUser_Alias A = x\n%% 10 b\nA ALL=ALL\n"
-ONE_EDIT = b"delete 1\n%% 36 a\n# first\n@include b\nUser_Alias A = x\n%% 17 b\n# gone\nA ALL=ALL\n"
-EDITS = (
-    ("script_of_two_files", LATE, "edit --files s a b", Wanted(EDITED)),
-    ("files_before_the_script", LATE, "edit a b --files s", Wanted(EDITED)),
-    ("last_edit_taken_back", LATE, "edit --undo 1 --files=s a b", Wanted(ONE_EDIT)),
-    ("included_file_that_is_not_named", LATE, "edit --files s a", fault("a:1:1: include b not loaded")),
-    ("file_that_is_named_twice", LATE, "edit --files s a b a", fault("SameName")),
-    ("file_that_is_not_there", LATE, "edit --files s a c", fault("NoRoot")),
-    ("file_that_is_a_folder", {**LATE, "c/d": ""}, "edit --files s a c", fault("Failed")),
-    ("script_that_is_not_there", LATE, "edit --files t a b", fault("Read")),
-    ("script_that_is_no_script", {**LATE, "s": "erase\n"}, "edit --files s a b", fault("script:1: BadWord")),
-    ("edit_of_a_third_file", {**LATE, "s": "file 3\ndelete 1\n"}, "edit --files s a b", fault("edit 1: NoFile")),
-    (
-        "edit_that_leaves_no_policy",
-        {**LATE, "s": "file 2\ninsert 1\n|bob ALL\n"},
-        "edit --files s a b",
-        fault("edit 1: NotPolicy: b:1:8: syntax error: EndOfLine"),
-    ),
-    ("name_with_a_line_end", {**LATE, "s": "", "b\nc": ""}, "edit --files s a b\nc", fault("BadBundle")),
-    ("script_without_a_line_end", {**LATE, "s": "prune"}, "edit --files s a b", fault("script:1: BadWord")),
-    ("policy_that_is_too_large", {"s": "", "a": "#" * 1_048_577}, "edit --files s a", fault("a: TooLarge")),
-    ("input_that_is_too_large", {"s": "#" * 4_000_000, "a": ""}, "edit --files s a", fault("InputTooLarge")),
 )
