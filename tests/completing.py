@@ -132,16 +132,24 @@ ROWS = (
     (("show", "--root", "sub", "s"), (FOLDER,)),
     (("show", "policy", "w"), ()),
     (("edit", ""), ALL_FILES),
-    (("edit", "-"), ("--files", "-h", "--help", "--redo", "--undo")),
+    (("edit", "-"), ("--also", "--files", "-h", "--help", "--redo", "--root", "--undo")),
+    (("edit", "--a"), ("--also",)),
+    (("edit", "--also", ""), ALL_FILES),
+    (("edit", "--also=w"), ("web team",)),
+    (("edit", "--files", "policy", "--also", "p"), ("policy",)),
+    (("edit", "--also", "policy", "--al"), ("--also",)),
+    (("edit", "--root", ""), (FOLDER,)),
+    (("edit", "--root=s"), (FOLDER,)),
+    (("edit", "--files", "policy", "--root", "sub", "--also", "policy", "w"), ("web team",)),
     (("edit", "--f"), ("--files",)),
     (("edit", "--files", ""), ALL_FILES),
     (("edit", "--files", "p"), ("policy",)),
     (("edit", "--files=w"), ("web team",)),
     (("edit", "--files", "policy", ""), ALL_FILES),
-    (("edit", "--files", "policy", "policy", "w"), ("web team",)),
-    (("edit", "--r"), ("--redo",)),
+    (("edit", "--files", "policy", "policy", "w"), ()),
+    (("edit", "--r"), ("--redo", "--root")),
     (("edit", "--undo", ""), ()),
-    (("edit", "--undo", "1", "--r"), ("--redo",)),
+    (("edit", "--undo", "1", "--re"), ("--redo",)),
     (("help", ""), ("check", "convert", "edit", "list", "show")),
     (("help", "s"), ("show",)),
     (("help", "show", ""), ()),
@@ -312,8 +320,8 @@ def run_lists(program, tally):
     tally.note("completed commands", difference("commands", commands_of_help(whole), set(COMMANDS)))
     options = dict(ROWS)
     wanted = {name: set(options[name, "-"]) for name in ("check", "convert", "list")}
-    wanted |= {"edit": {"--files", "-h", "--help", "--redo", "--undo"}, "show": {"-h", "--help", "--root"}}
-    tally.note("completed options", difference("options", options_of_help(whole), set(options[("-",)])))
+    wanted |= {"edit": set(options["edit", "-"]), "show": {"-h", "--help", "--root"}}
+    tally.note("completed options", difference("options", options_of_help(whole.partition("\nOptions:\n")[2]), set(options[("-",)])))
     for name, text in each.items():
         tally.note(f"completed options of {name}", difference("options", options_of_help(text), wanted.get(name)))
 

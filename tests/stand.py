@@ -43,8 +43,8 @@ def put(path, what):
     elif not isinstance(what, Closed):
         with open(path, "wb") as file:
             file.write(what.encode(errors="surrogateescape"))
-    elif what.text is not None:
-        put(path, what.text)
+    else:
+        put(path, EMPTY_FOLDER if what.text is None else what.text)
 
 
 def write(folder, tree):

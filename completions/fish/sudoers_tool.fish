@@ -14,10 +14,10 @@ function __sudoers_tool_plain_words
             set no_options yes
         else if test -z "$no_options"; and string match --quiet -- '-?*' $word
             # These options take the next word.
-            contains -- "$plain[1]" check convert list show; and test $word = --root; and set option $word
+            contains -- "$plain[1]" check convert edit list show; and test $word = --root; and set option $word
             contains -- convert $plain; and contains -- $word -f --form -m --match; and set option $word
             contains -- list $plain; and contains -- $word -U --other-user -u --user -g --group; and set option $word
-            contains -- edit $plain; and contains -- $word --files --undo --redo; and set option $word
+            contains -- edit $plain; and contains -- $word --also --files --undo --redo; and set option $word
             contains -- list $plain; and contains -- $word --passwd --group-file --host --moment --interfaces; and set option $word
         else
             set -a plain $word
@@ -39,12 +39,6 @@ end
 function __sudoers_tool_word_of_list
     set -l plain (__sudoers_tool_plain_words); or return 1
     test (count $plain) -ge 2; and test $plain[1] = list
-end
-
-# Succeeds if the next word is an argument of edit.
-function __sudoers_tool_argument_of_edit
-    set -l plain (__sudoers_tool_plain_words); or return 1
-    test (count $plain) -ge 1; and test $plain[1] = edit
 end
 
 # Succeeds if the next word may be an option of list, or the value of one.
@@ -91,12 +85,13 @@ complete -c sudoers_tool -n __fish_use_subcommand -a list -d 'Print what a user 
 complete -c sudoers_tool -n __fish_use_subcommand -a show -d 'Print the lines of a policy'
 complete -c sudoers_tool -n '__fish_seen_subcommand_from check' -s q -d 'Print nothing; only set the exit status'
 complete -c sudoers_tool -n '__fish_seen_subcommand_from check' -s s -d 'Treat undefined and cyclic aliases as errors'
-complete -c sudoers_tool -n '__fish_seen_subcommand_from check' -l skipped -d 'List the files in included folders that are not read'
+complete -c sudoers_tool -n '__fish_seen_subcommand_from check' -l skipped -d 'List the folders and the files in included folders that are not read'
 complete -c sudoers_tool -n '__fish_seen_subcommand_from convert' -s e -l expand-aliases -d 'Replace aliases by their members'
 complete -c sudoers_tool -n '__fish_seen_subcommand_from convert' -s f -l form -x -a 'json sudoers' -d 'Form of the output: sudoers or json'
 complete -c sudoers_tool -n '__fish_seen_subcommand_from convert' -s m -l match -x -a '(__sudoers_tool_filter)' -d 'Print only rules for some users, groups and hosts'
 complete -c sudoers_tool -n '__fish_seen_subcommand_from convert' -s p -l prune-matches -d 'With -m, drop other users and hosts from the lists'
-complete -c sudoers_tool -n '__fish_seen_subcommand_from edit' -l files -r -F -d 'Script for the files of the command line'
+complete -c sudoers_tool -n '__fish_seen_subcommand_from edit' -l files -r -F -d 'Script for a policy and the files that it includes'
+complete -c sudoers_tool -n '__fish_seen_subcommand_from edit' -l also -r -F -d 'Further file, for an include that the script inserts'
 complete -c sudoers_tool -n '__fish_seen_subcommand_from edit' -l undo -x -d 'Number of edits to take back after the script'
 complete -c sudoers_tool -n '__fish_seen_subcommand_from edit' -l redo -x -d 'Number of these edits to make again'
 complete -c sudoers_tool -n __sudoers_tool_option_of_list -s U -l other-user -x -a '(__fish_complete_users)' -d 'User who would run the command'
@@ -108,9 +103,8 @@ complete -c sudoers_tool -n __sudoers_tool_option_of_list -l host -x -d 'Long na
 complete -c sudoers_tool -n __sudoers_tool_option_of_list -l moment -x -d 'Moment in UTC, as 20260101120000Z'
 complete -c sudoers_tool -n __sudoers_tool_option_of_list -l interfaces -x -d 'Addresses of the host, as 10.1.2.9/24'
 complete -c sudoers_tool -n __sudoers_tool_option_of_list -l why -d 'Print the rule that decides'
-complete -c sudoers_tool -n '__fish_seen_subcommand_from check convert show' -l root -x -a '(__fish_complete_directories)' -d 'Folder below which names that begin with / are read'
-complete -c sudoers_tool -n __sudoers_tool_option_of_list -l root -x -a '(__fish_complete_directories)' -d 'Folder below which names that begin with / are read'
-complete -c sudoers_tool -n '__sudoers_tool_argument_of check convert list show' -F
-complete -c sudoers_tool -n __sudoers_tool_argument_of_edit -F
+complete -c sudoers_tool -n '__fish_seen_subcommand_from check convert edit show' -l root -x -a '(__fish_complete_directories)' -d 'Folder that is the root for the policy and the files that it includes'
+complete -c sudoers_tool -n __sudoers_tool_option_of_list -l root -x -a '(__fish_complete_directories)' -d 'Folder that is the root for the policy and the files that it includes'
+complete -c sudoers_tool -n '__sudoers_tool_argument_of check convert edit list show' -F
 complete -c sudoers_tool -n __sudoers_tool_word_of_list -F
 complete -c sudoers_tool -n '__sudoers_tool_argument_of help' -a 'check convert edit list show'
