@@ -82,11 +82,7 @@ fn check_found<F: Files>(
 }
 
 /// Appends to `out` a line for each folder or file of `all`, which was not read, unless it is among the files `found`.
-fn append_unread(
-    out: &mut Vec<u8>,
-    found: &[NamedFile],
-    all: &[Unread],
-) -> Result<(), AllocError>
+fn append_unread(out: &mut Vec<u8>, found: &[NamedFile], all: &[Unread]) -> Result<(), AllocError>
     ensures { OnOk result (out.new.items ≡ out.old.items ++ unread_text found.now all.now) }
 {
     for one in all {
