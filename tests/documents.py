@@ -49,6 +49,7 @@ LIMITS = {"README.md": 160, "docs/ARCHITECTURE.md": 115, "docs/AUDIT.md": 92}
 
 # Commands of `console` blocks, and what runs them: a word of each command line, in order, has to be its beginning.
 ELSEWHERE = (
+    "bash scripts/try",  # examples.py
     "bash scripts/build",  # the gate proves and builds with the same words of rt
     "bash scripts/test",  # these tests are a part of it
     "bench/run",  # a benchmark
