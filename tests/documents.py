@@ -76,10 +76,10 @@ SUDO = b"1.9.13p3"
 ANSWERS = "`list` answers"
 PEOPLE = (
     ("passwd", b"root:x:0:0:::\nbob:x:1000:1000:::\noper:x:9:9:::\n"),
-    ("group", b"root:x:0:\nbob:x:1000:\noper:x:9:\nadm:x:4:bob\nops:x:7:\n"),
+    ("group", b"root:x:0:\nbob:x:1000:\noper:x:9:\nadm:x:4:bob\nops:x:7:\nwheel:x:10:\ncrew:x:10:bob\n"),
 )
 LIST_WORDS = ("list", "--passwd", "passwd", "--group-file", "group", "--moment", "2026010100Z")
-BOB_ON_H1 = ("-U", "bob", "--host", "h1", "--interfaces", "10.0.0.1/8")
+BOB_ON_H1 = ("-U", "bob", "--host", "h1", "--interfaces", "10.0.0.1/8,127.0.0.1/8")
 
 # The pages that have a link to crates, and the beginnings of the names of these crates.
 PAGES_OF_CRATES = {"docs/ARCHITECTURE.md": ("",), "docs/TRUST.md": ("sudoers_", "laws_")}
