@@ -242,6 +242,49 @@ def run_visudo(program, tally):
             tally.note(name, problems + stays)
 
 
+def in_system(folder, words):
+    """Runs words where the files of the folder are those of /etc, and returns the answer."""
+    mounts = 'mount --bind "$0/sudoers" /etc/sudoers && mount --bind "$0/sudoers.d" /etc/sudoers.d && exec "$@"'
+    words = ["unshare", "-m", "sh", "-c", mounts, folder.path, *words]
+    environment = {"PATH": folder.commands + PATH_OF_VISUDO, "LC_ALL": "C"}
+    done = subprocess.run(words, capture_output=True, cwd=folder.path, env=environment, timeout=SECONDS, check=False)
+    return Answer(done.stdout, done.stderr, done.returncode)
+
+
+def has_system():
+    """Whether this user may mount files over those of /etc, and sudo is there."""
+    with tempfile.TemporaryDirectory() as scratch:
+        words = ["unshare", "-m", "sh", "-c", 'mount --bind "$0" /etc/sudoers.d && test -f /etc/sudoers && sudo -V', scratch]
+        try:
+            return os.geteuid() == 0 and subprocess.run(words, capture_output=True, check=False, timeout=SECONDS).returncode == 0
+        except OSError:
+            return False
+
+
+def run_system(program, tally):
+    """Without ROOT a file of /etc/sudoers.d belongs to /etc/sudoers. sudo still denies the shell that the policy denies."""
+    if not has_system():
+        tally.skip("installing edits: /etc/sudoers.d", "sudo is not installed, or nothing can be mounted over /etc")
+        return
+    asked = ("sudo", "-n", "-l", "-U", "nobody", "/bin/sh")
+    files = {"sudoers": "@includedir /etc/sudoers.d\n", "sudoers.d/a": "Cmnd_Alias SH = /bin/sh\n", "sudoers.d/b": "nobody ALL = ALL, !SH\n"}
+    rows = (
+        ("a", "prune\n", "undefined Cmnd_Alias SH", 1),
+        ("a", "rename cmnd SH SHELLS\n", "undefined Cmnd_Alias SH", 1),
+        ("b", "insert 1\n|Cmnd_Alias SH = /bin/x\n", "Cmnd_Alias SH defined twice", 1),
+        ("b", "insert 1\n|nobody ALL = SH\n", "", 1),
+        ("b", "insert 2\n|nobody ALL = SH\n", "", 0),
+    )
+    for base, script, why, status in rows:
+        with Folder(program, files) as folder:
+            before = in_system(folder, asked).status
+            folder.write("out", run(program, ("edit",), script.encode() + MARK + files[f"sudoers.d/{base}"].encode()).stdout)
+            answer = in_system(folder, ("sh", SCRIPT, "out", f"/etc/sudoers.d/{base}"))
+            problems = (refusal(why) if why else Wanted(b"", None)).problems(answer)
+            problems += difference("sudo before and after", (1, status), (before, in_system(folder, asked).status))
+        tally.note(f"installing edits: /etc/sudoers.d/{base}, {script!r}", problems)
+
+
 def run_all(program, tally):
     """Runs all cases."""
     for case in CASES:
@@ -249,3 +292,4 @@ def run_all(program, tally):
     run_link(program, tally)
     run_words(program, tally)
     run_visudo(program, tally)
+    run_system(program, tally)
