@@ -56,6 +56,11 @@ def long_runas():
     return full(filled(b"u ALL=(" + runas + b") /b", b",/b", b"\n"), 16)
 
 
+def short_runas():
+    """One line with a Runas_Spec of 4,001 members, which 4,001 commands have or inherit."""
+    return b"u ALL=(" + b"a," * 4_000 + b"a) /b" + b",/b" * 4_000 + b"\n"
+
+
 def many_commands():
     """Lines of many commands."""
     return full(filled(b"u ALL=/b", b",/b", b"\n"), 16)
@@ -80,14 +85,14 @@ def file_in(folder, name, content):
 
 
 def listing(folder, name, policy, group, asked, command):
-    """The question whether u may run a command."""
+    """The question whether u may run a command, or the listing of u if there is none."""
     files = ("--passwd", file_in(folder, "hostile-passwd", PASSWD), "--group-file", file_in(folder, f"{name}-group", group))
     path = file_in(folder, f"{name}-policy", policy)
     lines = policies.policy(len(policy))
     plain = file_in(folder, f"{name}-plain", b"".join(lines))
     return (
-        ["list", *files, *ASKED, "-U", "u", *asked, path, "--", *command],
-        ["list", *files, *ASKED, "-U", "u", plain, "--", "/b"],
+        ["list", *files, *ASKED, "-U", "u", *asked, path, *(("--", *command) if command else ())],
+        ["list", *files, *ASKED, "-U", "u", plain, *(("--", "/b") if command else ())],
     )
 
 
@@ -101,16 +106,17 @@ def converting(folder, name, policy, words, plain_words, plain_size):
 def commands(folder):
     """The hostile commands."""
     chain, many = long_chain(), many_definitions()
-    runas, few = long_runas(), many_commands()
+    runas, short, few = long_runas(), short_runas(), many_commands()
     closed, unclosed = one_pattern(b"[" + b"a" * 60_000 + b"]"), one_pattern(b"[" * 30_000)
     values = ",".join(f"user=x{n}" for n in range(1, 65))
     made = (
         ("`convert -e`, a chain of 4,096 and 65,400 mentions", 0, chain, converting(folder, "chain", chain, ("-e",), ("-e",), len(chain))),
         ("`convert -m`, 64 values and 16,384 aliases", 0, many, converting(folder, "values", many, ("-m", values), ("-m", "user=x1"), len(many))),
-        ("`list`, lists of 16,351 runas users", 1, runas, listing(folder, "runas", runas, b"", ("-u", "t"), ("/c",))),
-        ("`list`, 64,999 groups and 349,000 commands", 1, few, listing(folder, "groups", few, many_groups(), ("-u", "t", "-g", "other"), ("/c",))),
-        ("`list`, `*` and a set of 60,000 bytes", 1, closed, listing(folder, "closed", closed, b"", (), ("/b", "b" * 60_000))),
-        ("`list`, `*` and 30,000 `[`", 0, unclosed, listing(folder, "unclosed", unclosed, b"", (), ("/b", "[" * 60_000))),
+        ("`list`, 4,001 runas users at 4,001 commands", 0, short, listing(folder, "short", short, b"", (), ())),
+        ("`list COMMAND`, lists of 16,351 runas users", 1, runas, listing(folder, "runas", runas, b"", ("-u", "t"), ("/c",))),
+        ("`list COMMAND`, 64,999 groups and 349,000 commands", 1, few, listing(folder, "groups", few, many_groups(), ("-u", "t", "-g", "other"), ("/c",))),
+        ("`list COMMAND`, `*` and a set of 60,000 bytes", 1, closed, listing(folder, "closed", closed, b"", (), ("/b", "b" * 60_000))),
+        ("`list COMMAND`, `*` and 30,000 `[`", 0, unclosed, listing(folder, "unclosed", unclosed, b"", (), ("/b", "[" * 60_000))),
     )
     for name, status, policy, (words, ordinary) in made:
         yield Hostile(name, words, status, len(policy), ordinary)

@@ -13,7 +13,7 @@ A table whose first header cell is `Policy` and whose last is `` `check` prints 
 row: the first cell holds the file `policy`, and the last one what the command
 prints of it. An output of `convert` has to be right by itself too (converting.py).
 In a column `sudo` the cells `reads` and `refuses` are compared with the answer of
-visudo, if it is of that version.
+visudo, if it is of that version. A row that says `write this` is compared with those above it (written_instead.py).
 
 So is one whose last header cell is `` `list` answers ``, with `allowed`, `not allowed`
 or an error in that column. Its column `Request` has what bob asks on the host h1:
@@ -37,6 +37,7 @@ from dataclasses import dataclass, field
 import converting
 import exported
 import named_cases
+import written_instead
 from program import Wanted, run
 from tally import difference
 
@@ -49,6 +50,7 @@ LIMITS = {"README.md": 160, "docs/ARCHITECTURE.md": 115, "docs/AUDIT.md": 92}
 
 # Commands of `console` blocks, and what runs them: a word of each command line, in order, has to be its beginning.
 ELSEWHERE = (
+    "bash scripts/try",  # examples.py
     "bash scripts/build",  # the gate proves and builds with the same words of rt
     "bash scripts/test",  # these tests are a part of it
     "bench/run",  # a benchmark
@@ -74,10 +76,10 @@ SUDO = b"1.9.13p3"
 ANSWERS = "`list` answers"
 PEOPLE = (
     ("passwd", b"root:x:0:0:::\nbob:x:1000:1000:::\noper:x:9:9:::\n"),
-    ("group", b"root:x:0:\nbob:x:1000:\noper:x:9:\nadm:x:4:bob\nops:x:7:\n"),
+    ("group", b"root:x:0:\nbob:x:1000:\noper:x:9:\nadm:x:4:bob\nops:x:7:\nwheel:x:10:\ncrew:x:10:bob\n"),
 )
 LIST_WORDS = ("list", "--passwd", "passwd", "--group-file", "group", "--moment", "2026010100Z")
-BOB_ON_H1 = ("-U", "bob", "--host", "h1", "--interfaces", "10.0.0.1/8")
+BOB_ON_H1 = ("-U", "bob", "--host", "h1", "--interfaces", "10.0.0.1/8,127.0.0.1/8")
 
 # The pages that have a link to crates, and the beginnings of the names of these crates.
 PAGES_OF_CRATES = {"docs/ARCHITECTURE.md": ("",), "docs/TRUST.md": ("sudoers_", "laws_")}
@@ -110,6 +112,7 @@ class Row:
     printed: bytes
     sudo: str = ""
     request: tuple = ()
+    what: str = ""
 
 
 @dataclass
@@ -184,7 +187,8 @@ def read_row(number, header, cells):
     if policy is None or None in printed:
         raise ValueError(f"line {number}: a row that is run needs code spans in its first and last cell")
     lines = [line.replace("\\|", "|").encode() + b"\n" for line in printed if line]
-    return Row(number, command, unescaped(policy), b"".join(lines), sudo)
+    what = cells[header.index("What")] if "What" in header else ""
+    return Row(number, command, unescaped(policy), b"".join(lines), sudo, what=what)
 
 
 def read_document(name):
@@ -375,4 +379,5 @@ def run_all(program, tally):
         document = read_document(name)
         run_commands(document, program, tally)
         run_rows(document, program, tally)
+        written_instead.run_all(document, SUDO, tally)
         run_forms(document, tally)

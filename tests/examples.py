@@ -1,6 +1,6 @@
 """The examples: each policy passes `check -s`, and its script leads to the stored texts and back. One has several files.
 
-`visudo -c` has to accept the policies too, where it is installed.
+`visudo -c` has to accept the policies too, where it is installed. scripts/demo and scripts/try show what they have to.
 """
 
 import os
@@ -8,6 +8,7 @@ import shutil
 import subprocess
 import tempfile
 
+import documents
 import way_back
 from program import Answer, Wanted, run
 
@@ -69,9 +70,34 @@ def run_demo(program, tally):
     tally.note("scripts/demo", problems)
 
 
+def first_words():
+    """Returns the words of the program in the first example of README.md, with the path of its policy."""
+    blocks = [block.text for block in documents.read_document("README.md").blocks if block.kind == "sh"]
+    line = next(line for line in blocks[0].split("\n") if line.startswith("sudoers_tool "))
+    *words, policy = line.split(" ")[1:]
+    return [*words, f"examples/{SITE}/{policy}"]
+
+
+def run_try(tally):
+    """`scripts/try` has `rt try` run the first example of README.md, and shows its error. Here a script stands for rt."""
+    top = os.path.dirname(FOLDER)
+    asked = "\n".join([os.path.join(top, "crates", "sudoers_tool"), "try", "--", *first_words(), ""]).encode()
+    for status, has in ((0, (asked, b"Nothing is proved by this")), (1, (b"no memory\n", b"The program did not run."))):
+        with tempfile.TemporaryDirectory() as scratch:
+            rt = os.path.join(scratch, "rt")
+            with open(rt, "w", encoding="utf-8") as file:
+                file.write(f'#!/bin/sh\nprintf "%s\\n" "$PWD" "$@"\necho no memory >&2\nexit {status}\n')
+            os.chmod(rt, 0o755)
+            words, path = ["bash", os.path.join(top, "scripts", "try")], {"PATH": scratch + ":" + os.environ["PATH"]}
+            done = subprocess.run(words, check=False, capture_output=True, env=path)
+        wanted = Wanted(None, status=status, stdout_has=has)
+        tally.note(f"scripts/try, rt with status {status}", wanted.problems(Answer(done.stdout, done.stderr, done.returncode)))
+
+
 def run_all(program, tally):
-    """Runs each example, and the demonstration."""
+    """Runs each example, the demonstration and the trial."""
     run_demo(program, tally)
+    run_try(tally)
     visudo = shutil.which("visudo", path=os.environ.get("PATH", "") + ":/usr/sbin")
     run_site(program, tally, visudo)
     for name in sorted(os.listdir(FOLDER)):

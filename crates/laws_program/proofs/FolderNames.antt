@@ -1,18 +1,20 @@
 -- The names of files in a folder to which an include of it leads.
-use Rattle.std.proofs.Common.{◌≡◌, ℕ, ◌==◌, ◌&&◌, not, Bool, true, false, if◌then◌else◌, List, [], ◌∷◌, ◌++◌, length, drop, refl, ap, ap₂, ◌∙◌}
+use Rattle.std.proofs.Common.{◌≡◌, ℕ, ◌==◌, ◌&&◌, not, Bool, true, false, if◌then◌else◌, List, [], ◌∷◌, ◌++◌, length, drop, map, refl, ap, ap₂, ◌∙◌}
 use Rattle.std.specs.declared.cmp.Ordering.{Ordering}
 use Rattle.std.specs.declared.cmp.Ordering.TheVariants.{Less, Equal, Greater}
 use Rattle.std.specs.BTreeSet.{insert_key}
 use Rattle.std.specs.Cmp.Derive.{both_true}
 use Rattle.std.specs.Cmp.Lexicographic.{slice_cmp}
-use Rattle.std.specs.List.{AllByRecursion}
+use Rattle.std.specs.List.{AllByRecursion, filter}
 use Rattle.std.specs.Ordering.{match_ordering, nat_cmp}
 use Rattle.std.specs.Str.{bytes_eq}
 use Rattle.std.proofs.lemmas.Slice.Eq.{bytes_eq-Decides}
 use Rattle.sudoers_line.specs.Piece.{has_byte}
 use Rattle.sudoers_tree.specs.Lead.{folder_of}
 use Rattle.sudoers_tree.specs.Targets.{base_of, ends_in_tilde, is_base, is_in_folder}
-use Rattle.sudoers_files.specs.Folder.{in_order, name_in, with_base}
+use Rattle.sudoers_tree.specs.declared.load.NamedFile.{NamedFile}
+use Rattle.sudoers_files.specs.Folder.{in_order, name_in, named_in}
+use Rattle.sudoers_files.specs.Shelf.{names_in, wanted_in}
 use Rattle.laws_program.proofs.WalkSteps.{true_behind}
 
 -- ---- the name of a file in a folder
@@ -56,6 +58,32 @@ is_led_in dir base is =
 
 -- ---- names in order
 
+-- the names `before`, which are in order, and this one among them if an include of the folder reads it
+abbrev pub with_base : List ℕ → List (List ℕ) → List (List ℕ)
+with_base base before = if is_base base then insert_key (slice_cmp nat_cmp) before base else before
+
+-- the names `before` and those of the others that an include of the folder reads, in order
+abbrev pub picked_in_order : List (List ℕ) → List (List ℕ) → List (List ℕ)
+picked_in_order before [] = before
+picked_in_order before (base ∷ bases) = picked_in_order (with_base base before) bases
+
+picked : (before bases : List (List ℕ)) → in_order before (filter is_base bases) ≡ picked_in_order before bases
+picked before [] = refl
+picked before (base ∷ bases) = by (is_base base) (λ names. picked names bases)
+  where
+    by : (t : Bool) → ((names : List (List ℕ)) → in_order names (filter is_base bases) ≡ picked_in_order names bases)
+        → in_order before (if t then base ∷ filter is_base bases else filter is_base bases)
+        ≡ picked_in_order (if t then insert_key (slice_cmp nat_cmp) before base else before) bases
+    by true later = later (insert_key (slice_cmp nat_cmp) before base)
+    by false later = later before
+
+-- the whole names of the files of a folder that an include of it reads
+abbrev pub led_in : List ℕ → List (List ℕ) → List (List ℕ)
+led_in dir bases = map (name_in dir) (picked_in_order [] bases)
+
+pub named_is : (known : List NamedFile) (dir : List ℕ) → named_in dir (wanted_in dir known) ≡ led_in dir (names_in dir known)
+named_is known dir = ap (map (name_in dir)) (picked [] (names_in dir known))
+
 pub insert_all : (P : List ℕ → Type 0) (keys : List (List ℕ)) (key : List ℕ) → AllByRecursion P keys → P key → AllByRecursion P (insert_key (slice_cmp nat_cmp) keys key)
 insert_all P [] key all is = (is, tt)
 insert_all P (x ∷ keys) key all is = by (slice_cmp nat_cmp key x) (insert_all P keys key all.1 is)
@@ -69,13 +97,13 @@ insert_all P (x ∷ keys) key all is = by (slice_cmp nat_cmp key x) (insert_all 
 abbrev AreBases : List (List ℕ) → Type 0
 AreBases = AllByRecursion (λ base. is_base base ≡ true)
 
-with_base_all : (before : List (List ℕ)) (base : List ℕ) → AreBases before → AreBases (with_base true base before)
+with_base_all : (before : List (List ℕ)) (base : List ℕ) → AreBases before → AreBases (with_base base before)
 with_base_all before base all = by (is_base base) refl
   where
     by : (t : Bool) → is_base base ≡ t → AreBases (if t then insert_key (slice_cmp nat_cmp) before base else before)
     by true is = insert_all (λ b. is_base b ≡ true) before base all is
     by false is = all
 
-pub order_all : (before bases : List (List ℕ)) → AreBases before → AreBases (in_order true before bases)
+pub order_all : (before bases : List (List ℕ)) → AreBases before → AreBases (picked_in_order before bases)
 order_all before [] all = all
-order_all before (base ∷ bases) all = order_all (with_base true base before) bases (with_base_all before base all)
+order_all before (base ∷ bases) all = order_all (with_base base before) bases (with_base_all before base all)

@@ -15,11 +15,11 @@ use Rattle.sudoers_tree.specs.Files.{FileReading, name_in as read_name, name_of}
 use Rattle.sudoers_tree.specs.Lead.{folder_of}
 use Rattle.sudoers_tree.specs.Load.{is_among}
 use Rattle.sudoers_tree.specs.Targets.{base_of, files_in, is_base, is_before, is_in_folder, number_of, put_in_order}
-use Rattle.sudoers_files.specs.Folder.{in_order, led_in, name_in, with_base}
-use Rattle.sudoers_files.specs.Shelf.{front_of, names_in}
+use Rattle.sudoers_files.specs.Folder.{name_in, named_in}
+use Rattle.sudoers_files.specs.Shelf.{front_of, names_in, wanted_in}
 use Rattle.laws_program.proofs.WalkSteps.{or_true, true_before, true_behind}
-use Rattle.laws_program.proofs.FolderNames.{insert_all, is_led_in, order_all, same_bytes}
-use Rattle.laws_program.proofs.SortedNames.{Has, Rises, above_trans, led_has, named_in, order, order_rises, reversed, rises_in, rises_same}
+use Rattle.laws_program.proofs.FolderNames.{insert_all, is_led_in, led_in, named_is, order_all, picked_in_order, same_bytes, with_base}
+use Rattle.laws_program.proofs.SortedNames.{Has, Rises, above_trans, base_named, led_has, order, order_rises, reversed, rises_in, rises_same}
 
 -- the names of these files
 abbrev pub NamesOf : List FileReading → List ℕ → List (List ℕ)
@@ -183,9 +183,9 @@ and_parts : (a b : Bool) → (a && b) ≡ true → (a ≡ true) × (b ≡ true)
 and_parts true b is = (refl, is)
 and_parts false b is = absurd cc
 
-insert_there : (P : List ℕ → Type 0) (before bases : List (List ℕ)) → AllByRecursion P before → AllByRecursion P bases → AllByRecursion P (in_order true before bases)
+insert_there : (P : List ℕ → Type 0) (before bases : List (List ℕ)) → AllByRecursion P before → AllByRecursion P bases → AllByRecursion P (picked_in_order before bases)
 insert_there P before [] all more = all
-insert_there P before (base ∷ bases) all more = insert_there P (with_base true base before) bases (by (is_base base)) more.1
+insert_there P before (base ∷ bases) all more = insert_there P (with_base base before) bases (by (is_base base)) more.1
   where
     by : (t : Bool) → AllByRecursion P (if t then insert_key (slice_cmp nat_cmp) before base else before)
     by true = insert_all P before base all more.0
@@ -211,7 +211,7 @@ names_there (file ∷ known) dir = by (bytes_eq (folder_of file.name) (dir ++ 47
     here is = (
       take (text_limit + 1) file.bytes,
       ap (λ t. if t then Some (take (text_limit + 1) file.bytes) else front_of (name_in dir (base_of file.name)) known)
-          ((bytes_eq-Decides (name_in dir (base_of file.name)) file.name).1 (sym (named_in dir file.name is))),
+          ((bytes_eq-Decides (name_in dir (base_of file.name)) file.name).1 (sym (base_named dir file.name is))),
     )
 
     by : (t : Bool) → bytes_eq (folder_of file.name) (dir ++ 47 ∷ []) ≡ t → AllByRecursion (λ base. IsThere (file ∷ known) (name_in dir base)) (names_in dir known)
@@ -224,9 +224,12 @@ all_in P dir [] all = tt
 all_in P dir (base ∷ bases) all = (all.0, all_in P dir bases all.1)
 
 -- All names to which an include of the folder leads are known.
-pub led_there : (known : List NamedFile) (dir : List ℕ) → AllByRecursion (IsThere known) (led_in dir (names_in dir known))
-led_there known dir =
-    all_in (IsThere known) dir (in_order true [] (names_in dir known)) (insert_there (λ base. IsThere known (name_in dir base)) [] (names_in dir known) tt (names_there known dir))
+picked_there : (known : List NamedFile) (dir : List ℕ) → AllByRecursion (IsThere known) (led_in dir (names_in dir known))
+picked_there known dir =
+    all_in (IsThere known) dir (picked_in_order [] (names_in dir known)) (insert_there (λ base. IsThere known (name_in dir base)) [] (names_in dir known) tt (names_there known dir))
+
+pub led_there : (known : List NamedFile) (dir : List ℕ) → AllByRecursion (IsThere known) (named_in dir (wanted_in dir known))
+led_there known dir = subst (AllByRecursion (IsThere known)) (sym (named_is known dir)) (picked_there known dir)
 
 inside_all : (dir : List ℕ) (bases : List (List ℕ)) → AllByRecursion (λ base. is_base base ≡ true) bases → AllByRecursion (λ name. is_in_folder (dir ++ 47 ∷ []) name ≡ true) (map (name_in dir) bases)
 inside_all dir [] all = tt
@@ -259,16 +262,22 @@ members_have known all there dir (g ∷ numbers) members =
 pub stand_all : (all : List FileReading) → Stand all 0 all
 stand_all all i reading is = let same : i ≡ 0 + i = omega arith in subst (λ k. slice_get all k ≡ Some reading) same is
 
--- The files of the folder on the walk have the names that are gathered, in their order, if each of these is among the files.
-pub folder_same : (known : List NamedFile) (all : List FileReading) → AreOwn all → ((k : ℕ) (reading : FileReading) → slice_get all k ≡ Some reading → IsThere known reading.name) → (dir : List ℕ)
+folder_picked : (known : List NamedFile) (all : List FileReading) → AreOwn all → ((k : ℕ) (reading : FileReading) → slice_get all k ≡ Some reading → IsThere known reading.name) → (dir : List ℕ)
     → AllByRecursion (λ name. (k : ℕ) × (number_of name 0 all ≡ Some k)) (led_in dir (names_in dir known)) → NamesOf all (files_in all (dir ++ 47 ∷ []) 0 all) ≡ led_in dir (names_in dir known)
-folder_same known all own there dir numbered =
+folder_picked known all own there dir numbered =
     let both = folder_rises all (dir ++ 47 ∷ []) own 0 all (stand_all all) in
     let names = led_in dir (names_in dir known) in
-    rises_same (NamesOf all (files_in all (dir ++ 47 ∷ []) 0 all)) names both.0 (rises_in dir (in_order true [] (names_in dir known)) (order_rises [] (names_in dir known) tt))
+    rises_same (NamesOf all (files_in all (dir ++ 47 ∷ []) 0 all)) names both.0 (rises_in dir (picked_in_order [] (names_in dir known)) (order_rises [] (names_in dir known) tt))
     (λ q has. has_all all (files_in all (dir ++ 47 ∷ []) 0 all) names q (members_have known all there dir (files_in all (dir ++ 47 ∷ []) 0 all) both.1) has)
     (λ q has.
     let number = all_has (λ name. (k : ℕ) × (number_of name 0 all ≡ Some k)) names q numbered has in
     folder_has all (dir ++ 47 ∷ []) q 0 all (stand_all all)
-    (all_has (λ name. is_in_folder (dir ++ 47 ∷ []) name ≡ true) names q (inside_all dir (in_order true [] (names_in dir known)) (order_all [] (names_in dir known) tt)) has)
+    (all_has (λ name. is_in_folder (dir ++ 47 ∷ []) name ≡ true) names q (inside_all dir (picked_in_order [] (names_in dir known)) (order_all [] (names_in dir known) tt)) has)
     number.0 number.1)
+
+-- The files of the folder on the walk have the names that are gathered, in their order, if each of these is among the files.
+pub folder_same : (known : List NamedFile) (all : List FileReading) → AreOwn all → ((k : ℕ) (reading : FileReading) → slice_get all k ≡ Some reading → IsThere known reading.name) → (dir : List ℕ)
+    → AllByRecursion (λ name. (k : ℕ) × (number_of name 0 all ≡ Some k)) (named_in dir (wanted_in dir known))
+    → NamesOf all (files_in all (dir ++ 47 ∷ []) 0 all) ≡ named_in dir (wanted_in dir known)
+folder_same known all own there dir numbered =
+    folder_picked known all own there dir (subst (AllByRecursion (λ name. (k : ℕ) × (number_of name 0 all ≡ Some k))) (named_is known dir) numbered) ∙ sym (named_is known dir)

@@ -14,13 +14,14 @@ use Rattle.sudoers_tree.specs.Load.{file_limit, first_repeated, has_name}
 use Rattle.sudoers_tree.specs.Targets.{files_in, number_of, targets}
 use Rattle.sudoers_tree.specs.Walk.{Walked, is_on, taken}
 use Rattle.sudoers_files.specs.declared.fault.GatherFault.TheVariants.{TooManyFiles}
-use Rattle.sudoers_files.specs.Folder.{led_in}
+use Rattle.sudoers_files.specs.Folder.{named_in}
 use Rattle.sudoers_files.specs.Gather.{and_then, take_file, unless_found, unless_full, visit, visit_each}
 use Rattle.sudoers_files.specs.Included.{included, led_by}
-use Rattle.sudoers_files.specs.Shelf.{front_of, names_in}
+use Rattle.sudoers_files.specs.Shelf.{front_of, wanted_in}
 use Rattle.laws_program.proofs.WalkSteps.{or_true, true_before, true_behind}
 use Rattle.laws_program.proofs.FolderOrder.{AreOwn, IsMember, IsOwn, IsThere, NamesOf, folder_rises, folder_same, led_there, stand_all}
-use Rattle.laws_program.proofs.GatheredFiles.{IsReading, Names, NamesRead, Outcome, all_at, each_keeps, names_kept, number_at, ok_is, pushed, visit_keeps}
+use Rattle.sudoers_files.proofs.Keeping.{Names, each_keeps, names_kept, ok_is, pushed, visit_keeps}
+use Rattle.laws_program.proofs.GatheredFiles.{IsReading, NamesRead, Outcome, all_at, number_at}
 
 -- the numbers below this one, in their order
 abbrev pub up : ℕ → List ℕ
@@ -188,7 +189,7 @@ led_match known found files ready left before now prefix (File name) inner is vi
     by (Some k) e f = subst (Match files (name ∷ [])) (let same : k ∷ [] ≡ inner = cc in same) (e, tt)
 led_match known found files ready left before now prefix (Dir dir) inner is visits =
     let own = are_own known found files ready in
-    let names = led_in dir (names_in dir known) in
+    let names = named_in dir (wanted_in dir known) in
     let numbers = files_in files (dir ++ 47 ∷ []) 0 files in
     let has = each_finds known left before now names (led_there known dir) visits in
     let same : NamesOf files numbers ≡ names = folder_same known files own (are_there known found files ready) dir (all_numbered known found files ready now prefix names has) in

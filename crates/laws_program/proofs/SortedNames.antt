@@ -16,10 +16,10 @@ use Rattle.sudoers_tree.specs.declared.load.NamedFile.{NamedFile}
 use Rattle.sudoers_tree.specs.Lead.{folder_of}
 use Rattle.sudoers_tree.specs.Load.{is_among}
 use Rattle.sudoers_tree.specs.Targets.{base_of, is_base}
-use Rattle.sudoers_files.specs.Folder.{in_order, name_in, with_base}
+use Rattle.sudoers_files.specs.Folder.{name_in}
 use Rattle.sudoers_files.specs.Shelf.{front_of, names_in}
 use Rattle.laws_program.proofs.WalkSteps.{or_true, true_before, true_behind}
-use Rattle.laws_program.proofs.FolderNames.{insert_all, same_bytes}
+use Rattle.laws_program.proofs.FolderNames.{insert_all, picked_in_order, same_bytes, with_base}
 
 abbrev pub order : List ℕ → List ℕ → Ordering
 order = slice_cmp nat_cmp
@@ -113,38 +113,38 @@ insert_keeps q (x ∷ keys) key has = by (order key x) (λ later. insert_keeps q
         (λ same. true_before (bytes_eq q x) (is_among q (insert_key (slice_cmp nat_cmp) keys key)) same)
         (λ behind. true_behind (bytes_eq q x) (is_among q (insert_key (slice_cmp nat_cmp) keys key)) (later behind))
 
-base_rises : (before : List (List ℕ)) (base : List ℕ) → Rises before → Rises (with_base true base before)
+base_rises : (before : List (List ℕ)) (base : List ℕ) → Rises before → Rises (with_base base before)
 base_rises before base up = by (is_base base)
   where
     by : (t : Bool) → Rises (if t then insert_key (slice_cmp nat_cmp) before base else before)
     by true = rises_insert before base up
     by false = up
 
-base_keeps : (q : List ℕ) (before : List (List ℕ)) (base : List ℕ) → Has q before → Has q (with_base true base before)
+base_keeps : (q : List ℕ) (before : List (List ℕ)) (base : List ℕ) → Has q before → Has q (with_base base before)
 base_keeps q before base has = by (is_base base)
   where
     by : (t : Bool) → Has q (if t then insert_key (slice_cmp nat_cmp) before base else before)
     by true = insert_keeps q before base has
     by false = has
 
-pub order_rises : (before bases : List (List ℕ)) → Rises before → Rises (in_order true before bases)
+pub order_rises : (before bases : List (List ℕ)) → Rises before → Rises (picked_in_order before bases)
 order_rises before [] up = up
-order_rises before (base ∷ bases) up = order_rises (with_base true base before) bases (base_rises before base up)
+order_rises before (base ∷ bases) up = order_rises (with_base base before) bases (base_rises before base up)
 
-order_keeps : (q : List ℕ) (before bases : List (List ℕ)) → Has q before → Has q (in_order true before bases)
+order_keeps : (q : List ℕ) (before bases : List (List ℕ)) → Has q before → Has q (picked_in_order before bases)
 order_keeps q before [] has = has
-order_keeps q before (base ∷ bases) has = order_keeps q (with_base true base before) bases (base_keeps q before base has)
+order_keeps q before (base ∷ bases) has = order_keeps q (with_base base before) bases (base_keeps q before base has)
 
-order_has : (q : List ℕ) (before bases : List (List ℕ)) → is_base q ≡ true → Has q bases → Has q (in_order true before bases)
+order_has : (q : List ℕ) (before bases : List (List ℕ)) → is_base q ≡ true → Has q bases → Has q (picked_in_order before bases)
 order_has q before [] is has = absurd cc
 order_has q before (base ∷ bases) is has =
-    or_true (bytes_eq q base) (is_among q bases) (Has q (in_order true before (base ∷ bases))) has
+    or_true (bytes_eq q base) (is_among q bases) (Has q (picked_in_order before (base ∷ bases))) has
     (λ same.
     let here : q ≡ base = (bytes_eq-Decides q base).0 same in
-    order_keeps q (with_base true base before) bases
-    (subst (λ b. Has q (with_base true b before)) here
+    order_keeps q (with_base base before) bases
+    (subst (λ b. Has q (with_base b before)) here
     (subst (λ t. Has q (if t then insert_key (slice_cmp nat_cmp) before q else before)) (sym is) (insert_new before q))))
-    (λ later. order_has q (with_base true base before) bases is later)
+    (λ later. order_has q (with_base base before) bases is later)
 
 -- ---- names in a folder
 
@@ -190,8 +190,8 @@ appended : (dir base : List ℕ) → (dir ++ 47 ∷ []) ++ base ≡ name_in dir 
 appended [] base = refl
 appended (d ∷ dir) base = ap (λ n. d ∷ n) (appended dir base)
 
-pub named_in : (dir name : List ℕ) → folder_of name ≡ dir ++ 47 ∷ [] → name ≡ name_in dir (base_of name)
-named_in dir name is = parted name ∙ ap (λ f. f ++ base_of name) is ∙ appended dir (base_of name)
+pub base_named : (dir name : List ℕ) → folder_of name ≡ dir ++ 47 ∷ [] → name ≡ name_in dir (base_of name)
+base_named dir name is = parted name ∙ ap (λ f. f ++ base_of name) is ∙ appended dir (base_of name)
 
 known_in : (known : List NamedFile) (dir name bytes : List ℕ) → folder_of name ≡ dir ++ 47 ∷ [] → front_of name known ≡ Some bytes → Has (base_of name) (names_in dir known)
 known_in [] dir name bytes is there = absurd cc
@@ -212,7 +212,7 @@ known_in (file ∷ known) dir name bytes is there = by (bytes_eq name file.name)
 
 -- A file that is known and to which an include of the folder leads is among its names.
 pub led_has : (known : List NamedFile) (dir name bytes : List ℕ) → folder_of name ≡ dir ++ 47 ∷ [] → is_base (base_of name) ≡ true → front_of name known ≡ Some bytes
-    → Has name (map (name_in dir) (in_order true [] (names_in dir known)))
+    → Has name (map (name_in dir) (picked_in_order [] (names_in dir known)))
 led_has known dir name bytes is base there =
-    subst (λ n. Has n (map (name_in dir) (in_order true [] (names_in dir known)))) (sym (named_in dir name is))
-    (has_in dir (base_of name) (in_order true [] (names_in dir known)) (order_has (base_of name) [] (names_in dir known) base (known_in known dir name bytes is there)))
+    subst (λ n. Has n (map (name_in dir) (picked_in_order [] (names_in dir known)))) (sym (base_named dir name is))
+    (has_in dir (base_of name) (picked_in_order [] (names_in dir known)) (order_has (base_of name) [] (names_in dir known) base (known_in known dir name bytes is there)))

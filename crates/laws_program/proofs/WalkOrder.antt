@@ -33,7 +33,8 @@ use Rattle.sudoers_files.specs.Shelf.{front_of}
 use Rattle.sudoers_files.proofs.Visited.{each_more}
 use Rattle.laws_program.proofs.WalkSteps.{lines_whole, opened_are, taken_same}
 use Rattle.laws_program.proofs.FolderOrder.{IsThere}
-use Rattle.laws_program.proofs.GatheredFiles.{IsReading, Names, NamesRead, Outcome, ReadsAre, fault_read, files_read, from_known, lines_read, load_once, number_is, ok_is, reads_whole}
+use Rattle.sudoers_files.proofs.Keeping.{Names, ok_is}
+use Rattle.laws_program.proofs.GatheredFiles.{IsReading, NamesRead, Outcome, ReadsAre, fault_read, files_read, from_known, lines_read, load_once, number_is, reads_whole}
 use Rattle.laws_program.proofs.GatheredNumbers.{Extends, Match, Prefix, Ready, each_extends, get_pushed, is_fresh, led_match, number_of_file, prefix_back, up}
 
 -- ---- the walk and the gathering go on together

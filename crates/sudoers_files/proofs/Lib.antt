@@ -3,3 +3,5 @@ pub mod Kept
 pub mod Fronts
 pub mod Visited
 pub mod Gathered
+pub mod Keeping
+pub mod Settling

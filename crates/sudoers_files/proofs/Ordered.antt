@@ -6,14 +6,11 @@ use Rattle.std.specs.declared.cmp.Ordering.TheVariants.{Less, Equal, Greater}
 use Rattle.std.specs.Ordering.{match_ordering, nat_cmp}
 use Rattle.std.specs.Cmp.Lexicographic.{slice_cmp}
 use Rattle.std.specs.BTreeSet.{insert_key}
+use Rattle.sudoers_files.specs.internal.Gathering.{by_bytes}
 
 -- the bytes of a name
 abbrev pub bytes : Vec ℕ Global → List ℕ
 bytes name = name.items
-
--- the order of names is that of their bytes
-abbrev pub by_bytes : Vec ℕ Global → Vec ℕ Global → Ordering
-by_bytes name other = slice_cmp nat_cmp (bytes name) (bytes other)
 
 -- A name is inserted where its bytes are inserted.
 pub inserted : (order : List (Vec ℕ Global)) (name : Vec ℕ Global) → map bytes (insert_key by_bytes order name) ≡ insert_key (slice_cmp nat_cmp) (map bytes order) (bytes name)

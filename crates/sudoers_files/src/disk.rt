@@ -7,12 +7,11 @@ use crate::counts::{Counts, read_front};
 use crate::fault::FileFault;
 use crate::files::Files;
 use crate::path::path_below;
-use std::alloc::Global;
-use std::fs;
+use std::alloc::{AllocError, Global};
 use std::fs::DirEntry;
-use std::io;
 use std::io::{ErrorKind, Read};
 use std::rt::Files as FileSystem;
+use std::{fs, io};
 use sudoers_tree::{Items, is_base};
 
 /// The name of the file that a reader gives.
@@ -78,7 +77,8 @@ impl<S: FileSystem + AllocGlobal + Clone + Drop, R: Read + Drop> FilesOnDisk<S, 
 
     /// Returns the bytes of the file `name`, up to the first past the limit of a text. Returns nothing if the file is missing.
     fn read_file(&mut self, alloc: Global, name: &[u8]) -> Result<Option<Items<u8>>, FileFault>
-        ensures { IfOk result (λ bytes. IfSome bytes (λ bytes. length bytes ≤ text_limit + 1)) }
+        ensures most { IfOk result (λ bytes. IfSome bytes (λ bytes. length bytes ≤ text_limit + 1)) }
+        ensures same { self.new.counts ≡ self.old.counts }
     {
         let is_root = name == self.root.as_slice();
         if is_root && name == STREAM_NAME {
@@ -195,7 +195,7 @@ impl<S: FileSystem + AllocGlobal + Clone + Drop, R: Read + Drop> FilesOnDisk<S, 
     }
 
     /// Keeps the name of the file or the folder that is asked for.
-    fn note_asked(&mut self, alloc: Global, name: &[u8]) -> Result<(), FileFault>
+    fn note_asked(&mut self, alloc: Global, name: &[u8]) -> Result<(), AllocError>
         ensures { self.new.counts ≡ self.old.counts }
     {
         self.asked = Items::from_slice(alloc, name)?;

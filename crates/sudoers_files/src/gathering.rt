@@ -1,13 +1,13 @@
 //! Gathering the files of a policy, from its root on.
 
-ghost use Rattle.std.specs.Prelude.{◌≡◌, ◌⊎◌, ◌++◌, ◌∷◌, [], List, Some, Ok, Err, IfErr, IfOk, MatchResult};
+ghost use Rattle.std.specs.Prelude.{◌≡◌, ◌⊎◌, ◌++◌, ◌∷◌, [], List, Some, Ok, Err, IfErr, IfOk, MatchResult, OnOk};
 ghost use Rattle.sudoers_tree.specs.declared.load.NamedFile.{NamedFile as NamedFileOf};
 ghost use Rattle.sudoers_files.specs.Gather.{Asks, IsOutside, gathered, take_file, visit, visit_each};
 ghost use Rattle.sudoers_files.specs.Included.{included_by, led_by};
 ghost use Rattle.sudoers_files.specs.Folder.{named_in};
 ghost use Rattle.sudoers_tree.specs.Lead.{leads};
 ghost use Rattle.sudoers_files.specs.Shelf.{front_of, wanted_in};
-ghost use Rattle.sudoers_files.specs.internal.Gathering.{Comes, IsSettled};
+ghost use Rattle.sudoers_files.specs.internal.Gathering.{AreSettled, Comes};
 
 use crate::fault::GatherFault;
 use crate::files::Files;
@@ -89,8 +89,10 @@ fn take_file<F: Files>(
     bytes: Items<u8>,
     gathered: &mut Gathered,
 ) -> Result<(), GatherFault>
-    ensures comes { (known : List NamedFileOf) → (F.shelf files.old).files ≡ Some known → IsSettled known gathered.old
-        → Comes known result gathered.new (take_file (visit left known) known gathered.old.found.items (record { name = name.now; bytes = bytes })) }
+    ensures comes { (known : List NamedFileOf) → (F.shelf files.old).files ≡ Some known → AreSettled known gathered.old.found.items gathered.old.folders
+        → Comes result gathered.new.found.items (take_file (visit left known) known gathered.old.found.items (record { name = name.now; bytes = bytes })) }
+    ensures settles { (known : List NamedFileOf) → (F.shelf files.old).files ≡ Some known → AreSettled known gathered.old.found.items gathered.old.folders
+        → OnOk result (AreSettled known gathered.new.found.items gathered.new.folders) }
     ensures asks { Asks result (F.shelf files.old) (F.shelf files.new) }
 {
     let lines = include_lines(alloc, name, bytes.as_slice())?;
@@ -115,8 +117,10 @@ fn follow<F: Files>(
     line: &[u8],
     gathered: &mut Gathered,
 ) -> Result<(), GatherFault>
-    ensures comes { (known : List NamedFileOf) → (F.shelf files.old).files ≡ Some known → IsSettled known gathered.old
-        → Comes known result gathered.new (visit_each (visit left known) gathered.old.found.items (led_by known (leads name.now line.now))) }
+    ensures comes { (known : List NamedFileOf) → (F.shelf files.old).files ≡ Some known → AreSettled known gathered.old.found.items gathered.old.folders
+        → Comes result gathered.new.found.items (visit_each (visit left known) gathered.old.found.items (led_by known (leads name.now line.now))) }
+    ensures settles { (known : List NamedFileOf) → (F.shelf files.old).files ≡ Some known → AreSettled known gathered.old.found.items gathered.old.folders
+        → OnOk result (AreSettled known gathered.new.found.items gathered.new.folders) }
     ensures asks { Asks result (F.shelf files.old) (F.shelf files.new) }
 {
     match leads(alloc, name, line)? {
@@ -136,8 +140,10 @@ fn enter<F: Files>(
     dir: &[u8],
     gathered: &mut Gathered,
 ) -> Result<(), GatherFault>
-    ensures comes { (known : List NamedFileOf) → (F.shelf files.old).files ≡ Some known → IsSettled known gathered.old
-        → Comes known result gathered.new (visit_each (visit left known) gathered.old.found.items (named_in dir.now (wanted_in dir.now known))) }
+    ensures comes { (known : List NamedFileOf) → (F.shelf files.old).files ≡ Some known → AreSettled known gathered.old.found.items gathered.old.folders
+        → Comes result gathered.new.found.items (visit_each (visit left known) gathered.old.found.items (named_in dir.now (wanted_in dir.now known))) }
+    ensures settles { (known : List NamedFileOf) → (F.shelf files.old).files ≡ Some known → AreSettled known gathered.old.found.items gathered.old.folders
+        → OnOk result (AreSettled known gathered.new.found.items gathered.new.folders) }
     ensures asks { Asks result (F.shelf files.old) (F.shelf files.new) }
 {
     let folder = Vec::from_slice(alloc, dir)?;
@@ -163,8 +169,10 @@ fn visit<F: Files>(
     name: &[u8],
     gathered: &mut Gathered,
 ) -> Result<(), GatherFault>
-    ensures comes { (known : List NamedFileOf) → (F.shelf files.old).files ≡ Some known → IsSettled known gathered.old
-        → Comes known result gathered.new (visit left known gathered.old.found.items name.now) }
+    ensures comes { (known : List NamedFileOf) → (F.shelf files.old).files ≡ Some known → AreSettled known gathered.old.found.items gathered.old.folders
+        → Comes result gathered.new.found.items (visit left known gathered.old.found.items name.now) }
+    ensures settles { (known : List NamedFileOf) → (F.shelf files.old).files ≡ Some known → AreSettled known gathered.old.found.items gathered.old.folders
+        → OnOk result (AreSettled known gathered.new.found.items gathered.new.folders) }
     ensures asks { Asks result (F.shelf files.old) (F.shelf files.new) }
 {
     if has_name(gathered.found.as_slice(), name) {

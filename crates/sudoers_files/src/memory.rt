@@ -1,6 +1,6 @@
 //! Files in memory.
 
-ghost use Rattle.std.specs.Prelude.{◌≡◌, ◌++◌, ◌∷◌, [], Some, IfOk, MatchOption, None};
+ghost use Rattle.std.specs.Prelude.{◌≡◌, ◌++◌, ◌∷◌, [], Some, IfOk, MatchOption, None, not, if◌then◌else◌};
 ghost use Rattle.std.specs.Str.{bytes_eq};
 ghost use Rattle.sudoers_files.specs.Shelf.{front_of, names_in, unread_in, wanted_in};
 ghost use Rattle.sudoers_tree.specs.Targets.{is_base};
@@ -98,12 +98,8 @@ fn names_in(alloc: Global, files: &[NamedFile], dir: &[u8]) -> Result<Vec<Items<
 }
 
 /// Returns those of the names `names` that an include of their folder reads, or with `read` false the others.
-fn bases_of(
-    alloc: Global,
-    names: Vec<Items<u8>>,
-    read: bool,
-) -> Result<Vec<Items<u8>>, AllocError>
-    ensures { IfOk result (λ bases. bases.items ≡ filter (λ base. is_base base == read) names.items) }
+fn bases_of(alloc: Global, names: Vec<Items<u8>>, read: bool) -> Result<Vec<Items<u8>>, AllocError>
+    ensures { IfOk result (λ bases. bases.items ≡ filter (λ base. if read then is_base base else not (is_base base)) names.items) }
 {
     let mut bases = Vec::new(alloc);
     for name in names {

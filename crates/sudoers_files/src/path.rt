@@ -1,10 +1,9 @@
 //! Names as paths of a disk.
 
 use std::alloc::{AllocError, Global};
-use std::fs;
-use std::io;
 use std::io::ErrorKind;
 use std::rt::Files as FileSystem;
+use std::{fs, io};
 
 /// How many links a name may lead through.
 const LINK_LIMIT: usize = 40;

@@ -7,3 +7,4 @@ mod RewriteLemmas
 mod ListLemmas
 mod ListEnds
 mod UndoLemmas
+mod CheckLemmas

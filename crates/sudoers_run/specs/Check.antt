@@ -55,9 +55,13 @@ unread_text found all = flat_map (line_of found) all
 abbrev pub found_text : CheckWords → List NamedFile → List NamedFile → List ℕ
 found_text words known found = check_text words.strict (load_of found) ++ (if words.skipped then unread_text found (unread known found) else [])
 
--- what is written; nothing with `quiet`
+-- the text, or nothing with `quiet`
+abbrev pub unless_quiet : Bool → List ℕ → List ℕ
+unless_quiet quiet text = if quiet then [] else text
+
+-- what is written
 abbrev pub check_output : CheckWords → List ℕ → List NamedFile → Result (List ℕ) LayerFault
-check_output words root known = of_found (λ found. Ok (if words.quiet then [] else found_text words known found)) (gathered known root)
+check_output words root known = of_found (λ found. Ok (unless_quiet words.quiet (found_text words known found))) (gathered known root)
 
 -- A fault of gathering is the one that the files have. Faults of devices and of memory may come whatever the files are.
 abbrev pub TellsCheck : Bool → List ℕ → ToolFault → List NamedFile → Type 0

@@ -1,12 +1,12 @@
 //! Checking a policy.
-ghost use Rattle.std.specs.Prelude.{◌≡◌, ◌≢◌, ◌+◌, ◌<◌, ◌≤◌, ◌++◌, true, codes, length, List, Ok, Err, Some, IfOk, IfErr, IfSome, IsOkAnd, OnOk, min, ◌-◌, ◌^◌};
+ghost use Rattle.std.specs.Prelude.{◌≡◌, ◌≢◌, ◌+◌, ◌<◌, ◌≤◌, ◌++◌, true, false, codes, length, List, Ok, Err, Some, IfOk, IfErr, IfSome, IsOkAnd, OnErr, OnOk, min, ◌-◌, ◌^◌};
 ghost use Rattle.std.specs.Io.KnownBytes.{Keeps, Appends};
-ghost use Rattle.sudoers_run.specs.Device.{Writes, AppendsFront};
+ghost use Rattle.sudoers_run.specs.Device.{Writes, AppendsFront, Rose};
 ghost use Rattle.sudoers_tree.specs.declared.load.NamedFile.{NamedFile as NamedFileOf};
 ghost use Rattle.sudoers_tree.specs.Load.{load_of};
 ghost use Rattle.sudoers_run.specs.Policy.{IsOutside, Searches};
 ghost use Rattle.sudoers_run.specs.FaultText.{text_of_load};
-ghost use Rattle.sudoers_run.specs.Check.{check_text as text_of_check, check_status, check_output, found_text, line_of, status_of, unread_line, unread_text, why_unread, IsCheckFault, TellsCheck};
+ghost use Rattle.sudoers_run.specs.Check.{check_text as text_of_check, check_status, check_output, found_text, line_of, status_of, unless_quiet, unread_line, unread_text, why_unread, IsCheckFault, TellsCheck};
 ghost use Rattle.sudoers_run.specs.internal.LayerOf.{by_layer};
 
 use crate::device::Sink;
@@ -55,10 +55,23 @@ pub fn run_check<F: Files, W: Sink>(
 {
     let found = find_files(alloc, files, root)?;
     let output = check_found(alloc, files, found.as_slice(), words)?;
-    if !words.quiet {
-        write_all(writer, output.text.as_slice())?;
-    }
+    write_unless_quiet(writer, words.quiet, output.text.as_slice())?;
     Ok(output.status)
+}
+
+/// Writes `text`, or nothing if `quiet`.
+fn write_unless_quiet<W: Sink>(writer: &mut W, quiet: bool, text: &[u8]) -> Result<(), ToolFault>
+    ensures all { OnOk result (Appends (W.contents writer.old) (W.contents writer.new) (unless_quiet quiet text.now)) }
+    ensures part { OnErr result (AppendsFront (W.contents writer.old) (W.contents writer.new) (unless_quiet quiet text.now)) }
+    ensures fault { IfErr result (λ fault. (fault ≡ ToolFault.Write) × (quiet ≡ false)
+        × Rose (W.Sink.failures writer.old) (W.Sink.failures writer.new)) }
+    ensures well { OnOk result (W.Sink.failures writer.new ≡ W.Sink.failures writer.old) }
+    ensures silent { quiet ≡ true → Keeps (W.contents writer.old) (W.contents writer.new) }
+{
+    if quiet {
+        return Ok(());
+    }
+    write_all(writer, text)
 }
 
 /// Returns the text that is written for the files `found`, and the exit status.
@@ -82,11 +95,7 @@ fn check_found<F: Files>(
 }
 
 /// Appends to `out` a line for each folder or file of `all`, which was not read, unless it is among the files `found`.
-fn append_unread(
-    out: &mut Vec<u8>,
-    found: &[NamedFile],
-    all: &[Unread],
-) -> Result<(), AllocError>
+fn append_unread(out: &mut Vec<u8>, found: &[NamedFile], all: &[Unread]) -> Result<(), AllocError>
     ensures { OnOk result (out.new.items ≡ out.old.items ++ unread_text found.now all.now) }
 {
     for one in all {

@@ -24,13 +24,7 @@ pub fn disk(rt: &HostRuntime, words: &ArgMatches<'_>, root: &str) -> Result<Disk
         None => None,
     };
     let root = name_of(rt.alloc(), root)?;
-    Ok(FilesOnDisk::new(
-        rt.alloc(),
-        rt.clone()?,
-        top,
-        root,
-        rt.stdin(),
-    ))
+    Ok(FilesOnDisk::new(rt.alloc(), rt.clone()?, top, root, rt.stdin()))
 }
 
 /// Returns `name` as the name of a file.

@@ -72,17 +72,16 @@ fn run(rt: &HostRuntime) -> Result<ExitCode, ToolFault> {
 }
 
 /// Returns what is wrong with a command line that has the right form: it names a folder that is none, or too many files.
-fn wrong_words(
-    rt: &HostRuntime,
-    matches: &ArgMatches<'_>,
-) -> Result<Option<String>, ToolFault> {
+fn wrong_words(rt: &HostRuntime, matches: &ArgMatches<'_>) -> Result<Option<String>, ToolFault> {
     let Some((name, words)) = matches.subcommand() else {
         return Ok(None);
     };
     if let Some(dir) = words.get_str("DIR")
         && !is_folder(rt, dir)?
     {
-        let message = format!(in rt.alloc(); "invalid value '{dir}' for '--root <DIR>': no such folder")?;
+        let message = format!(in rt.alloc();
+            "invalid value '{dir}' for '--root <DIR>': no such folder"
+        )?;
         return Ok(Some(message));
     }
     if name != EDIT {
@@ -173,7 +172,9 @@ fn check_words<'a>(alloc: Global) -> Result<Command<'a>, AllocError> {
     let skipped = Arg::new(alloc, "skipped")
         .long("skipped")
         .action(ArgAction::SetTrue)
-        .help("After the report, list the folders and the files in included folders that are not read");
+        .help(
+            "After the report, list the folders and the files in included folders that are not read",
+        );
     Command::new(alloc, "check")
         .about(
             "Check the syntax of a policy with the files that it includes, and report undefined, cyclic and unused aliases; names of Defaults are not checked",
@@ -296,7 +297,13 @@ fn convert_file(rt: &HostRuntime, file: &str, words: &ArgMatches<'_>) -> Result<
     let mut writer = Counted::new(output(rt));
     let asked = asked_of(words);
     let root = file.as_bytes();
-    run_convert(rt.alloc(), &mut disk(rt, words, file)?, root, &asked, &mut writer)
+    run_convert(
+        rt.alloc(),
+        &mut disk(rt, words, file)?,
+        root,
+        &asked,
+        &mut writer,
+    )
 }
 
 /// Checks a policy, or standard input.
@@ -308,7 +315,13 @@ fn check_file(rt: &HostRuntime, file: &str, words: &ArgMatches<'_>) -> Result<u8
         strict: words.get_flag("strict"),
         skipped: words.get_flag("skipped"),
     };
-    run_check(rt.alloc(), &mut disk(rt, words, file)?, root, &asked, &mut writer)
+    run_check(
+        rt.alloc(),
+        &mut disk(rt, words, file)?,
+        root,
+        &asked,
+        &mut writer,
+    )
 }
 
 /// Prints an error, and returns exit status 1.

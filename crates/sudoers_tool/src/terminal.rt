@@ -75,5 +75,9 @@ fn spelled(byte: u8) -> [u8; 4] {
 
 /// Returns the hexadecimal digit `value`, which is below 16.
 fn hex_digit(value: u8) -> u8 {
-    if value < 10 { b'0' + value % 10 } else { b'a' + value % 16 - 10 }
+    if value < 10 {
+        b'0' + value % 10
+    } else {
+        b'a' + value % 16 - 10
+    }
 }

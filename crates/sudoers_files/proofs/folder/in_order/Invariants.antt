@@ -4,5 +4,5 @@ use Rattle.sudoers_files.proofs.Ordered.{bytes}
 use Rattle.sudoers_files.proofs.folder.in_order.Given as goal
 
 -- The names that are still to come, inserted into those so far, give the outcome for all names.
-abbrev pub invariant-loop-base : goal.invariant-loop-base
-invariant-loop-base l = in_order l.led (map bytes l.order.keys) (drop l.base-index l.bases) ≡ in_order l.led [] l.bases
+abbrev pub invariant-loop-name : goal.invariant-loop-name
+invariant-loop-name l = in_order (map bytes l.order.keys) (drop l.name-index l.names) ≡ in_order [] l.names
