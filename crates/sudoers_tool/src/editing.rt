@@ -105,7 +105,18 @@ pub fn wrong_edit_words(words: &ArgMatches<'_>) -> Option<&'static str> {
     if words.get_str(SCRIPT) == Some(STDIN) && files.first() == Some(&STDIN) {
         return Some("standard input cannot be both SCRIPT and POLICY");
     }
+    if has_empty(words.get_strs(ALSO)) {
+        return Some("invalid value '' for '--also <NAME>': a file has a name");
+    }
     None
+}
+
+/// Returns whether one of the words `words` is empty.
+fn has_empty(words: Option<&[&str]>) -> bool {
+    match words {
+        Some(words) => words.iter().any(|word| word.is_empty()),
+        None => false,
+    }
 }
 
 /// Edits the files of the policy that `words` name, or the policy on standard input. Writes to standard output.
