@@ -103,6 +103,16 @@ def converting(folder, name, policy, words, plain_words, plain_size):
     return ["convert", "-f", "sudoers", *words, path], ["convert", "-f", "sudoers", *plain_words, plain]
 
 
+def including(folder, name, count):
+    """`check` of lines that include one empty folder, and of an ordinary policy; and the size of both."""
+    included = os.path.join(folder, name)
+    os.mkdir(included, 0o755)
+    policy = b"@includedir " + name.encode() + b"\n"
+    path = file_in(folder, f"{name}-policy", policy * count)
+    plain = file_in(folder, f"{name}-plain", b"".join(policies.policy(len(policy) * count)))
+    return len(policy) * count, ["check", path], ["check", plain]
+
+
 def commands(folder):
     """The hostile commands."""
     chain, many = long_chain(), many_definitions()
@@ -120,3 +130,5 @@ def commands(folder):
     )
     for name, status, policy, (words, ordinary) in made:
         yield Hostile(name, words, status, len(policy), ordinary)
+    size, words, ordinary = including(folder, "twenty-thousand", 20_000)
+    yield Hostile("`check`, 20,000 lines that include one folder", words, 0, size, ordinary)

@@ -35,6 +35,17 @@ def write_tree(folder, size, count):
     return root
 
 
+def write_passed_over(folder, count):
+    """Writes a file that includes a folder of `count` files, which an include passes over, and returns its path."""
+    included = os.path.join(folder, "passed-over")
+    os.mkdir(included, 0o755)
+    for number in range(count):
+        write_policy(os.path.join(included, f"x{number}.conf"), b"")
+    root = os.path.join(folder, "passing-over")
+    write_policy(root, f"bob ALL = ALL\n@includedir {included}\n".encode())
+    return root
+
+
 def bundle(size, count):
     """The same files as a bundle: each behind a line with the number of its bytes and its name."""
     files = [(b"sudoers", b"# a root\n@includedir d\n")]

@@ -77,6 +77,22 @@ def a_folder_as_a_file(folder):
     write(folder, main="@include d\n", d__a="# a\n")
 
 
+def a_pipe_as_a_file(folder):
+    write(folder, main="@include a\n")
+    os.mkfifo(os.path.join(folder, "a"))
+
+
+def a_link_to_a_device(folder):
+    write(folder, main="@include a\n")
+    os.symlink("/dev/null", os.path.join(folder, "a"))
+
+
+def a_loop_of_links(folder):
+    write(folder, main="@include a\n")
+    os.symlink("b", os.path.join(folder, "a"))
+    os.symlink("a", os.path.join(folder, "b"))
+
+
 def loops(folder):
     write(folder, main="@include a\n", a="@include b\n", b="@include a\n@include main\n")
 
@@ -133,6 +149,11 @@ def not_readable_folder(folder):
     os.chmod(os.path.join(folder, "d"), 0)
 
 
+def passed_over_without_way(folder):
+    write(folder, main="@includedir d\n", d__a_dot_x="# a\n", **{"d__b~": "# b\n"})
+    os.chmod(os.path.join(folder, "d"), 0o444)
+
+
 def folder_without_way(folder):
     write(folder, main="@includedir d\n", d__a="# a\n")
     os.chmod(os.path.join(folder, "d"), 0o444)
@@ -150,6 +171,9 @@ CASES = (
     ("other_kinds_of_files", other_kinds, "main", "main, d/a"),
     ("a_path_through_a_file", through_a_file, "main", "main, a"),
     ("a_folder_in_the_place_of_a_file", a_folder_as_a_file, "main", FAILED),
+    ("a_pipe_in_the_place_of_a_file", a_pipe_as_a_file, "main", FAILED),
+    ("a_link_to_a_device_in_the_place_of_a_file", a_link_to_a_device, "main", FAILED),
+    ("a_loop_of_links_in_the_place_of_a_file", a_loop_of_links, "main", FAILED),
     ("a_folder_as_the_root", a_folder_as_a_file, "d", FAILED),
     ("loops", loops, "main", "main, a, b"),
     ("a_file_that_includes_itself_by_another_name", always_new_names, "main", "TooManyFiles"),
@@ -167,6 +191,7 @@ CASES_OF_NOBODY = (
     ("a_file_that_may_not_be_read", not_readable, "main", FAILED),
     ("a_folder_that_may_not_be_read", not_readable_folder, "main", FAILED),
     ("a_folder_whose_files_may_not_be_looked_at", folder_without_way, "main", FAILED),
+    ("a_folder_whose_passed_over_files_may_not_be_looked_at", passed_over_without_way, "main", "main"),
 )
 
 

@@ -1,7 +1,8 @@
 """Runs the built program on a terminal: control bytes are spelled there, and a pipe gets them as they are.
 
-A row of ROWS has a name, a tree, words and the exit status. The program runs with its output, or its errors, on a
-terminal, and again with pipes. What the terminal gets has to be what the pipe gets, with `\\xHH` for each control byte.
+A row of SHOWN has a name, a tree, words, what both streams show together on a terminal, and the exit status. A row of ROWS
+has the stream with control bytes in place of the text. The program runs with its output, or its errors, on a terminal, and
+again with pipes. What the terminal gets has to be what the pipe gets, with `\\xHH` for each control byte but LF and tab.
 """
 
 import os
@@ -11,7 +12,7 @@ import subprocess
 import tty
 
 from included_rows import ASKED, PEOPLE
-from program import SECONDS, Answer
+from program import SECONDS, Answer, Wanted
 from stand import Folder, Link, Stand
 from tally import difference
 
@@ -29,6 +30,20 @@ MANY = {
 PLAIN = "\x01\x1b\x07\x7f\b"
 ARGUMENTS = {"main": f"User_Alias A = x{PLAIN}, bob\nA ALL = /bin/a {PLAIN}\tx, /bin/b {PLAIN}\n"}
 QUOTED = '@include "x\\x1b]0;own\\x07\\x0ay"\n'
+
+HOSTILE = {"main": "bob ALL = /bin/a\x1b[2J, /bin/a\x7f\n"}
+
+SHOWN = (
+    ("the_report", {"main": '@include "x\\x1b]0;owned\\x07"\n'}, "check main", b"main:1:1: include x\\x1b]0;owned\\x07 not loaded\n", 1),
+    ("an_error", {"main": '@include "x\\x1b[2J"\n'}, "show main", b"sudoers_tool: main:1:1: include x\\x1b[2J not loaded\n", 1),
+    ("a_listing", HOSTILE, f"{ASKED} bob main", b"bob on h:\n    (root) /bin/a\\x1b[2J\n    (root) /bin/a\\x7f\n", 0),
+    ("a_reason", HOSTILE, f"{ASKED} bob --why main /bin/a\x7f", b"main:1:23: allowed by: (root) /bin/a\\x7f\n", 0),
+    ("names_of_files", {"main": "@includedir d\n", "d/\x1bx": "# a\n"}, "show main", b"file 1 main\n1 include 1\nfile 2 d/\\x1bx\n1 comment 1\n", 0),
+    ("a_carriage_return", {"main": "bob\r\n"}, "edit --files main main", b"sudoers_tool: script:1: BadWord\n", 1),
+    ("edited_carriage_returns", {"s": "", "main": "# a\r\n"}, "edit --files s main", b"%% 5 main\n# a\\x0d\n", 0),
+    ("line_feeds_and_tabs", {"main": '@include "x\\x0a\\x09y"\n'}, "check main", b"main:1:1: include x\n\ty not loaded\n", 1),
+    ("bytes_that_are_not_utf_8", {"main": '@include "x\\xff\\x9b"\n'}, "check main", b"main:1:1: include x\xff\x9b not loaded\n", 1),
+)
 
 # The stream that has the control bytes is the first word.
 ROWS = (
@@ -91,17 +106,31 @@ def run_row(stand, row):
         piped = stand.run(words, folder)
         stand.tally.note(f"{PART}: {name}, status", difference("status", status, piped.status))
         for other in ("stdout", "stderr"):
-            shown = run_on_terminal(stand.program, words, folder, other)
-            wanted = {"stdout": piped.stdout, "stderr": piped.stderr}
-            wanted[other] = spelled(wanted[other])
-            stand.tally.note(f"{PART}: {name}, {other} on a terminal", difference("answer", Answer(**wanted, status=status), shown))
+            came = run_on_terminal(stand.program, words, folder, other)
+            texts = {"stdout": piped.stdout, "stderr": piped.stderr}
+            texts[other] = spelled(texts[other])
+            stand.tally.note(f"{PART}: {name}, {other} on a terminal", Wanted(**texts, status=status).problems(came))
         raw = getattr(piped, stream)
         problems = [] if name == "help" or spelled(raw) != raw else ["there is no control byte"]
         stand.tally.note(f"{PART}: {name}, raw bytes of a pipe", problems)
 
 
+def run_shown(stand, row):
+    """Runs a row with each of its streams on a terminal: one of them shows the text, and the other nothing."""
+    name, tree, words, text, status = row
+    with Folder({**PEOPLE, **tree}) as folder:
+        shown = b""
+        for stream in ("stdout", "stderr"):
+            came = run_on_terminal(stand.program, words.split(" "), folder, stream)
+            shown += getattr(came, stream)
+            stand.tally.note(f"{PART}: {name}, {stream}", difference("status", status, came.status))
+        stand.tally.note(f"{PART}: {name}", difference("shown", text, shown))
+
+
 def run_all(program, tally):
     """Runs all rows."""
     stand = Stand(PART, program, tally)
+    for row in SHOWN:
+        run_shown(stand, row)
     for row in ROWS:
         run_row(stand, row)

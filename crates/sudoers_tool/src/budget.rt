@@ -104,7 +104,8 @@ impl<F: Files> Files for Budget<F> {
 
 /// Returns how many bytes the file `name` with the bytes `bytes` takes in a bundle. Its header is a line `%% LENGTH NAME`.
 fn held_len(name: &[u8], bytes: &[u8]) -> usize {
-    (5 + digits_of(bytes.len()))
+    digits_of(bytes.len())
+        .saturating_add(5)
         .saturating_add(name.len())
         .saturating_add(bytes.len())
 }

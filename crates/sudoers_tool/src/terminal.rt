@@ -39,7 +39,7 @@ impl<W: Write> Write for Shown<W> {
             buf.len()
         };
         if size > 0 {
-            return self.writer.write(&buf[..size]);
+            return self.writer.write(&buf[..size.min(buf.len())]);
         }
         match buf.first() {
             Some(byte) => {
