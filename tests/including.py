@@ -9,7 +9,7 @@ import os
 
 from included_rows import ASKED, DEPTH, ERRORS, NOT_READABLE, NOT_REGULAR, PEOPLE, PRINTED, RUN_ERRORS, chain
 from program import Wanted, fault
-from stand import PIPE, Folder, Link, Stand, stand_of_nobody
+from stand import EMPTY_FOLDER, PIPE, Closed, Folder, Link, Stand, stand_of_nobody
 
 ROOT = "main"
 COMMANDS = ("show", "convert -f sudoers", "convert -f json -e", f"{ASKED} bob", f"{ASKED} bob --why")
@@ -62,6 +62,13 @@ def run_not_readable(stand):
             run_failure(stand, name, folder, "Failed")
 
 
+def run_passed_over(stand):
+    """Nothing is asked of names that are passed over, in a folder that the user may list but not search."""
+    with with_people({"main": "@includedir d\n", "d/a.x": "no policy\n", "d/b~": EMPTY_FOLDER, "d": Closed(None, 0o444)}) as folder:
+        listed = b"d/a.x: not read: its name contains '.'\nd/b~: not read: its name ends in '~'\n"
+        stand.note("passed_over", "check --skipped main", Wanted(b"main: parsed OK\n" + listed), folder)
+
+
 def run_all(program, tally):
     """Runs all rows."""
     stand = Stand("including", program, tally)
@@ -80,3 +87,4 @@ def run_all(program, tally):
     run_links(stand)
     with stand_of_nobody("including", program, tally) as nobody:
         run_not_readable(nobody)
+        run_passed_over(nobody)
