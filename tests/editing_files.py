@@ -66,14 +66,20 @@ ROWS = (
     ("rename_and_prune_over_a_folder", SITE, "edit --files - main", RENAME, edited_site("main", "d")),
     (
         "file_of_a_folder_that_a_file_of_it_includes",
-        {"main": "@include z\n@includedir d\n@include a\n", "a": "# a\n", "d/10": "# 10\n", "d/9": "@include n\n", "d/n.x": "", "d/n": "# n\n", "z": "# z\n"},
+        {
+            "main": "@include z\n@includedir d\n@include a\n", "a": "# a\n", "d/10": "# 10\n", "d/9": "@include n\n",
+            "d/n.x": "", "d/n": "# n\n", "z": "# z\n",
+        },
         "edit --files - main",
         "file 5\ninsert 1\n|# fifth\n",
         fault("main:2:1: include d/n twice"),
     ),
     (
         "numbers_of_the_walk",
-        {"main": "@include z\n@includedir d\n@include a\n", "a": "# a\n", "d/10": "# 10\n", "d/9": "@include sub/n\n", "d/sub/n": "# n\n", "z": "# z\n"},
+        {
+            "main": "@include z\n@includedir d\n@include a\n", "a": "# a\n", "d/10": "# 10\n", "d/9": "@include sub/n\n",
+            "d/sub/n": "# n\n", "z": "# z\n",
+        },
         "edit --files - main",
         "file 5\ninsert 1\n|# fifth\n",
         made(
@@ -191,7 +197,13 @@ ROWS = (
     ),
     ("policy_with_a_line_end_in_its_name", {**PAIR, "a\nb": ""}, "edit --files s a\nb", "", fault("a\nb: BadBundle")),
     ("further_file_with_a_line_end_in_its_name", PAIR, "edit --files s a --also b\nc", "", fault("b\nc: BadBundle")),
-    ("file_of_a_folder_with_a_line_end_in_its_name", {**PAIR, "a": "@includedir d\n", "d/b\nc": ""}, "edit --files s a", "", fault("d/b\nc: BadBundle")),
+    (
+        "file_of_a_folder_with_a_line_end_in_its_name",
+        {**PAIR, "a": "@includedir d\n", "d/b\nc": ""},
+        "edit --files s a",
+        "",
+        fault("d/b\nc: BadBundle"),
+    ),
     ("policy_that_is_too_large", {"s": "", "a": "#" * 1_048_577}, "edit --files s a", "", fault("a: TooLarge")),
     ("script_of_the_limit", {"s": "#" * LIMIT, "a": ""}, "edit --files s a", "", fault("InputTooLarge")),
     ("script_beyond_the_limit", {"s": "#" * (LIMIT + 1), "a": ""}, "edit --files s a", "", fault("InputTooLarge")),

@@ -15,7 +15,7 @@ from contextlib import contextmanager
 
 from bundles import bundle
 from included_rows import ASKED, PEOPLE
-from program import SECONDS, Answer, Wanted, fault
+from program import Answer, Wanted, fault
 from rooted_rows import CLOSED, ROWS
 from stand import EMPTY_FOLDER, NOBODY, PIPE, Closed, Folder, Link, Stand, stand_of_nobody, write
 
@@ -26,6 +26,9 @@ COMMANDS = (
     *("convert -f sudoers FILE", "convert -f json -e FILE", f"{PEOPLE_OF} bob FILE", f"{PEOPLE_OF} bob --why FILE /bin/a"),
 )
 DRAWN = 150
+
+# How long a run may wait, in seconds: it has nothing to wait for.
+SOON = 20
 
 
 def libraries(program):
@@ -77,7 +80,7 @@ class Changed:
         start = ["/.tool/" + self.loader, "--library-path", "/.tool", own] if self.loader else [own]
         begin = [*self.words, os.path.join(folder, "image"), *start]
         try:
-            done = subprocess.run([*begin, *words], input=b"", capture_output=True, timeout=SECONDS, check=False)
+            done = subprocess.run([*begin, *words], input=b"", capture_output=True, timeout=SOON, check=False)
         except (OSError, subprocess.TimeoutExpired) as error:
             return Answer(b"", b"", str(error))
         return Answer(done.stdout, done.stderr, done.returncode)
@@ -133,9 +136,9 @@ def rooted(image, changed):
 def note_both(stand, changed, name, file, folder, commands=COMMANDS):
     """The program answers the same with `--root` and in a chroot."""
     for command in commands:
-        rooted = stand.run(rooted_words(command, file), folder)
+        rooted_answer = stand.run(rooted_words(command, file), folder, seconds=SOON)
         alone = changed.run(command, file, folder)
-        problems = Wanted(alone.stdout, alone.stderr, alone.status).problems(rooted)
+        problems = Wanted(alone.stdout, alone.stderr, alone.status).problems(rooted_answer)
         stand.tally.note(f"{PART}: {name}, {command} as in a chroot", problems)
 
 
@@ -186,7 +189,7 @@ def run_row(stand, changed, row):
     name, image, file, cell = row
     with rooted(image, changed) as folder:
         wanted = wanted_of(image, cell, folder)
-        problems = wanted.problems(stand.run(rooted_words(COMMANDS[0], file), folder, seconds=20))
+        problems = wanted.problems(stand.run(rooted_words(COMMANDS[0], file), folder, seconds=SOON))
         stand.tally.note(f"{PART}: {name}", problems)
         if changed.words:
             note_both(stand, changed, name, file, folder)
