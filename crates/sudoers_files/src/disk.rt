@@ -6,7 +6,7 @@ ghost use Rattle.sudoers_text.specs.Fault.{text_limit};
 use crate::counts::{Counts, read_front};
 use crate::fault::FileFault;
 use crate::files::Files;
-use crate::path::path_below;
+use crate::path::{is_too_long, path_below};
 use std::alloc::{AllocError, Global};
 use std::fs::DirEntry;
 use std::io::{ErrorKind, Read};
@@ -183,6 +183,9 @@ impl<S: FileSystem + AllocGlobal + Clone + Drop, R: Read + Drop> FilesOnDisk<S, 
     ) -> io::Result<fs::Metadata> {
         if self.top.is_none() {
             return fs::metadata(&self.system, entry.path());
+        }
+        if is_too_long(entry.path().to_string_lossy()) {
+            return Err(io::Error::from(ErrorKind::InvalidData));
         }
         let metadata = entry.metadata()?;
         if !metadata.is_symlink() {

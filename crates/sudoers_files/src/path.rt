@@ -19,7 +19,8 @@ const PART_LIMIT: usize = (LINK_LIMIT + 1) * (NAME_LIMIT + 2);
 ///
 /// # Errors
 ///
-/// Those of the disk. `FilesystemLoop`: the name leads through more than 40 links. `InvalidData`: a link leads to a name that is not UTF-8.
+/// Those of the disk. `FilesystemLoop`: the name leads through more than 40 links. `InvalidData`: a link leads to a name that is not UTF-8,
+/// or the path is too long for the disk.
 pub fn path_below<S: FileSystem>(
     system: &S,
     alloc: Global,
@@ -37,7 +38,7 @@ pub fn path_below<S: FileSystem>(
         // Only the proof uses this number.
         let _ = turn;
         let Some(rest) = way.rest.take() else {
-            return Ok(way.path(alloc, top)?);
+            return way.path(alloc, top);
         };
         way.go_on(system, alloc, top, rest.as_str())?;
     }
@@ -62,12 +63,16 @@ impl Way {
         })
     }
 
-    /// Returns the path to which the way has led, below the folder `top`.
-    fn path(&self, alloc: Global, top: &str) -> Result<String, AllocError> {
+    /// Returns the path to which the way has led, below the folder `top`. The disk takes no longer path than a name, where the system whose
+    /// root is `top` may find the file.
+    fn path(&self, alloc: Global, top: &str) -> io::Result<String> {
         let mut path = String::from_str(alloc, top)?;
         for part in self.parts.as_slice() {
             path.push('/')?;
             path.push_str(part.as_str())?;
+        }
+        if is_too_long(path.as_str()) {
+            return Err(io::Error::from(ErrorKind::InvalidData));
         }
         Ok(path)
     }
@@ -111,6 +116,9 @@ impl Way {
     fn search<S: FileSystem>(&self, system: &S, alloc: Global, top: &str) -> io::Result<()> {
         let mut path = self.path(alloc, top)?;
         path.push_str("/.")?;
+        if is_too_long(path.as_str()) {
+            return Err(io::Error::from(ErrorKind::InvalidData));
+        }
         fs::metadata(system, path.as_str())?;
         Ok(())
     }
@@ -154,6 +162,11 @@ impl Way {
         self.rest = Some(rest);
         Ok(())
     }
+}
+
+/// Returns whether the disk refuses the path `path` for its length.
+pub fn is_too_long(path: &str) -> bool {
+    path.len() > NAME_LIMIT
 }
 
 /// Returns the target of the link `path`.

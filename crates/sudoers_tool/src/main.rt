@@ -59,7 +59,7 @@ fn run(rt: &HostRuntime) -> Result<ExitCode, ToolFault> {
     match command.try_get_matches_from(words.as_slice()) {
         Ok(matches) => match wrong_words(rt, &matches)? {
             Some(message) => {
-                let mut command = command_words(rt.alloc())?;
+                let mut command = named_command(rt.alloc(), &matches)?;
                 show_usage(
                     rt,
                     &command.error(ErrorKind::InvalidValue, message.as_str())?,
@@ -93,6 +93,14 @@ fn wrong_words(rt: &HostRuntime, matches: &ArgMatches<'_>) -> Result<Option<Stri
     }
 }
 
+/// Returns the command line whose usage an error of `matches` shows.
+fn named_command<'a>(alloc: Global, matches: &ArgMatches<'_>) -> Result<Command<'a>, AllocError> {
+    match matches.subcommand() {
+        Some((EDIT, _)) => edit_words(alloc, top_word(alloc)),
+        _ => command_words(alloc),
+    }
+}
+
 /// Runs the command of a command line that was understood, and prints its error.
 fn obey(rt: &HostRuntime, matches: &ArgMatches<'_>) -> ExitCode {
     match matches.subcommand() {
@@ -105,7 +113,7 @@ fn obey(rt: &HostRuntime, matches: &ArgMatches<'_>) -> ExitCode {
     }
 }
 
-/// Returns the outcome of a command whose errors name their files themselves.
+/// Returns the outcome of a command whose errors are printed without the name of a file before them.
 fn without_file(outcome: Result<u8, ToolFault>) -> Result<u8, Trouble> {
     match outcome {
         Ok(status) => Ok(status),
