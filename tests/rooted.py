@@ -216,6 +216,34 @@ def run_tops(stand):
         stand.note("root '.'", ["edit", "--files", "-", "--root", ".", "image/etc/sudoers"], wanted, folder)
 
 
+def put_deep(folder, parts, name, text):
+    """Puts a file into folders within each other, whose path may be longer than the system takes."""
+    at = os.open(folder, os.O_RDONLY)
+    for part in parts:
+        os.mkdir(part, dir_fd=at)
+        inner = os.open(part, os.O_RDONLY, dir_fd=at)
+        os.close(at)
+        at = inner
+    with os.fdopen(os.open(name, os.O_WRONLY | os.O_CREAT, 0o644, dir_fd=at), "w") as file:
+        file.write(text)
+    os.close(at)
+
+
+def run_deep(stand):
+    """A folder below a DIR with a long name is read by a short name of DIR, and else it is an error: it is never passed over."""
+    parts = ["p" * 250] * 15
+    deep, above = "/" + "/".join(parts), "/".join(["t" * 200] * 2)
+    tree = {f"{above}/image/dir": f"@includedir {deep}\n", f"{above}/image/file": f"@include {deep}/a\n"}
+    with tempfile.TemporaryDirectory(prefix="sudoers_tool_tests_") as folder:
+        write(folder, tree)
+        near = os.path.join(folder, above)
+        put_deep(os.path.join(near, "image"), parts, "a", "WEB ALL = ALL\n")
+        for name in ("dir", "file"):
+            noted = f"{deep}/a:1:1: undefined User_Alias WEB\n{name}: parsed OK\n".encode()
+            stand.note("a deep folder", ["check", "--root", "image", name], Wanted(noted), near)
+            stand.note("a path that is too long", ["check", "--root", f"{near}/image", name], fault("Failed"), folder)
+
+
 def run_all(program, tally):
     """Runs all rows."""
     stand, changed = Stand(PART, program, tally), Changed(program)
@@ -223,6 +251,7 @@ def run_all(program, tally):
         run_row(stand, changed, row)
     run_tops(stand)
     run_wrong(stand)
+    run_deep(stand)
     if changed.words:
         run_drawn(stand, changed)
     else:
