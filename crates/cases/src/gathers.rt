@@ -47,6 +47,8 @@ impl<F: Files> Files for Failing<F> {
       endless = (F.shelf failing.files).endless;
     } };
 
+    // Were it inlined, each level of files would hold the buffers of a read.
+    #[inline(never)]
     fn read(&mut self, alloc: Global, name: &[u8]) -> Result<Option<Items<u8>>, FileFault> {
         if self.count() {
             return Err(self.fail());
