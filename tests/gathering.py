@@ -5,7 +5,6 @@ the error. All names are below that folder.
 """
 
 import os
-import resource
 import shutil
 import subprocess
 import tempfile
@@ -16,7 +15,6 @@ from tally import difference
 
 FAILED = "Device(Failed)"
 NOBODY = 65534
-STACK = 64 * 1024 * 1024
 
 
 def write(folder, **files):
@@ -210,18 +208,11 @@ def drawn(folder, line):
     return ", ".join(one.removeprefix(folder + "/") for one in shown.split(", "))
 
 
-def with_large_stack():
-    """Gives a run 64 MiB of stack, if it may have them: this program holds the buffers of a folder for each level of files."""
-    _, most = resource.getrlimit(resource.RLIMIT_STACK)
-    wanted = STACK if most == resource.RLIM_INFINITY else min(STACK, most)
-    resource.setrlimit(resource.RLIMIT_STACK, (wanted, most))
-
-
 def answer(program, folder, root, **who):
     """The line that the program answers about a root in a folder."""
     asking = frame(b"d", b"g", bytes(8) + os.path.join(folder, root).encode())
     done = subprocess.run(
-        [program], input=asking, stdout=subprocess.PIPE, env={}, timeout=60, check=True, preexec_fn=with_large_stack, **who
+        [program], input=asking, stdout=subprocess.PIPE, env={}, timeout=60, check=True, **who
     )
     return done.stdout.decode().rstrip("\n")
 

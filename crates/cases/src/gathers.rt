@@ -1,14 +1,12 @@
 //! What comes of files that are gathered.
 
 ghost use Rattle.std.specs.Prelude.{◌≡◌};
-ghost use Rattle.sudoers_files.specs.Shelf.{FailedBy};
-ghost use Rattle.sudoers_files.specs.declared.fault.FileFault.TheVariants.{Failed};
 
 use crate::drawn::{push_debug, push_shown};
 use crate::frames::number_of;
 use crate::loads::files_of;
 use std::alloc::{AllocError, Global};
-use sudoers_files::{FileFault, Files, FilesInMemory, FilesOnDisk, GatherFault, gather};
+use sudoers_files::{Counts, FileFault, Files, FilesInMemory, FilesOnDisk, GatherFault, gather};
 use sudoers_tree::{Items, NamedFile};
 
 /// Files whose device fails at one call.
@@ -18,79 +16,68 @@ struct Failing<F> {
     /// Which call fails, from 1; none if it is 0.
     failing: u64,
     calls: u64,
-    failures: u64,
+    counts: Counts,
 }
 
 impl<F: Files> Failing<F> {
     /// Counts a call, and returns whether it fails.
     fn count(&mut self) -> bool
-        ensures { (self.new.files ≡ self.old.files) × (self.new.failures ≡ self.old.failures) }
+        ensures { (self.new.files ≡ self.old.files) × (self.new.counts ≡ self.old.counts) }
     {
         self.calls = self.calls.saturating_add(1);
         self.calls == self.failing
-    }
-
-    /// Counts a failure, and returns it.
-    fn fail(&mut self) -> FileFault
-        ensures same { (result ≡ Failed) × (self.new.files ≡ self.old.files) }
-        ensures failed { FailedBy Failed self.old.failures self.new.failures }
-    {
-        self.failures = self.failures.saturating_add(1);
-        FileFault::Failed
     }
 }
 
 impl<F: Files> Files for Failing<F> {
     ghost shelf = { λ failing. record {
       files = (F.shelf failing.files).files;
-      failures = failing.failures;
-      endless = (F.shelf failing.files).endless;
+      failures = failing.counts.failures;
+      endless = failing.counts.endless;
     } };
 
-    // Were it inlined, each level of files would hold the buffers of a read.
-    #[inline(never)]
     fn read(&mut self, alloc: Global, name: &[u8]) -> Result<Option<Items<u8>>, FileFault> {
         if self.count() {
-            return Err(self.fail());
+            return Err(self.counts.count(FileFault::Failed));
         }
         match self.files.read(alloc, name) {
-            Err(FileFault::Failed) => Err(self.fail()),
-            result => result,
+            Ok(bytes) => Ok(bytes),
+            Err(fault) => Err(self.counts.count(fault)),
         }
     }
 
     fn names(&mut self, alloc: Global, dir: &[u8]) -> Result<Vec<Items<u8>>, FileFault> {
         if self.count() {
-            return Err(self.fail());
+            return Err(self.counts.count(FileFault::Failed));
         }
         match self.files.names(alloc, dir) {
-            Err(FileFault::Failed) => Err(self.fail()),
-            result => result,
+            Ok(names) => Ok(names),
+            Err(fault) => Err(self.counts.count(fault)),
         }
     }
 
     fn wanted(&mut self, alloc: Global, dir: &[u8]) -> Result<Vec<Items<u8>>, FileFault> {
         if self.count() {
-            return Err(self.fail());
+            return Err(self.counts.count(FileFault::Failed));
         }
         match self.files.wanted(alloc, dir) {
-            Err(FileFault::Failed) => Err(self.fail()),
-            result => result,
+            Ok(names) => Ok(names),
+            Err(fault) => Err(self.counts.count(fault)),
         }
     }
 
     fn unread(&mut self, alloc: Global, dir: &[u8]) -> Result<Option<Vec<Items<u8>>>, FileFault> {
         if self.count() {
-            return Err(self.fail());
+            return Err(self.counts.count(FileFault::Failed));
         }
         match self.files.unread(alloc, dir) {
-            Err(FileFault::Failed) => Err(self.fail()),
-            result => result,
+            Ok(names) => Ok(names),
+            Err(fault) => Err(self.counts.count(fault)),
         }
     }
 
     fn failures(&self) -> u64 {
-        self.failures
+        self.counts.failures
     }
 }
 
@@ -126,7 +113,7 @@ fn push_gathered<F: Files + Drop>(
         files,
         failing,
         calls: 0,
-        failures: 0,
+        counts: Counts::new(),
     };
     match gather(alloc, root, &mut files) {
         Ok(found) => push_names(found.as_slice(), answers)?,

@@ -1,6 +1,6 @@
 //! Files of a disk.
 
-ghost use Rattle.std.specs.Prelude.{◌≡◌, ◌+◌, ◌≤◌, None, length, IfOk, IfSome};
+ghost use Rattle.std.specs.Prelude.{◌≡◌, ◌+◌, ◌≤◌, [], None, length, IfOk, IfSome};
 ghost use Rattle.sudoers_text.specs.Fault.{text_limit};
 
 use crate::counts::{Counts, read_front};
@@ -50,7 +50,14 @@ impl<S: FileSystem + AllocGlobal + Clone + Drop, R: Read + Drop> FilesOnDisk<S, 
         root: Items<u8>,
         input: R,
     ) -> FilesOnDisk<S, R>
-        ensures { result.counts ≡ record { failures = 0; endless = 0 } }
+        ensures { result ≡ record {
+            system = system;
+            top = top;
+            root = root;
+            input = input;
+            asked = [];
+            counts = record { failures = 0; endless = 0 };
+        } }
     {
         FilesOnDisk {
             system,
@@ -63,7 +70,9 @@ impl<S: FileSystem + AllocGlobal + Clone + Drop, R: Read + Drop> FilesOnDisk<S, 
     }
 
     /// Returns the name of the file or the folder that was asked for last.
-    pub fn asked(&self) -> &[u8] {
+    pub fn asked(&self) -> &[u8]
+        ensures { result.now ≡ self.asked }
+    {
         self.asked.as_slice()
     }
 
@@ -76,6 +85,8 @@ impl<S: FileSystem + AllocGlobal + Clone + Drop, R: Read + Drop> FilesOnDisk<S, 
     }
 
     /// Returns the bytes of the file `name`, up to the first past the limit of a text. Returns nothing if the file is missing.
+    // Inlined, it would hold the buffer of a read in each level of files.
+    #[inline(never)]
     fn read_file(&mut self, alloc: Global, name: &[u8]) -> Result<Option<Items<u8>>, FileFault>
         ensures most { IfOk result (λ bytes. IfSome bytes (λ bytes. length bytes ≤ text_limit + 1)) }
         ensures same { self.new.counts ≡ self.old.counts }
@@ -106,6 +117,8 @@ impl<S: FileSystem + AllocGlobal + Clone + Drop, R: Read + Drop> FilesOnDisk<S, 
     }
 
     /// Returns those names in the folder `dir` that are `listed`, without the folder. Returns nothing if the folder is missing.
+    // Inlined, it would hold the entries of a folder in each level of files.
+    #[inline(never)]
     fn list_folder(
         &self,
         alloc: Global,

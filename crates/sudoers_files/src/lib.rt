@@ -13,6 +13,7 @@ mod memory;
 mod path;
 mod unread;
 
+pub use counts::Counts;
 pub use disk::{FilesOnDisk, STREAM_NAME};
 pub use fault::{FileFault, GatherFault};
 pub use files::Files;

@@ -1,11 +1,9 @@
 //! Files of which no more than a number of bytes is read.
 
 ghost use Rattle.std.specs.Prelude.{◌≡◌, None};
-ghost use Rattle.sudoers_files.specs.Shelf.{FailedBy};
-ghost use Rattle.sudoers_files.specs.declared.fault.FileFault.TheVariants.{Failed};
 
 use std::alloc::Global;
-use sudoers_files::{FileFault, Files};
+use sudoers_files::{Counts, FileFault, Files};
 use sudoers_line::Items;
 
 /// Files that fail once the bundle of those that were read passes a number of bytes.
@@ -14,7 +12,7 @@ pub struct Budget<F> {
     files: F,
     left: usize,
     is_used_up: bool,
-    failures: u64,
+    counts: Counts,
 }
 
 impl<F: Files> Budget<F> {
@@ -24,7 +22,7 @@ impl<F: Files> Budget<F> {
             files,
             left,
             is_used_up: false,
-            failures: 0,
+            counts: Counts::new(),
         }
     }
 
@@ -40,65 +38,52 @@ impl<F: Files> Budget<F> {
 
     /// Takes `size` bytes of those that are left, and returns whether there are as many.
     fn spend(&mut self, size: usize) -> bool
-        ensures { (self.new.files ≡ self.old.files) × (self.new.failures ≡ self.old.failures) }
+        ensures { self.new.counts ≡ self.old.counts }
     {
         self.is_used_up = size > self.left;
         self.left = self.left.saturating_sub(size);
         !self.is_used_up
     }
-
-    /// Counts a failure, and returns it.
-    fn fail(&mut self) -> FileFault
-        ensures same { (result ≡ Failed) × (self.new.files ≡ self.old.files) }
-        ensures failed { FailedBy Failed self.old.failures self.new.failures }
-    {
-        self.failures = self.failures.saturating_add(1);
-        FileFault::Failed
-    }
 }
 
 impl<F: Files> Files for Budget<F> {
-    ghost shelf = { λ budget. record {
-      files = None;
-      failures = budget.failures;
-      endless = (F.shelf budget.files).endless;
-    } };
+    ghost shelf = { λ budget. record { files = None; failures = budget.counts.failures; endless = budget.counts.endless } };
 
     fn read(&mut self, alloc: Global, name: &[u8]) -> Result<Option<Items<u8>>, FileFault> {
         let bytes = match self.files.read(alloc, name) {
             Ok(Some(bytes)) => bytes,
-            Err(FileFault::Failed) => return Err(self.fail()),
-            result => return result,
+            Ok(None) => return Ok(None),
+            Err(fault) => return Err(self.counts.count(fault)),
         };
         if self.spend(held_len(name, bytes.as_slice())) {
             return Ok(Some(bytes));
         }
-        Err(self.fail())
+        Err(self.counts.count(FileFault::Failed))
     }
 
     fn names(&mut self, alloc: Global, dir: &[u8]) -> Result<Vec<Items<u8>>, FileFault> {
         match self.files.names(alloc, dir) {
-            Err(FileFault::Failed) => Err(self.fail()),
-            result => result,
+            Ok(names) => Ok(names),
+            Err(fault) => Err(self.counts.count(fault)),
         }
     }
 
     fn wanted(&mut self, alloc: Global, dir: &[u8]) -> Result<Vec<Items<u8>>, FileFault> {
         match self.files.wanted(alloc, dir) {
-            Err(FileFault::Failed) => Err(self.fail()),
-            result => result,
+            Ok(names) => Ok(names),
+            Err(fault) => Err(self.counts.count(fault)),
         }
     }
 
     fn unread(&mut self, alloc: Global, dir: &[u8]) -> Result<Option<Vec<Items<u8>>>, FileFault> {
         match self.files.unread(alloc, dir) {
-            Err(FileFault::Failed) => Err(self.fail()),
-            result => result,
+            Ok(names) => Ok(names),
+            Err(fault) => Err(self.counts.count(fault)),
         }
     }
 
     fn failures(&self) -> u64 {
-        self.failures
+        self.counts.failures
     }
 }
 

@@ -1,18 +1,16 @@
 //! The subcommand `edit`: its command line, and its run.
 
+use crate::also::{ALSO, add_files, also_word, tell_off_walk, trouble_of};
 use crate::budget::Budget;
-use crate::files::{Disk, STDIN, disk, name_of, open};
+use crate::files::{STDIN, disk, open};
 use crate::terminal::output;
 use crate::trouble::Trouble;
-use clap::{Arg, ArgAction, ArgMatches, Command};
+use clap::{Arg, ArgMatches, Command};
 use std::alloc::{AllocError, Global};
 use std::io::{Read, Write};
-use sudoers_files::{Files, GatherFault, gather};
-use sudoers_line::Items;
-use sudoers_run::{
-    Counted, Given, INPUT_LIMIT, LayerFault, ToolFault, edit_given, read_all, run_edit,
-};
-use sudoers_tree::{LoadFault, NamedFile, has_name};
+use sudoers_files::gather;
+use sudoers_run::{Counted, Given, INPUT_LIMIT, ToolFault, edit_given, read_all, run_edit};
+use sudoers_tree::NamedFile;
 
 /// The name of the subcommand.
 pub const EDIT: &str = "edit";
@@ -28,13 +26,10 @@ const UNDO: &str = "undo";
 const REDO: &str = "redo";
 
 /// The option that names a script for the files of the disk.
-const SCRIPT: &str = "SCRIPT";
+pub const SCRIPT: &str = "SCRIPT";
 
 /// The argument that names the policy.
 const POLICY: &str = "POLICY";
-
-/// The option that names a further file.
-const ALSO: &str = "NAME";
 
 /// Returns the command line of `edit`.
 pub fn edit_words<'a>(alloc: Global, top: Arg<'a>) -> Result<Command<'a>, AllocError> {
@@ -71,17 +66,6 @@ fn script_word<'a>(alloc: Global) -> Result<Arg<'a>, AllocError> {
             "Apply SCRIPT, or `-` for standard input, to POLICY and the files that it includes, numbered as `show` has them; write UNDO and a bundle: each file behind a line `%% LENGTH NAME`",
         )
         .requires_arg(POLICY)
-}
-
-/// Returns the option that names a file which no line includes yet.
-fn also_word<'a>(alloc: Global) -> Result<Arg<'a>, AllocError> {
-    Arg::new(alloc, ALSO)
-        .long("also")
-        .action(ArgAction::Append)
-        .help(
-            "Add the file NAME behind the others, empty if it is missing, so that an include of it can be inserted",
-        )
-        .requires_arg(SCRIPT)
 }
 
 /// Returns the argument that names the policy. It takes further words, so that they get an error of their own.
@@ -135,6 +119,7 @@ pub fn edit_policy(rt: &HostRuntime, words: &ArgMatches<'_>) -> Result<u8, Troub
         undo,
         redo,
     )?;
+    tell_off_walk(rt, words, root_of(words), edited.as_slice())?;
     match output(rt).write_all(edited.as_slice()) {
         Ok(()) => Ok(0),
         Err(_) => Err(Trouble::from(ToolFault::Write)),
@@ -144,6 +129,14 @@ pub fn edit_policy(rt: &HostRuntime, words: &ArgMatches<'_>) -> Result<u8, Troub
 /// Returns the number that `words` gives for the option `name`, or 0.
 fn number_of(words: &ArgMatches<'_>, name: &str) -> u32 {
     words.get_one::<u32>(name).unwrap_or(0)
+}
+
+/// Returns the name of the policy that `words` name.
+fn root_of<'a>(words: &ArgMatches<'a>) -> &'a str {
+    match words.get_strs(POLICY) {
+        Some([root, ..]) => *root,
+        _ => STDIN,
+    }
 }
 
 /// Edits the policy that the standard input gives after its script, takes back up to `undo` edits and makes up to `redo` of these again.
@@ -184,10 +177,7 @@ fn found_files(
     used: usize,
 ) -> Result<Vec<NamedFile>, Trouble> {
     let alloc = rt.alloc();
-    let root = match words.get_strs(POLICY) {
-        Some([root, ..]) => *root,
-        _ => STDIN,
-    };
+    let root = root_of(words);
     let mut files = Budget::new(disk(rt, words, root)?, INPUT_LIMIT.saturating_sub(used));
     let mut found = match gather(alloc, root.as_bytes(), &mut files) {
         Ok(found) => found,
@@ -200,43 +190,6 @@ fn found_files(
     Ok(found)
 }
 
-/// Adds the files `names` to `found`, each empty if it is missing.
-fn add_files(
-    alloc: Global,
-    files: &mut Budget<Disk>,
-    names: &[&str],
-    found: &mut Vec<NamedFile>,
-) -> Result<(), Trouble> {
-    for name in names {
-        let file = added_file(alloc, files, name, found.as_slice())?;
-        found.push(file)?;
-    }
-    Ok(())
-}
-
-/// Returns the file `name`, which is not among the files `found`.
-fn added_file(
-    alloc: Global,
-    files: &mut Budget<Disk>,
-    name: &str,
-    found: &[NamedFile],
-) -> Result<NamedFile, Trouble> {
-    let name = name_of(alloc, name)?;
-    if has_name(found, name.as_slice()) {
-        let fault = LoadFault::SameName {
-            file: Items::from_slice(alloc, name.as_slice())?,
-        };
-        let fault = ToolFault::Layer(LayerFault::Load(fault));
-        return Err(Trouble::in_file(alloc, name.as_slice(), fault));
-    }
-    let bytes = match files.read(alloc, name.as_slice()) {
-        Ok(Some(bytes)) => bytes,
-        Ok(None) => Items::new(alloc),
-        Err(fault) => return Err(trouble_of(alloc, files, GatherFault::from(fault))),
-    };
-    Ok(NamedFile { name, bytes })
-}
-
 /// Returns an error if a bundle cannot hold one of the names of the files `found`.
 fn check_names(alloc: Global, found: &[NamedFile]) -> Result<(), Trouble> {
     for (number, file) in found.iter().enumerate() {
@@ -247,17 +200,4 @@ fn check_names(alloc: Global, found: &[NamedFile]) -> Result<(), Trouble> {
         }
     }
     Ok(())
-}
-
-/// Returns the error of files that cannot be gathered, with the name of the file or the folder that was asked for last.
-fn trouble_of(alloc: Global, files: &Budget<Disk>, fault: GatherFault) -> Trouble {
-    if files.is_used_up() {
-        return Trouble::from(ToolFault::InputTooLarge);
-    }
-    let named = matches!(fault, GatherFault::NoRoot | GatherFault::Device(_));
-    let fault = ToolFault::Layer(LayerFault::from(fault));
-    if named {
-        return Trouble::in_file(alloc, files.files().asked(), fault);
-    }
-    Trouble::from(fault)
 }

@@ -1,6 +1,7 @@
 //! A tool for sudoers policies whose promises are proved.
 #![tactic(auto)]
 
+mod also;
 mod budget;
 mod editing;
 mod files;
@@ -11,7 +12,7 @@ mod trouble;
 use crate::editing::{EDIT, edit_policy, edit_stream, edit_words, wrong_edit_words};
 use crate::files::{STDIN, disk, is_folder};
 use crate::listing::{list_file, list_words};
-use crate::terminal::{errors, output};
+use crate::terminal::{errors, output, tell};
 use crate::trouble::Trouble;
 use clap::error::ErrorKind;
 use clap::{Arg, ArgAction, ArgMatches, Command, Error};
@@ -332,17 +333,10 @@ fn check_file(rt: &HostRuntime, file: &str, words: &ArgMatches<'_>) -> Result<u8
     )
 }
 
-/// Prints an error, and returns exit status 1.
+/// Prints an error, and returns exit status 1. Prints nothing if memory runs out.
 fn told(rt: &HostRuntime, trouble: &Trouble) -> ExitCode {
-    let _ = tell(rt, trouble);
+    if let Ok(text) = trouble.text(rt.alloc()) {
+        let _ = tell(rt, &[text.as_slice()]);
+    }
     ExitCode::from(1)
-}
-
-/// Writes the text of an error to standard error, or nothing if memory runs out.
-fn tell(rt: &HostRuntime, trouble: &Trouble) -> io::Result<()> {
-    let text = trouble.text(rt.alloc())?;
-    let mut message = Vec::from_slice(rt.alloc(), b"sudoers_tool: ")?;
-    message.extend_from_slice(text.as_slice())?;
-    message.extend_from_slice(b"\n")?;
-    errors(rt).write_all(message.as_slice())
 }

@@ -1,5 +1,6 @@
 //! What a terminal is shown.
 
+use std::alloc::AllocError;
 use std::io;
 use std::io::{IsTerminal, Stderr, Stdout, Write};
 
@@ -29,6 +30,21 @@ pub fn errors(rt: &HostRuntime) -> Shown<Stderr> {
         writer,
         is_terminal,
     }
+}
+
+/// Writes a line of the texts `parts` to standard error, with the name of the program before them. Writes nothing if memory runs out.
+///
+/// # Errors
+///
+/// Memory ran out.
+pub fn tell(rt: &HostRuntime, parts: &[&[u8]]) -> Result<(), AllocError> {
+    let mut message = Vec::from_slice(rt.alloc(), b"sudoers_tool: ")?;
+    for part in parts {
+        message.extend_from_slice(part)?;
+    }
+    message.push(b'\n')?;
+    let _ = errors(rt).write_all(message.as_slice());
+    Ok(())
 }
 
 impl<W: Write> Write for Shown<W> {
