@@ -57,7 +57,7 @@ pub use Rattle.sudoers_cvt_rewrite.proofs.Parts.{times_empty}
 pub use Rattle.sudoers_cvt_rewrite.specs.Expand.{expanded_command, expanded_group, expanded_list, expanded_node, expanded_runas, expanded_scope, with_member}
 pub use Rattle.sudoers_cvt_rewrite.specs.Filter.{allows_one, has_one}
 pub use Rattle.sudoers_cvt_rewrite.specs.Rewrite.{Changes, def_of, used_definitions, used_rules}
-pub use Rattle.sudoers_run.specs.Program.{split_text}
+pub use Rattle.sudoers_run.specs.Edit.{split_text}
 pub use Rattle.sudoers_edit_script.specs.Physical.{physical_lines}
 pub use Rattle.sudoers_text.specs.Fault.{line_limit, text_limit}
 pub use Rattle.sudoers_text.specs.Line.{join}

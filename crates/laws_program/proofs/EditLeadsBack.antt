@@ -30,7 +30,7 @@ use Rattle.sudoers_run.specs.declared.fault.ToolFault.{ToolFault}
 use Rattle.sudoers_run.specs.declared.fault.ToolFault.TheVariants as tool
 use Rattle.sudoers_run.specs.declared.given.Given.{Given}
 use Rattle.sudoers_run.specs.declared.given.Given.TheVariants as given
-use Rattle.sudoers_run.specs.Program.{input_limit, output_of, of_given, of_parts, by_bundle, by_layer, by_load, edit_output, edited_output, files_given, given_back, output_of_edits, edits_that_stand, how_many_stand, output_text, by_script, by_edit, ◌>>=◌}
+use Rattle.sudoers_run.specs.Edit.{input_limit, output_of, of_given, of_parts, by_bundle, by_layer, by_load, edit_output, edited_output, files_given, given_back, output_of_edits, edits_that_stand, how_many_stand, output_text, by_script, by_edit, ◌>>=◌}
 use Rattle.laws_program.specs.WayBack.{LeadsBack}
 use Rattle.laws_program.proofs.MarkLemmas.{split_at_bundle, split_at_mark, told_text}
 

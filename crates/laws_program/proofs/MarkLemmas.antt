@@ -13,7 +13,7 @@ use Rattle.sudoers_bundle.specs.Bundle.{CanBeHeld, bundle, header}
 use Rattle.sudoers_bundle.proofs.NumberLemmas.{decimal_lacks}
 use Rattle.sudoers_bundle.proofs.PartLemmas.{lacks_both}
 use Rattle.sudoers_edit_script.specs.Physical.{onto}
-use Rattle.sudoers_run.specs.Program.{is_header, is_mark, split_lines}
+use Rattle.sudoers_run.specs.Edit.{is_header, is_mark, split_lines}
 use Rattle.sudoers_run.specs.declared.given.Given.{Given}
 use Rattle.sudoers_run.specs.declared.given.Given.TheVariants as given
 

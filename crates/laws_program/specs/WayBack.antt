@@ -2,7 +2,7 @@
 use Rattle.std.specs.Prelude.{◌≡◌, ℕ, List, Ok}
 use Rattle.std.specs.Option.{option_map}
 use Rattle.sudoers_run.specs.declared.given.Given.{Given}
-use Rattle.sudoers_run.specs.Program.{output_of, split_text}
+use Rattle.sudoers_run.specs.Edit.{output_of, split_text}
 
 -- What `edit` wrote, given to it again, with no edit taken back then: it writes the first policy behind its script, in the same form, byte
 -- for byte.

@@ -1,6 +1,6 @@
 //! A law of `edit`: what it wrote leads back.
 ghost use Rattle.std.specs.Prelude.{◌≡◌, ◌≤◌, ℕ, List, Ok, length};
-ghost use Rattle.sudoers_run.specs.Program.{input_limit, output_of};
+ghost use Rattle.sudoers_run.specs.Edit.{input_limit, output_of};
 ghost use Rattle.laws_program.specs.WayBack.{LeadsBack};
 
 use sudoers_bundle::laws::{bundle_is_read, read_is_bundle};

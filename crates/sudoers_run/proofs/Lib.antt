@@ -1,7 +1,7 @@
 mod InputLemmas
 mod OutputLemmas
 mod PolicyLemmas
-mod ProgramLemmas
+mod EditLemmas
 mod ShowLemmas
 mod RewriteLemmas
 mod ListLemmas

@@ -15,7 +15,7 @@ use Rattle.sudoers_run.specs.declared.fault.LayerFault.TheVariants as layer
 use Rattle.sudoers_run.specs.declared.fault.ToolFault.TheVariants as tool
 use Rattle.sudoers_run.specs.Device.{Meter}
 use Rattle.sudoers_run.specs.Policy.{IsOutside, IsPolicyOf, Searches, TellsFiles, TellsGather, of_files, of_gathered}
-use Rattle.sudoers_run.specs.Program.{TellsLayer}
+use Rattle.sudoers_run.specs.Edit.{TellsLayer}
 use Rattle.sudoers_run.specs.Reading.{IsFront, IsTextOf, TooLarge, WasRead, Whole, front_end}
 
 -- ---- files

@@ -8,7 +8,7 @@ use Rattle.sudoers_edit.specs.Editing.{edits_of, Desk}
 use Rattle.sudoers_edit.specs.Named.{AreNamed}
 use Rattle.sudoers_edit.specs.Redoing.{MakesAgain, undone_behind}
 use Rattle.sudoers_edit.specs.Undoing.{TakesLast}
-use Rattle.sudoers_run.specs.Program.{how_many_stand, edits_that_stand}
+use Rattle.sudoers_run.specs.Edit.{how_many_stand, edits_that_stand}
 
 -- the edits that stand, with the undone ones behind them
 abbrev pub all_edits : Desk → List Edit

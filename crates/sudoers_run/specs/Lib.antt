@@ -3,7 +3,7 @@ pub mod Reading
 pub mod Policy
 pub mod FaultText
 pub mod Shown
-pub mod Program
+pub mod Edit
 pub mod Faults
 pub mod Show
 pub mod Check

@@ -4,7 +4,7 @@ ghost use Rattle.std.specs.Io.KnownBytes.{Keeps, Appends};
 ghost use Rattle.sudoers_run.specs.Device.{Writes, AppendsFront};
 ghost use Rattle.sudoers_edit.specs.Memory.{IsOfFiles};
 ghost use Rattle.sudoers_run.specs.Policy.{Searches};
-ghost use Rattle.sudoers_run.specs.Program.{TellsLayer};
+ghost use Rattle.sudoers_run.specs.Edit.{TellsLayer};
 ghost use Rattle.std.specs.Borrow.{Bor};
 ghost use Rattle.std.specs.Option.{option_map};
 ghost use Rattle.sudoers_cvt_rewrite.specs.Changed.{changes_shown};

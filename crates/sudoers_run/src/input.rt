@@ -1,6 +1,6 @@
 //! Reading an input whole.
 ghost use Rattle.std.specs.Prelude.{◌≡◌, ◌+◌, ◌<◌, ◌≤◌, length, IfOk, IfErr, MatchResult, min, ◌-◌, ◌^◌};
-ghost use Rattle.sudoers_run.specs.Program.{input_limit};
+ghost use Rattle.sudoers_run.specs.Edit.{input_limit};
 ghost use Rattle.sudoers_run.specs.Reading.{IsFront, IsFrontFault, IsReadFault, IsTextOf, ReadsFile, front_end, reading_end};
 
 use crate::device::{DeviceFailed, Pulled, Source};

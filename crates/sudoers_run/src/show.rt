@@ -8,7 +8,7 @@ ghost use Rattle.sudoers_tree.specs.Policy.{texts};
 ghost use Rattle.sudoers_run.specs.Device.{Writes, AppendsFront};
 ghost use Rattle.sudoers_edit.specs.Memory.{IsOfFiles};
 ghost use Rattle.sudoers_run.specs.Policy.{Searches};
-ghost use Rattle.sudoers_run.specs.Program.{TellsLayer};
+ghost use Rattle.sudoers_run.specs.Edit.{TellsLayer};
 ghost use Rattle.sudoers_line_rows.specs.View.{def_shown, defs_shown, node_shown};
 ghost use Rattle.sudoers_run.specs.Shown.{file_head, kind_word as word_of_kind, shown as shown_policy, shown_def, shown_defs, shown_line, shown_lines};
 ghost use Rattle.sudoers_run.specs.Show.{show_output, show_read, TellsShow, IsFileFault, IsShowFault};

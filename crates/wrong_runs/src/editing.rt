@@ -2,7 +2,7 @@
 
 ghost use Rattle.std.specs.Io.KnownBytes.{Appends};
 ghost use Rattle.std.specs.Prelude.{◌≡◌, IfOk, IfSome, IsOkAnd};
-ghost use Rattle.sudoers_run.specs.Program.{output_of};
+ghost use Rattle.sudoers_run.specs.Edit.{output_of};
 
 use std::alloc::Global;
 use sudoers_run::{Sink, Source, ToolFault, run_edit};

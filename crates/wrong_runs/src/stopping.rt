@@ -1,6 +1,6 @@
 //! Where `edit` stops reading.
 
-ghost use Rattle.sudoers_run.specs.Program.{input_limit};
+ghost use Rattle.sudoers_run.specs.Edit.{input_limit};
 ghost use Rattle.sudoers_run.specs.Reading.{ReadsFile, reading_end};
 
 use std::alloc::Global;

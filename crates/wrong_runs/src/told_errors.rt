@@ -5,7 +5,7 @@ ghost use Rattle.sudoers_run.specs.Check.{check_output, IsCheckFault};
 ghost use Rattle.sudoers_run.specs.Convert.{convert_output, TellsConvert};
 ghost use Rattle.sudoers_run.specs.Device.{AppendsFront};
 ghost use Rattle.sudoers_run.specs.List.{OfTexts, IsListOutcome, TellsList};
-ghost use Rattle.sudoers_run.specs.Program.{output_of, TellsTool};
+ghost use Rattle.sudoers_run.specs.Edit.{output_of, TellsTool};
 ghost use Rattle.sudoers_run.specs.Show.{show_output, TellsShow};
 ghost use Rattle.sudoers_run.specs.declared.fault.ToolFault.TheVariants as ToolFault;
 

@@ -4,9 +4,9 @@ use Rattle.std.proofs.Math.Seq.{take-add}
 use Rattle.std.specs.Option.{option_map}
 use Rattle.sudoers_run.specs.declared.given.Given.TheVariants as given
 use Rattle.sudoers_edit_script.specs.Physical.{physical_lines}
-use Rattle.sudoers_run.specs.Program.{split_lines}
-use Rattle.sudoers_run.proofs.ProgramLemmas.{parts_after, split_more, mark_found, header_found}
-use Rattle.sudoers_run.proofs.program.split_input.Goals as goal
+use Rattle.sudoers_run.specs.Edit.{split_lines}
+use Rattle.sudoers_run.proofs.EditLemmas.{parts_after, split_more, mark_found, header_found}
+use Rattle.sudoers_run.proofs.edit.split_input.Goals as goal
 
 pub returns-then-is_mark : goal.returns-then-is_mark
 returns-then-is_mark c =

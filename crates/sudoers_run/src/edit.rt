@@ -7,7 +7,7 @@ ghost use Rattle.sudoers_tree.specs.Load.{one_file as the_one_file};
 ghost use Rattle.sudoers_edit.specs.Named.{AreNamed};
 ghost use Rattle.sudoers_run.specs.Device.{Writes, AppendsFront};
 ghost use Rattle.sudoers_run.specs.Reading.{ReadsFile, reading_end};
-ghost use Rattle.sudoers_run.specs.Program.{files_given as the_files_given, given_back, is_header as is_header_line, is_mark as is_mark_text, split_text, edit_output as output_of_edit, edited_output, output_of, output_text, input_limit, TellsLayer, TellsTool, IsAnswerFault, IsEditFault, IsInputFault};
+ghost use Rattle.sudoers_run.specs.Edit.{files_given as the_files_given, given_back, is_header as is_header_line, is_mark as is_mark_text, split_text, edit_output as output_of_edit, edited_output, output_of, output_text, input_limit, TellsLayer, TellsTool, IsAnswerFault, IsEditFault, IsInputFault};
 
 use crate::device::{Sink, Source};
 use crate::fault::{LayerFault, ToolFault};
@@ -67,14 +67,14 @@ pub fn run_edit<R: Source, W: Sink>(
         (W.contents writer.old) (W.contents writer.new) }
 {
     let input = read_all(alloc, reader, INPUT_LIMIT)?;
-    let output = answer(alloc, input.as_slice(), undo, redo)?;
+    let output = edit_input(alloc, input.as_slice(), undo, redo)?;
     write_all(writer, output.as_slice())?;
     Ok(0)
 }
 
 /// Returns what is written for the input `input`, which is within the limit, if up to `undo` edits are taken back and up to `redo` of
 /// these made again.
-fn answer(alloc: Global, input: &[u8], undo: u32, redo: u32) -> Result<Vec<u8>, ToolFault>
+fn edit_input(alloc: Global, input: &[u8], undo: u32, redo: u32) -> Result<Vec<u8>, ToolFault>
     requires { length input.now ≤ input_limit }
     ensures ok { IfOk result (λ out. output_of undo redo input.now ≡ Ok out.items) }
     ensures fault { IfErr result (λ fault. TellsTool undo redo fault input.now × IsAnswerFault fault) }

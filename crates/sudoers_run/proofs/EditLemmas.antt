@@ -5,7 +5,7 @@ use Rattle.sudoers_text.specs.Line.{join}
 use Rattle.sudoers_edit_script.specs.Physical.{physical_lines}
 use Rattle.sudoers_run.specs.declared.given.Given.{Given}
 use Rattle.sudoers_run.specs.declared.given.Given.TheVariants as given
-use Rattle.sudoers_run.specs.Program.{is_mark, is_header, split_lines}
+use Rattle.sudoers_run.specs.Edit.{is_mark, is_header, split_lines}
 
 -- the parts as texts, if the text `front` stands before them
 abbrev pub parts_after : List ℕ → List (List ℕ) × Given × List (List ℕ) → List ℕ × Given × List ℕ

@@ -1,9 +1,9 @@
 use Rattle.std.proofs.Common.{◌≡◌, ◌≤◌, ◌-◌, length, take, drop}
 use Rattle.std.specs.Option.{option_map}
 use Rattle.sudoers_edit_script.specs.Physical.{physical_lines}
-use Rattle.sudoers_run.specs.Program.{split_lines, split_text}
-use Rattle.sudoers_run.proofs.ProgramLemmas.{parts_after}
-use Rattle.sudoers_run.proofs.program.split_input.Given as goal
+use Rattle.sudoers_run.specs.Edit.{split_lines, split_text}
+use Rattle.sudoers_run.proofs.EditLemmas.{parts_after}
+use Rattle.sudoers_run.proofs.edit.split_input.Given as goal
 
 abbrev pub invariant-loop-at : goal.invariant-loop-at
 invariant-loop-at l =

@@ -5,10 +5,10 @@ use Rattle.sudoers_run.specs.declared.fault.LayerFault.{LayerFault}
 use Rattle.sudoers_edit.specs.Editing.{edits_of, Desk, run_all, inv_run, first_of, first_policy}
 use Rattle.sudoers_edit.specs.Named.{AreNamed}
 use Rattle.sudoers_edit.specs.Redoing.{undone_behind}
-use Rattle.sudoers_run.specs.Program.{edited_output, output_of_edits, output_text, edits_that_stand, by_edit, ◌>>=◌, TellsLayer}
+use Rattle.sudoers_run.specs.Edit.{edited_output, output_of_edits, output_text, edits_that_stand, by_edit, ◌>>=◌, TellsLayer}
 use Rattle.sudoers_run.proofs.UndoLemmas.{all_edits, none_behind, stand, named_front}
-use Rattle.sudoers_run.proofs.program.edited.Goals as goal
-use Rattle.sudoers_run.proofs.program.edited.Goals.{In_ok-inverse}
+use Rattle.sudoers_run.proofs.edit.edited.Goals as goal
+use Rattle.sudoers_run.proofs.edit.edited.Goals.{In_ok-inverse}
 
 -- What is known of the editor once edits were taken back and made again.
 record IsReady (edits stood : List Edit) (policy : Loaded) (made redone : Desk) : Type 0 where
