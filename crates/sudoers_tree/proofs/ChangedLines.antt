@@ -182,18 +182,6 @@ one_swap lines file at text h =
     ∙ ap (λ ls. take at lines ++ text ∷ ls) (no_change (at + 1) (drop (suc at) lines))
     ∙ swapped lines at text h
 
--- a list of one change
-pub as_put : (cs : List LineChange) (lines : List (List ℕ)) (file at : ℕ) (text : List ℕ) → cs ≡ Put file at text ∷ [] → at ≤ length lines → changed cs lines ≡ insert lines at text
-as_put cs lines file at text is h = ap (λ c. changed c lines) is ∙ one_put lines file at text h
-
-pub as_take : (cs : List LineChange) (lines : List (List ℕ)) (file at : ℕ) → cs ≡ Take file at ∷ [] → at < length lines → changed cs lines ≡ remove lines at
-as_take cs lines file at is h = ap (λ c. changed c lines) is ∙ one_take lines file at h
-
-pub as_swap : (cs : List LineChange) (lines : List (List ℕ)) (file at : ℕ) (text : List ℕ) → cs ≡ Swap file at text ∷ [] → at < length lines → changed cs lines ≡ replaced at text lines
-as_swap cs lines file at text is h = ap (λ c. changed c lines) is ∙ one_swap lines file at text h
-
--- ---- lines after changes are whole
-
 abbrev Whole : List (List ℕ) → Type 0
 Whole lines = AllByRecursion IsLogicalLine lines
 

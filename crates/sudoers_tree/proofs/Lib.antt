@@ -5,7 +5,6 @@ pub mod Columns
 pub mod LineEnds
 pub mod Entries
 pub mod Joined
-pub mod TwoPasses
 pub mod ReadUntil
 pub mod ReadsLines
 pub mod FileRows
@@ -38,7 +37,6 @@ pub mod Passed
 pub mod Outcomes
 pub mod OneOutcome
 pub mod AtPlaces
-pub mod ReadText
 pub mod WholeLines
 pub mod ChangedLines
 pub mod NameLists

@@ -3,14 +3,9 @@ use Rattle.std.proofs.Common.{◌≡◌, ◌⊎◌, inl, inr, true, ℕ, zero, s
 use Rattle.std.specs.List.{All, AllByRecursion}
 use Rattle.std.proofs.lemmas.List.{map-append}
 use Rattle.std.proofs.lemmas.List.Elements.{All-cons, All-head, All-nil, All-push, All-same, All-tail, All-weaker}
-use Rattle.sudoers_text.specs.Cut.{cut_of, CutGives, StandAlone}
+use Rattle.sudoers_text.specs.Cut.{cut_of, StandAlone}
 use Rattle.sudoers_text.specs.Fault.{lf_count, line_limit, text_limit}
 use Rattle.sudoers_text.specs.Whole.{IsLogicalLine, is_logical_line}
-use Rattle.sudoers_text.specs.declared.fault.TextFault.{TextFault}
-use Rattle.sudoers_text.specs.declared.fault.TextFault.TheVariants as text
-use Rattle.sudoers_tree.specs.declared.fault.ReadFault.TheVariants.{NoMemory}
-use Rattle.sudoers_tree.specs.Reading.{read_cut, read_of}
-use Rattle.sudoers_tree.specs.internal.Wrapped.{fault_of_text}
 use Rattle.sudoers_text.specs.Line.{join}
 use Rattle.sudoers_line.specs.declared.fault.LineFault.TheVariants as line_fault
 use Rattle.sudoers_line.specs.declared.fault.Why.{Why}
@@ -175,16 +170,6 @@ pub stand_alone : ((text : List ℕ) → IsLogicalLine text → is_logical_line 
 stand_alone is alone [] whole short = tt
 stand_alone is alone (line ∷ ls) whole short = (alone line (is line whole.0) short.0, stand_alone is alone ls whole.1 short.1)
 
--- the fault of the cut of a text
-pub cut_told : (bytes : List ℕ) (fault : TextFault) → CutGives (Err fault) (cut_of bytes) → (fault_of_text fault ≡ NoMemory) ⊎ (read_of bytes ≡ Err (fault_of_text fault))
-unfolding read_of
-cut_told bytes text.TooLarge is = inr (ap read_cut is)
-cut_told bytes (text.LineTooLong line) is = inr (ap read_cut is)
-cut_told bytes (text.Nul at) is = inr (ap read_cut is)
-cut_told bytes text.OpenContinuation is = inr (ap read_cut is)
-cut_told bytes text.NoMemory is = inl refl
-
--- the fault of reading the lines of a text
 pub told : {X : Type 0} {a b : X} {P : Type 0} {c : X} → a ≡ b → P ⊎ (b ≡ c) → P ⊎ (a ≡ c)
 told same (inl p) = inl p
 told same (inr is) = inr (same ∙ is)

@@ -1,6 +1,7 @@
 -- Lines of a text, up to the first that does not parse.
-use Rattle.std.proofs.Common.{◌≡◌, ℕ, List, [], ◌∷◌, ◌++◌, Option, Some, None, Result, Ok, Err, refl, sym, ap, ap₂, subst, ◌∙◌, append_assoc, append-nil}
+use Rattle.std.proofs.Common.{◌≡◌, ℕ, ◌+◌, List, [], ◌∷◌, ◌++◌, take, Option, Some, None, Result, Ok, Err, refl, sym, ap, ap₂, subst, ◌∙◌, append_assoc, append-nil, arith}
 use Rattle.std.specs.List.{AllByRecursion}
+use Rattle.sudoers_text.specs.Fault.{lf_count}
 use Rattle.sudoers_text.specs.Line.{join}
 use Rattle.sudoers_line.specs.declared.fault.LineFault.{LineFault}
 use Rattle.sudoers_line.specs.declared.fault.LineFault.TheVariants as line_fault
@@ -14,13 +15,18 @@ use Rattle.sudoers_tree.specs.Physical.{row_behind}
 use Rattle.sudoers_tree.specs.Policy.{SaysSo, texts}
 use Rattle.sudoers_tree.specs.Fault.{IsSyntaxFault}
 use Rattle.sudoers_tree.specs.Files.{Reads, whole, broken, fault_at, going_on, read_until, with_first}
+use Rattle.sudoers_tree.proofs.Joined.{lf_append}
 use Rattle.sudoers_tree.proofs.OneOutcome.{NoFault, OneFault, OneLine, OneReading, one_line}
 use Rattle.sudoers_tree.proofs.Outcomes.{LinesAre, all_more, texts_more}
-use Rattle.sudoers_tree.proofs.TwoPasses.{row_in}
 
 -- lines, and the fault of the one after them
 abbrev LinesRead : Type 0
 LinesRead = List Line × Option SyntaxFault
+
+-- the physical line of a byte of the line after others
+pub row_in : (before : List Line) (text : List ℕ) (at : ℕ)
+    → row_behind (join (texts before) ++ take at text) ≡ row_behind (join (texts before)) + lf_count (take at text)
+row_in before text at = omega (arith, lf_append (join (texts before)) (take at text))
 
 -- ---- the computed outcome is the defined one
 

@@ -2,7 +2,6 @@
 pub mod Index
 pub mod Tree
 pub mod Wrapped
-pub mod Passing
 pub mod Files
 pub mod Walking
 pub mod Pieces

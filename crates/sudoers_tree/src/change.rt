@@ -13,72 +13,26 @@ ghost use Rattle.sudoers_tree.specs.Line.{line_in};
 ghost use Rattle.sudoers_tree.specs.Load.{cut_file};
 ghost use Rattle.sudoers_tree.specs.Policy.{texts};
 ghost use Rattle.sudoers_tree.specs.internal.Files.{ReadsFile};
-ghost use Rattle.sudoers_tree.specs.internal.Pieces.{piece_texts, texts_of, AreKept, ChangesLines, IsKept, IsKeptPiece, IsSize, IsSizeBehind, ReadsOn};
+ghost use Rattle.sudoers_tree.specs.internal.Pieces.{piece_texts, texts_of, AreKept, IsKept, IsKeptPiece, IsSize, IsSizeBehind, ReadsOn};
 ghost use Rattle.sudoers_tree.specs.internal.Tree.{Stands};
 
-use crate::fault::{ReadFault, SyntaxFault};
+use crate::fault::SyntaxFault;
 use crate::files::FileRows;
-use crate::index::{Index, Renewals};
 use crate::line::LineRow;
 use crate::load::not_cut;
 use crate::load_fault::LoadFault;
-use crate::passing::enter_lines;
 use crate::pieces::Piece;
 use crate::reading::read_text;
 use crate::texts::text_of;
 use std::alloc::{AllocError, Global};
 use sudoers_line::Items;
-use sudoers_line_reader::laws::outcome_is;
 use sudoers_line_rows::laws::growth_goes_on;
-use sudoers_line_rows::{Rows, Tables};
+use sudoers_line_rows::Tables;
 use sudoers_text::laws::{
     cut_is, line_alone_is_whole, line_alone_size, lines_of_join, lines_stand_alone, one_list,
     whole_line_is, whole_lines_of_join,
 };
 use sudoers_text::{LINE_LIMIT, TEXT_LIMIT, TextFault, cut};
-
-/// Lines after changes: their rows, the names that they define, and how many bytes they are.
-#[derive(Drop)]
-pub struct ChangedLines {
-    pub rows: Vec<LineRow>,
-    pub names: Renewals,
-    pub size: usize,
-}
-
-/// Returns the lines `pieces`, of which the new ones are read into `tables`. Their names are entered beside those of `known`.
-///
-/// # Errors
-///
-/// The first fault of the text that the lines are, or want of memory.
-pub fn changed_lines(
-    alloc: Global,
-    tables: &mut Tables,
-    known: &Index,
-    pieces: &[Piece<'_>],
-) -> Result<ChangedLines, ReadFault>
-    requires kept { AreKept tables.old pieces.now }
-    requires whole { AllByRecursion IsLogicalLine (piece_texts tables.old pieces.now) }
-    requires ended { has_unended_inside (piece_texts tables.old pieces.now) ≡ false }
-    ensures grown { Grown tables.old tables.new }
-    ensures stand { IfOk result (λ lines. All (Stands tables.new) lines.rows.items) }
-    ensures outcome { ChangesLines result known.now tables.new (piece_texts tables.old pieces.now) }
-{
-    growth_goes_on();
-    outcome_is();
-    lines_stand_alone();
-    let size = size_of(alloc, tables, pieces)?;
-    let mut rows = Vec::with_capacity(alloc, line_count(pieces))?;
-    let fault = read_pieces(alloc, tables, pieces, &mut rows)?;
-    let lines = Rows {
-        tables: &*tables,
-        rows: rows.as_slice(),
-    };
-    let names = enter_lines(alloc, known, &lines)?;
-    match fault {
-        Some(fault) => Err(fault.into()),
-        None => Ok(ChangedLines { rows, names, size }),
-    }
-}
 
 /// Returns how many lines the pieces `pieces` have.
 fn line_count(pieces: &[Piece<'_>]) -> usize {

@@ -26,11 +26,9 @@ ghost use Rattle.sudoers_tree.specs.Single.{said};
 ghost use Rattle.sudoers_tree.specs.Files.{FileReading, Reads, lines_of, read_until};
 ghost use Rattle.sudoers_tree.specs.declared.fault.SyntaxFault.{SyntaxFault as SyntaxFaultOf};
 ghost use Rattle.sudoers_tree.specs.Goes.{IsWalkOf};
-ghost use Rattle.sudoers_tree.specs.internal.Pieces.{AreShort};
 ghost use Rattle.sudoers_tree.specs.Walk.{Walked, walk_of};
 ghost use Rattle.sudoers_tree.specs.declared.load_fault.LoadFault.{LoadFault as LoadFaultOf};
 
-use crate::one_file::OneFile;
 use sudoers_line::laws::{no_fault, one_fault};
 use sudoers_line_reader::laws::{one_reading, outcome_is};
 use sudoers_text::laws::{
@@ -86,27 +84,6 @@ pub fn lines_are_said()
 pub fn members_are_listed()
     ensures { (kind : KindOf) (says : NodeOf) → members_in kind says ≡ of_kind kind (listed says) }
 {}
-
-/// A law: each line of a policy is one logical line.
-pub fn lines_are_whole(policy: &OneFile)
-    ensures { AllByRecursion IsLogicalLine (texts policy.now) }
-{
-    policy.is_policy();
-    policy_is_cut();
-    lines_stand_alone();
-    line_alone_is_whole();
-    whole_line_is();
-}
-
-/// A law: each line of a policy is within the limit of a line.
-pub(crate) fn lines_are_short(policy: &OneFile)
-    ensures { AreShort (texts policy.now) }
-{
-    policy.is_policy();
-    policy_is_cut();
-    lines_stand_alone();
-    line_alone_size();
-}
 
 /// A law: lines that are each one logical line, all but the last ending in LF, are those of the policy that their join is.
 pub fn whole_lines_are_read()

@@ -1,18 +1,17 @@
 -- A device of the proof, which no public contract cites: the index of names.
-use Rattle.std.specs.Prelude.{◌≡◌, ◌⊎◌, ℕ, ◌+◌, Bool, false, List, [], ◌∷◌, ◌++◌, length, map, zip, slice_get, option_map, nat_le, Option, Some, None, Result, Ok, Err, if◌then◌else◌}
+use Rattle.std.specs.Prelude.{◌≡◌, ℕ, ◌+◌, Bool, false, List, [], ◌∷◌, ◌++◌, length, map, zip, slice_get, option_map, nat_le, Option, Some, None, Result, Ok, Err, if◌then◌else◌}
 use Rattle.std.specs.Str.{bytes_eq}
 use Rattle.sudoers_text.specs.Word.{is_reserved}
 use Rattle.sudoers_line.specs.declared.node.Kind.{Kind}
 use Rattle.sudoers_line.specs.declared.node.Kind.TheVariants.{User, Runas, Host, Cmnd}
 use Rattle.sudoers_line.specs.Node.{Def}
-use Rattle.sudoers_tree.specs.Line.{Line}
 use Rattle.sudoers_tree.specs.declared.place.Place.{Place}
 use Rattle.sudoers_tree.specs.declared.index.Index.{Index}
 use Rattle.sudoers_tree.specs.declared.index.Renewals.{Renewals}
 use Rattle.sudoers_tree.specs.declared.renewal.Renewal.{Renewal}
 use Rattle.sudoers_tree.specs.declared.fault.ReadFault.{ReadFault}
 use Rattle.sudoers_tree.specs.declared.fault.ReadFault.TheVariants.{Text, Syntax, Reserved, Duplicate, TooMany, NotLoaded, Twice, TooDeep, NoMemory}
-use Rattle.sudoers_tree.specs.Definition.{Definition, definitions, is_kind}
+use Rattle.sudoers_tree.specs.Definition.{Definition, is_kind}
 use Rattle.sudoers_tree.specs.Policy.{alias_limit}
 use Rattle.sudoers_tree.specs.Fault.{is_some}
 use Rattle.sudoers_tree.specs.Reading.{first_name_fault}
@@ -119,8 +118,3 @@ Enters (Err (NotLoaded row name)) index before ds = first_name_fault before ds �
 Enters (Err (Twice row name)) index before ds = first_name_fault before ds ≡ Some (Twice row name)
 Enters (Err (TooDeep row)) index before ds = first_name_fault before ds ≡ Some (TooDeep row)
 Enters (Err NoMemory) index before ds = Unit {0}
-
--- the names of the lines that are read, or the first fault
-abbrev pub ReadsAll : Result Index ReadFault → List Line → Result (List Line) ReadFault → Type 0
-ReadsAll (Ok index) read wanted = (wanted ≡ Ok read) × Indexes index (definitions read)
-ReadsAll (Err fault) read wanted = (fault ≡ NoMemory) ⊎ (wanted ≡ Err fault)

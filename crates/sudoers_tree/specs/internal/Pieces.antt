@@ -1,20 +1,11 @@
 -- A device of the proof, which no public contract cites: lines after changes, as stretches of lines and texts between them.
-use Rattle.std.specs.Prelude.{◌≡◌, ◌⊎◌, ◌≤◌, ◌+◌, ℕ, List, [], ◌∷◌, ◌++◌, length, map, Option, Some, None, Result, Ok, Err}
+use Rattle.std.specs.Prelude.{◌≡◌, ◌≤◌, ◌+◌, ℕ, List, [], ◌∷◌, ◌++◌, length, map, Option, Some, None}
 use Rattle.std.specs.List.{flat_map, All, AllByRecursion}
 use Rattle.sudoers_text.specs.Fault.{lf_count, line_limit, text_limit}
-use Rattle.sudoers_text.specs.Line.{join}
 use Rattle.sudoers_line_rows.specs.Tables.{text_in}
-use Rattle.sudoers_tree.specs.declared.change.ChangedLines.{ChangedLines}
-use Rattle.sudoers_tree.specs.declared.fault.ReadFault.{ReadFault}
-use Rattle.sudoers_tree.specs.declared.fault.ReadFault.TheVariants.{NoMemory}
 use Rattle.sudoers_tree.specs.declared.fault.SyntaxFault.{SyntaxFault}
-use Rattle.sudoers_tree.specs.declared.index.Index.{Index}
-use Rattle.sudoers_tree.specs.declared.index.Renewals.{Renewals}
 use Rattle.sudoers_tree.specs.declared.line.LineRow.{LineRow}
-use Rattle.sudoers_tree.specs.Definition.{definitions}
 use Rattle.sudoers_tree.specs.Files.{read_until}
-use Rattle.sudoers_tree.specs.internal.Index.{renewed_index, Indexes}
-use Rattle.sudoers_tree.specs.Reading.{read_of}
 use Rattle.sudoers_tree.specs.internal.Tree.{Stands}
 use Rattle.sudoers_line_rows.specs.declared.rows.Tables.{Tables}
 use Rattle.sudoers_tree.specs.declared.pieces.Piece.{Piece}
@@ -82,17 +73,3 @@ ReadsOn None before after lines =
     × ((more : List (List ℕ)) → read_until before (lines ++ more) ≡ (read ++ (read_until after more).0, (read_until after more).1))
 ReadsOn (Some fault) before after lines =
     (after ≡ before) × ((more : List (List ℕ)) → read_until before (lines ++ more) ≡ ([], Some fault))
-
--- These lines are read, and their names; or the text that they are has the fault. `NoMemory` may come instead.
-abbrev pub ChangesLines : Result ChangedLines ReadFault → Index → Tables → List (List ℕ) → Type 0
-ChangesLines (Ok lines) known t wanted =
-    (read_of (join wanted) ≡ Ok (map (line_in t) lines.rows.items))
-    × Indexes (renewed_index known lines.names) (definitions (map (line_in t) lines.rows.items))
-    × (lines.size ≡ length (join wanted))
-ChangesLines (Err fault) known t wanted = (fault ≡ NoMemory) ⊎ (read_of (join wanted) ≡ Err fault)
-
--- the same of all lines that are read
-abbrev pub Changes : Result (Renewals × ℕ) ReadFault → Index → List Line → List (List ℕ) → Type 0
-Changes (Ok new) known lines wanted =
-    (read_of (join wanted) ≡ Ok lines) × Indexes (renewed_index known new.0) (definitions lines) × (new.1 ≡ length (join wanted))
-Changes (Err fault) known lines wanted = (fault ≡ NoMemory) ⊎ (read_of (join wanted) ≡ Err fault)

@@ -19,7 +19,7 @@ use Rattle.sudoers_tree.specs.internal.Files.{files_shown}
 use Rattle.sudoers_tree.specs.internal.Tree.{Stands}
 use Rattle.sudoers_tree.specs.internal.Walking.{walked}
 use Rattle.sudoers_tree.proofs.Joined.{definitions_push}
-use Rattle.sudoers_tree.proofs.TwoPasses.{not_entered}
+use Rattle.sudoers_tree.proofs.Passed.{not_entered}
 use Rattle.sudoers_tree.proofs.walking.Walking.take.Goals as goal
 
 -- the line that a row holds

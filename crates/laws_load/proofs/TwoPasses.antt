@@ -1,8 +1,6 @@
 -- Lines are read first, and then their names are entered. The outcome is that of reading line by line.
-use Rattle.std.proofs.Common.{◌≡◌, ℕ, ◌+◌, ◌⊎◌, inl, inr, List, [], ◌∷◌, ◌++◌, length, take, Option, Some, None, option_map, Result, Ok, Err, refl, sym, ap, subst, ◌∙◌, append_assoc, append-nil, arith}
+use Rattle.std.proofs.Common.{◌≡◌, ℕ, ◌+◌, List, [], ◌∷◌, ◌++◌, length, take, Option, Some, None, option_map, Result, Ok, Err, refl, sym, ap, subst, ◌∙◌, append_assoc, append-nil, arith}
 use Rattle.std.proofs.lemmas.List.{length-append}
-use Rattle.sudoers_text.specs.Line.{join}
-use Rattle.sudoers_text.specs.Fault.{lf_count}
 use Rattle.sudoers_line.specs.declared.fault.Why.{Why}
 use Rattle.sudoers_line.specs.declared.fault.LineFault.{LineFault}
 use Rattle.sudoers_line.specs.declared.fault.LineFault.TheVariants as line_fault
@@ -10,44 +8,24 @@ use Rattle.sudoers_line.specs.Node.{Node}
 use Rattle.sudoers_line_reader.specs.Outcome.{outcome_of}
 use Rattle.sudoers_line_reader.specs.Outcome.{IsOutcome as IsLineOutcome}
 use Rattle.sudoers_tree.specs.Line.{Line}
-use Rattle.sudoers_tree.specs.declared.index.Index.{Index}
 use Rattle.sudoers_tree.specs.declared.fault.ReadFault.{ReadFault}
-use Rattle.sudoers_tree.specs.declared.fault.ReadFault.TheVariants.{Text, Syntax, Reserved, Duplicate, TooMany, NotLoaded, Twice, TooDeep, NoMemory}
+use Rattle.sudoers_tree.specs.declared.fault.ReadFault.TheVariants.{Syntax}
 use Rattle.sudoers_tree.specs.declared.fault.SyntaxFault.{SyntaxFault}
-use Rattle.sudoers_tree.specs.Physical.{row_behind, column_behind}
+use Rattle.sudoers_tree.specs.Physical.{column_behind}
 use Rattle.sudoers_tree.specs.Definition.{Definition, definitions, definitions_in, definitions_since}
 use Rattle.sudoers_tree.specs.Fault.{syntax_fault}
-use Rattle.sudoers_tree.specs.Policy.{texts}
 use Rattle.sudoers_tree.specs.Reading.{line_behind, line_by, unless_faulty, first_name_fault, or_later, read_behind, with_line}
 use Rattle.sudoers_tree.specs.Files.{going_on, read_until}
-use Rattle.sudoers_tree.specs.internal.Index.{Enters}
-use Rattle.sudoers_tree.proofs.Joined.{lf_append, definitions_push}
+use Rattle.sudoers_tree.proofs.Joined.{definitions_push}
 use Rattle.sudoers_tree.proofs.Sound.{first_append}
 use Rattle.sudoers_tree.proofs.Outcomes.{LinesAre}
-
--- a name that cannot be entered
-pub not_entered : (fault : ReadFault) (index : Index) (before ds : List Definition) → Enters (Err fault) index before ds
-    → (fault ≡ NoMemory) ⊎ (first_name_fault before ds ≡ Some fault)
-not_entered (Text fault) index before ds is = inr is
-not_entered (Syntax row col why) index before ds is = inr is
-not_entered (Reserved k name) index before ds is = inr is
-not_entered (Duplicate k name) index before ds is = inr is
-not_entered (TooMany k) index before ds is = inr is
-not_entered (NotLoaded row name) index before ds is = inr is
-not_entered (Twice row name) index before ds is = inr is
-not_entered (TooDeep row) index before ds is = inr is
-not_entered NoMemory index before ds is = inl refl
+use Rattle.sudoers_tree.proofs.ReadsLines.{row_in}
 
 -- lines after others, with the fault of their names, or else that of the line after them
 abbrev pub by_passes : List Line → List Line × Option SyntaxFault → Result (List Line) ReadFault
 by_passes before read =
     unless_faulty (before ++ read.0)
     (or_later (first_name_fault (definitions before) (definitions_since (length before) read.0)) (option_map syntax_fault read.1))
-
--- the physical line of a byte of the line after others
-pub row_in : (before : List Line) (text : List ℕ) (at : ℕ)
-    → row_behind (join (texts before) ++ take at text) ≡ row_behind (join (texts before)) + lf_count (take at text)
-row_in before text at = omega (arith, lf_append (join (texts before)) (take at text))
 
 end_is : (before : List Line) → read_behind before [] ≡ by_passes before (read_until before [])
 end_is before = ap (λ (ls : List Line). Ok ls) (sym (append-nil before))
@@ -122,22 +100,3 @@ two_passes are before (text ∷ more) = by (outcome_of text) refl (λ line. two_
     by (Ok says) is later = said before text more says is later
     by (Err (line_fault.Syntax at why)) is later = broken before text more at why is
     by (Err line_fault.NoMemory) is later = absurd (no_memory text (are text) is)
-
--- ---- the lines of a text, all of which are appended to the walk
-
--- a name that cannot stand, or want of memory
-pub name_stops : LinesAre → (lines : List (List ℕ)) (fault : ReadFault)
-    → (fault ≡ NoMemory) ⊎ (first_name_fault [] (definitions (read_until [] lines).0) ≡ Some fault) → (fault ≡ NoMemory) ⊎ (read_behind [] lines ≡ Err fault)
-name_stops are lines fault (inl memory) = inl memory
-name_stops are lines fault (inr is) =
-    let read = read_until [] lines in
-    inr (two_passes are [] lines ∙ ap (λ o. unless_faulty read.0 (or_later o (option_map syntax_fault read.1))) is)
-
--- the line after those that are read, which does not parse, or none
-pub read_stops : LinesAre → (lines : List (List ℕ)) (o : Option SyntaxFault) → first_name_fault [] (definitions (read_until [] lines).0) ≡ None
-    → (read_until [] lines).1 ≡ o → read_behind [] lines ≡ unless_faulty (read_until [] lines).0 (option_map syntax_fault o)
-read_stops are lines o none is =
-    let read = read_until [] lines in
-    two_passes are [] lines
-    ∙ ap (λ f. unless_faulty read.0 (or_later f (option_map syntax_fault read.1))) none
-    ∙ ap (λ f. unless_faulty read.0 (option_map syntax_fault f)) is
