@@ -26,8 +26,8 @@ use crate::reading::read_text;
 use crate::texts::text_of;
 use std::alloc::{AllocError, Global};
 use sudoers_line::Items;
-use sudoers_line_rows::laws::growth_goes_on;
 use sudoers_line_rows::Tables;
+use sudoers_line_rows::laws::growth_goes_on;
 use sudoers_text::laws::{
     cut_is, line_alone_is_whole, line_alone_size, lines_of_join, lines_stand_alone, one_list,
     whole_line_is, whole_lines_of_join,

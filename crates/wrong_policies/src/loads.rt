@@ -1,18 +1,17 @@
 //! Policies of several files.
 
-ghost use Rattle.std.specs.Prelude.{◌≡◌, ◌⊎◌, false, slice_get, Some, MatchResult, IfOk, OnOk, OnErr, Ok, Err};
+ghost use Rattle.std.specs.Prelude.{◌≡◌, ◌⊎◌, ◌∷◌, [], MatchResult, IfOk, OnOk, OnErr, Ok, Err};
 ghost use Rattle.sudoers_text.specs.Line.{join};
+ghost use Rattle.sudoers_tree.specs.declared.line_change.LineChange.TheVariants.{Put};
 ghost use Rattle.sudoers_tree.specs.declared.load_fault.LoadFault.TheVariants.{NoMemory};
 ghost use Rattle.sudoers_tree.specs.ChangedFiles.{CanBeMade, files_changed};
 ghost use Rattle.sudoers_tree.specs.Files.{lines_of};
-ghost use Rattle.sudoers_tree.specs.Line.{Line as LineOf};
 ghost use Rattle.sudoers_tree.specs.Load.{files_of, load_of, one_file};
 ghost use Rattle.sudoers_tree.specs.Policy.{texts};
-ghost use Rattle.sudoers_tree.specs.Standing.{IsAbsent};
 
 use std::alloc::{AllocError, Global};
 use sudoers_text::cut;
-use sudoers_tree::{Items, LineChange, LoadFault, NameBits, NamedFile, Policy, Spot, leads};
+use sudoers_tree::{Items, LineChange, LoadFault, NamedFile, Policy, Spot, leads};
 
 /// Whether the include lines of a file come behind its other lines. A wrong body says that they do.
 const INCLUDED_LAST: bool = false;
@@ -78,6 +77,25 @@ pub fn change_files(policy: &mut Policy, changes: &[LineChange]) -> Result<(), L
     policy.changed(changes)
 }
 
+/// Puts `line` before the line with the number `at` of the file with the number `file`, or after its last line.
+///
+/// # Errors
+///
+/// The first fault of the changed files, or memory ran out. The policy is then as it was.
+pub fn insert_line(
+    policy: &mut Policy,
+    file: usize,
+    at: usize,
+    line: &[u8],
+) -> Result<(), LoadFault>
+    requires { CanBeMade (Put file at line.now ∷ []) policy.old.files }
+    ensures outcome { MatchResult result (λ _. load_of (files_changed (Put file at line.now ∷ []) policy.old.files) ≡ Ok policy.new)
+        (λ fault. (fault ≡ NoMemory) ⊎ (load_of (files_changed (Put file at line.now ∷ []) policy.old.files) ≡ Err fault)) }
+    ensures unchanged { OnErr result (policy.new ≡ policy.old) }
+{
+    policy.with_line(file, at, line)
+}
+
 /// Returns `files` with the include lines of each behind its other lines.
 fn files_included_last(alloc: Global, files: &[NamedFile]) -> Result<Vec<NamedFile>, AllocError> {
     let mut moved = Vec::new(alloc);
@@ -110,12 +128,4 @@ fn text_included_last(alloc: Global, file: &NamedFile) -> Result<Items<u8>, Allo
     }
     others.extend_from_slice(includes.as_slice())?;
     Ok(others)
-}
-
-/// Returns whether an alias of the name `name` may stand in the line with the number `line` of the file with the number `file`, both
-/// from 0.
-pub fn may_stand(policy: &Policy, file: usize, line: usize, name: &[u8]) -> bool
-    ensures { (says : LineOf) → result ≡ false → slice_get (lines_of policy.now.files file) line ≡ Some says → IsAbsent name.now says.node }
-{
-    policy.may_name(file, line, NameBits::of(name))
 }

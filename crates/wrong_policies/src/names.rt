@@ -1,0 +1,36 @@
+//! The names of a policy: their definitions and mentions.
+
+ghost use Rattle.std.specs.Prelude.{◌≡◌, false, slice_get, Some, IfOk};
+ghost use Rattle.sudoers_tree.specs.FilePlaces.{file_mentions, file_place_of};
+ghost use Rattle.sudoers_tree.specs.Files.{lines_of};
+ghost use Rattle.sudoers_tree.specs.Line.{Line as LineOf};
+ghost use Rattle.sudoers_tree.specs.Standing.{IsAbsent};
+
+use std::alloc::AllocError;
+use sudoers_tree::{FilePlace, FileSpan, Kind, NameBits, Policy};
+
+/// Returns where the alias `name` of `kind` is defined.
+pub fn definition_of(policy: &Policy, kind: Kind, name: &[u8]) -> Option<FilePlace>
+    ensures { result ≡ file_place_of kind name.now policy.now.walk }
+{
+    policy.definition(kind, name)
+}
+
+/// Returns the mentions of the alias `name` of `kind`.
+///
+/// # Errors
+///
+/// Memory ran out.
+pub fn mentions_of(policy: &Policy, kind: Kind, name: &[u8]) -> Result<Vec<FileSpan>, AllocError>
+    ensures { IfOk result (λ spans. spans.items ≡ file_mentions kind name.now policy.now.walk) }
+{
+    policy.mentions(kind, name)
+}
+
+/// Returns whether an alias of the name `name` may stand in the line with the number `line` of the file with the number `file`, both
+/// from 0.
+pub fn may_stand(policy: &Policy, file: usize, line: usize, name: &[u8]) -> bool
+    ensures { (says : LineOf) → result ≡ false → slice_get (lines_of policy.now.files file) line ≡ Some says → IsAbsent name.now says.node }
+{
+    policy.may_name(file, line, NameBits::of(name))
+}
