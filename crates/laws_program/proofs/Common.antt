@@ -3,7 +3,8 @@ pub use Rattle.laws_print.specs.Readable.{IsReadable}
 pub use Rattle.laws_print.specs.Same.{AllSame, IsSame, IsSameCmd, IsSameDef, IsSameGroup, IsSameMember, IsSameRunas, IsSameScope, read_back}
 pub use Rattle.laws_print.specs.Writable.{AreSome, IsCmd, IsGroup, IsMemberOf, IsOptionValue, IsRunasList, IsWritable, IsWritableDef}
 pub use Rattle.laws_program.specs.Expanded.{expanded}
-pub use Rattle.laws_program.specs.ReadAs.{IsReadAs, said_by}
+pub use Rattle.laws_program.proofs.OnlyFile.{IsRead}
+pub use Rattle.laws_program.specs.ReadAs.{said_by}
 pub use Rattle.std.proofs.Common.{Bool, Err, List, None, Ok, Option, Result, Some, [], ap, append-nil, append_assoc, ap₂, arith, false, inl, inr, length, map}
 pub use Rattle.std.proofs.Common.{nat_le, refl, slice_index, subst, suc, sym, true, zero, ℕ, ◌&&◌, ◌++◌, ◌+◌, ◌||◌, ◌↔◌, ◌∙◌, ◌∷◌, ◌≡◌, ◌≢◌, ◌≤◌, ◌⊎◌}
 pub use Rattle.std.proofs.lemmas.Bool.{eqb-true}

@@ -2,7 +2,7 @@
 use Rattle.laws_program.proofs.Common.{◌≡◌, ◌↔◌, ℕ, true, List, Option, Ok, sym, subst, ◌∙◌, Kind, Member, Line, IsSound, read_of, HasReachableCycle}
 use Rattle.laws_program.proofs.Common.{Who, read_back, IsSameMember, AllSame, IsSame, AreAlike, GroupPlace, Request, MatchesSame, AreDefaultsAlike}
 use Rattle.laws_program.proofs.Common.{SaysSame, Answer, IsAnswer, IsRunasDefault, AreHostGroups}
-use Rattle.laws_program.proofs.Common.{FlatLaw, Rules, rules_of, lines_of, printed, fits, said_by, IsReadAs}
+use Rattle.laws_program.proofs.Common.{FlatLaw, Rules, rules_of, lines_of, printed, fits, said_by, IsRead}
 use Rattle.laws_program.proofs.Common.{used_rules, expanded}
 use Rattle.laws_program.proofs.PrintedSpecs.{specs_equal, specs_for_same}
 use Rattle.laws_program.proofs.PrintedAnswers.{ListLaw, DefaultLaw, GroupLaw, AnswerLaw as EqualLaw, lists_alike, defaults_there}
@@ -49,7 +49,7 @@ rest_like lines = record {
 -- what the law of printed rules says
 abbrev pub ReadLaw : Type 0
 ReadLaw = (lines : List Line) → IsSound lines → fits (used_rules (expanded lines)) ≡ true
-    → IsReadAs (printed (used_rules (expanded lines))) (lines_of (used_rules (expanded lines)))
+    → IsRead (printed (used_rules (expanded lines))) (lines_of (used_rules (expanded lines)))
 
 read_same : ReadLaw → (lines read : List Line) → IsSound lines → fits (used_rules (expanded lines)) ≡ true → read_of (printed (used_rules (expanded lines))) ≡ Ok read
     → AllSame IsSame (lines_of (rules_of (rest_of lines))) (said_by read)

@@ -2,7 +2,7 @@
 use Rattle.laws_program.proofs.Common.{◌≡◌, ℕ, ◌≤◌, ◌&&◌, true, nat_le, List, [], ◌∷◌, ◌++◌, length, map, Result, Ok, refl, sym, ap, subst, ◌∙◌, arith}
 use Rattle.laws_program.proofs.Common.{AllByRecursion, list_all, join, Nul, text_limit, line_limit, Kind, Node, Line, ReadFault, Definition, definitions}
 use Rattle.laws_program.proofs.Common.{alias_limit, texts, count_of, SaysSo, IsFree, AreOnce, IsSound, IsPolicy, read_of, IsOutcome, printed_line, printed_lines}
-use Rattle.laws_program.proofs.Common.{IsWritable, AllSame, IsSame, rules_of, lines_of, printed, fits, said_by, IsReadAs}
+use Rattle.laws_program.proofs.Common.{IsWritable, AllSame, IsSame, rules_of, lines_of, printed, fits, said_by, IsRead}
 use Rattle.std.proofs.Common.{◌<◌}
 use Rattle.std.proofs.lemmas.Bool.{and_parts, leb-true}
 use Rattle.sudoers_text.specs.Line.{Cuts, IsOpen}
@@ -108,7 +108,7 @@ read_policy lines read ns is e cut texts_are says same =
           };
     }
 
-read_back : PrintLaw → AloneLaw → CutLaw → ReadLaw → OneLaw → (lines : List Line) (ns : List Node) → MayStand (definitions lines) → ns ≡ lines_of (rules_of lines) → AllByRecursion IsWritable ns → (nat_le (length (printed_lines ns)) text_limit && list_all (λ n. nat_le (length (printed_line n)) line_limit) ns) ≡ true → IsReadAs (printed_lines ns) ns
+read_back : PrintLaw → AloneLaw → CutLaw → ReadLaw → OneLaw → (lines : List Line) (ns : List Node) → MayStand (definitions lines) → ns ≡ lines_of (rules_of lines) → AllByRecursion IsWritable ns → (nat_le (length (printed_lines ns)) text_limit && list_all (λ n. nat_le (length (printed_line n)) line_limit) ns) ≡ true → IsRead (printed_lines ns) ns
 read_back print alone cut read one lines ns is e all size =
     let both = and_parts (nat_le (length (printed_lines ns)) text_limit) (list_all (λ n. nat_le (length (printed_line n)) line_limit) ns) size in
     let there = are_read print ns all in
@@ -123,10 +123,10 @@ read_back print alone cut read one lines ns is e all size =
 
 -- The printed text of rules is read as lines that say the same, if the rules can be written and their definitions can stand.
 pub rules_read_of : PrintLaw → AloneLaw → CutLaw → ReadLaw → OneLaw → (lines : List Line) → MayStand (definitions lines) → AllByRecursion IsWritable (lines_of (rules_of lines))
-    → fits (rules_of lines) ≡ true → IsReadAs (printed (rules_of lines)) (lines_of (rules_of lines))
+    → fits (rules_of lines) ≡ true → IsRead (printed (rules_of lines)) (lines_of (rules_of lines))
 rules_read_of print alone cut read one lines may written size = read_back print alone cut read one lines (lines_of (rules_of lines)) may refl written size
 
 -- The printed text of the rules of a policy is read as lines that say the same.
-pub rules_read : PrintLaw → AloneLaw → CutLaw → ReadLaw → OneLaw → ((lines : List Line) → IsSound lines → AllByRecursion IsWritable (lines_of (rules_of lines))) → (lines : List Line) → IsSound lines → fits (rules_of lines) ≡ true → IsReadAs (printed (rules_of lines)) (lines_of (rules_of lines))
+pub rules_read : PrintLaw → AloneLaw → CutLaw → ReadLaw → OneLaw → ((lines : List Line) → IsSound lines → AllByRecursion IsWritable (lines_of (rules_of lines))) → (lines : List Line) → IsSound lines → fits (rules_of lines) ≡ true → IsRead (printed (rules_of lines)) (lines_of (rules_of lines))
 rules_read print alone cut read one written lines is size =
     rules_read_of print alone cut read one lines (record { free = is.walk.free; once = is.walk.once; few = is.walk.few }) (written lines is) size

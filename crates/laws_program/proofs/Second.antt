@@ -1,7 +1,7 @@
 -- The rules of what is read of printed rules are printed as these.
 use Rattle.laws_program.proofs.Common.{◌≡◌, ℕ, ◌&&◌, nat_le, true, List, [], ◌∷◌, ◌++◌, length, map, Ok, refl, sym, ap, ap₂, subst, ◌∙◌}
 use Rattle.laws_program.proofs.Common.{flat_map, list_all, map-append, text_limit, line_limit, join, Kind, Def, Node, Line, IsSound, read_of}
-use Rattle.laws_program.proofs.Common.{printed_line, AllSame, IsSame, specs_in, one_def, defs_in, rules_of, lines_of, printed, fits, said_by, IsReadAs}
+use Rattle.laws_program.proofs.Common.{printed_line, AllSame, IsSame, specs_in, one_def, defs_in, rules_of, lines_of, printed, fits, said_by, IsRead}
 use Rattle.sudoers_line.specs.Node as node
 use Rattle.sudoers_cvt.specs.Rules.{defaults_in}
 use Rattle.laws_program.proofs.Prints.{same_defaults_in, same_defs_in, same_specs_in, lines_are, same_rules}
@@ -72,7 +72,7 @@ fits_again lines read same =
 
 -- what the law of printed rules says
 abbrev pub ReadLaw : Type 0
-ReadLaw = (lines : List Line) → IsSound lines → fits (rules_of lines) ≡ true → IsReadAs (printed (rules_of lines)) (lines_of (rules_of lines))
+ReadLaw = (lines : List Line) → IsSound lines → fits (rules_of lines) ≡ true → IsRead (printed (rules_of lines)) (lines_of (rules_of lines))
 
 -- what is read is what was printed
 pub same_read : ReadLaw → (lines read : List Line) → IsSound lines → fits (rules_of lines) ≡ true → read_of (printed (rules_of lines)) ≡ Ok read

@@ -1,6 +1,6 @@
 -- The rules that are kept of lines can be written, and the text that is printed of them is read.
 use Rattle.laws_program.proofs.Common.{◌≡◌, true, List, [], ◌∷◌, ◌++◌, map, sym, subst, AllByRecursion, flat_map, Node, Line, Definition, definitions, IsSound}
-use Rattle.laws_program.proofs.Common.{is_used, all_append, IsWritable, IsReadable, Rules, lines_of, printed, fits, IsReadAs, def_of, used_definitions}
+use Rattle.laws_program.proofs.Common.{is_used, all_append, IsWritable, IsReadable, Rules, lines_of, printed, fits, IsRead, def_of, used_definitions}
 use Rattle.laws_program.proofs.Common.{used_rules, expanded}
 use Rattle.sudoers_line.specs.Node as node
 use Rattle.sudoers_cvt.specs.Rules.{defaults_in}
@@ -54,11 +54,11 @@ rules_written given sign lines policy =
 pub rules_read : PrintLaw → AloneLaw → CutLaw → ReadLaw → OneLaw
     → ((lines : List Line) → IsSound lines → AllByRecursion IsWritable (lines_of (used_rules (expanded lines))))
     → (lines : List Line) → IsSound lines → fits (used_rules (expanded lines)) ≡ true
-    → IsReadAs (printed (used_rules (expanded lines))) (lines_of (used_rules (expanded lines)))
+    → IsRead (printed (used_rules (expanded lines))) (lines_of (used_rules (expanded lines)))
 rules_read print alone cut read one written lines policy =
     let may : MayStand (definitions lines) = record { free = policy.walk.free; once = policy.walk.once; few = policy.walk.few } in
     let stand = kept_stand (expanded lines) (subst MayStand (sym (definitions_kept lines)) may) in
     let rules = kept_rules (expanded lines) in
-    subst (λ (r : Rules). fits r ≡ true → IsReadAs (printed r) (lines_of r)) rules
+    subst (λ (r : Rules). fits r ≡ true → IsRead (printed r) (lines_of r)) rules
     (rules_read_of print alone cut read one (kept (expanded lines)) stand
     (subst (λ (r : Rules). AllByRecursion IsWritable (lines_of r)) (sym rules) (written lines policy)))

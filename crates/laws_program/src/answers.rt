@@ -2,8 +2,9 @@
 
 ghost use Rattle.std.specs.Prelude.{◌≡◌, ◌↔◌, ℕ, true, List, Option, Ok};
 ghost use Rattle.sudoers_tree.specs.Line.{Line as LineOf};
+ghost use Rattle.laws_program.specs.ReadAs.{IsPrintedAs};
 ghost use Rattle.laws_program.specs.Sound.{IsSound};
-ghost use Rattle.sudoers_tree.specs.Reading.{read_of};
+ghost use Rattle.sudoers_tree.specs.Load.{Loaded};
 ghost use Rattle.sudoers_check.specs.Chains.{HasReachableCycle};
 ghost use Rattle.sudoers_match_member.specs.declared.asked.Who.{Who as WhoOf};
 ghost use Rattle.laws_print.specs.Same.{read_back};
@@ -16,6 +17,7 @@ ghost use Rattle.sudoers_match.specs.declared.groups.GroupPlace.{GroupPlace as G
 ghost use Rattle.sudoers_cvt.specs.Rules.{rules_of, printed, fits};
 
 use crate::printing::printed_rules_are_read;
+use laws_load::text_loads;
 use sudoers_match::laws::{
     alike_defaults_are_same, alike_specs_have_same_groups, equal_specs_answer_same,
 };
@@ -32,19 +34,20 @@ pub fn read_member_matches_same()
 /// What is read of the printed rules of a policy gives each request the answer of the policy, and no other. Each user has the same
 /// runas_default, and rules at the same places. A reachable alias is cyclic in both, or in neither.
 pub fn printed_rules_answer()
-    ensures answer { (lines read : List LineOf) → IsSound lines → fits (rules_of lines) ≡ true → read_of (printed (rules_of lines)) ≡ Ok read
-        → (request : RequestOf) (answer : Option AnswerOf) → IsAnswer lines request answer → IsAnswer read request answer }
-    ensures back { (lines read : List LineOf) → IsSound lines → fits (rules_of lines) ≡ true → read_of (printed (rules_of lines)) ≡ Ok read
-        → (request : RequestOf) (answer : Option AnswerOf) → IsAnswer read request answer → IsAnswer lines request answer }
-    ensures default { (lines read : List LineOf) → IsSound lines → fits (rules_of lines) ≡ true → read_of (printed (rules_of lines)) ≡ Ok read
-        → (who : WhoOf) (name : List ℕ) → IsRunasDefault lines who name ↔ IsRunasDefault read who name }
-    ensures groups { (lines read : List LineOf) → IsSound lines → fits (rules_of lines) ≡ true → read_of (printed (rules_of lines)) ≡ Ok read
-        → (who : WhoOf) (places : List GroupPlaceOf) → AreHostGroups lines who places ↔ AreHostGroups read who places }
-    ensures cycle { (lines read : List LineOf) → IsSound lines → fits (rules_of lines) ≡ true → read_of (printed (rules_of lines)) ≡ Ok read
-        → HasReachableCycle lines ↔ HasReachableCycle read }
+    ensures answer { (lines : List LineOf) (policy : Loaded) → IsSound lines → IsPrintedAs (rules_of lines) policy
+        → (request : RequestOf) (answer : Option AnswerOf) → IsAnswer lines request answer → IsAnswer policy.walk.lines request answer }
+    ensures back { (lines : List LineOf) (policy : Loaded) → IsSound lines → IsPrintedAs (rules_of lines) policy
+        → (request : RequestOf) (answer : Option AnswerOf) → IsAnswer policy.walk.lines request answer → IsAnswer lines request answer }
+    ensures default { (lines : List LineOf) (policy : Loaded) → IsSound lines → IsPrintedAs (rules_of lines) policy
+        → (who : WhoOf) (name : List ℕ) → IsRunasDefault lines who name ↔ IsRunasDefault policy.walk.lines who name }
+    ensures groups { (lines : List LineOf) (policy : Loaded) → IsSound lines → IsPrintedAs (rules_of lines) policy
+        → (who : WhoOf) (places : List GroupPlaceOf) → AreHostGroups lines who places ↔ AreHostGroups policy.walk.lines who places }
+    ensures cycle { (lines : List LineOf) (policy : Loaded) → IsSound lines → IsPrintedAs (rules_of lines) policy
+        → HasReachableCycle lines ↔ HasReachableCycle policy.walk.lines }
 {
     read_member_matches_same();
     printed_rules_are_read();
+    text_loads();
     rewritten_lists_are_alike();
     alike_defaults_are_same();
     alike_specs_have_same_groups();

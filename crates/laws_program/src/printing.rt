@@ -4,11 +4,12 @@ ghost use Rattle.std.specs.Prelude.{◌≡◌, true, List, Ok};
 ghost use Rattle.std.specs.List.{AllByRecursion};
 ghost use Rattle.sudoers_tree.specs.Line.{Line as LineOf};
 ghost use Rattle.laws_program.specs.Sound.{IsSound};
-ghost use Rattle.sudoers_tree.specs.Reading.{read_of};
+ghost use Rattle.sudoers_tree.specs.Load.{Loaded};
 ghost use Rattle.laws_print.specs.Writable.{IsWritable};
 ghost use Rattle.sudoers_cvt.specs.Rules.{rules_of, lines_of, printed, fits};
-ghost use Rattle.laws_program.specs.ReadAs.{IsReadAs};
+ghost use Rattle.laws_program.specs.ReadAs.{IsPrintedAs, IsReadAs};
 
+use laws_load::text_loads;
 use laws_print::{
     printed_line_is_line, printed_line_is_read, printed_lines_are_cut, read_can_be_written,
 };
@@ -33,14 +34,14 @@ pub fn printed_rules_are_read()
     printed_lines_are_cut();
     read_is();
     one_outcome();
+    text_loads();
 }
 
 /// What is read of the printed rules of a policy gives rules that are printed as the same text, which is within the limits again.
 pub fn second_printing_is_same()
-    ensures text { (lines read : List LineOf) → IsSound lines → fits (rules_of lines) ≡ true
-        → read_of (printed (rules_of lines)) ≡ Ok read → printed (rules_of read) ≡ printed (rules_of lines) }
-    ensures size { (lines read : List LineOf) → IsSound lines → fits (rules_of lines) ≡ true
-        → read_of (printed (rules_of lines)) ≡ Ok read → fits (rules_of read) ≡ true }
+    ensures text { (lines : List LineOf) (policy : Loaded) → IsSound lines → IsPrintedAs (rules_of lines) policy → printed (rules_of policy.walk.lines) ≡ printed (rules_of lines) }
+    ensures size { (lines : List LineOf) (policy : Loaded) → IsSound lines → IsPrintedAs (rules_of lines) policy → fits (rules_of policy.walk.lines) ≡ true }
 {
     printed_rules_are_read();
+    text_loads();
 }

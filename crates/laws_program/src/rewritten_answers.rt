@@ -2,8 +2,9 @@
 
 ghost use Rattle.std.specs.Prelude.{◌≡◌, ◌↔◌, ℕ, true, List, Option, Ok};
 ghost use Rattle.sudoers_tree.specs.Line.{Line as LineOf};
+ghost use Rattle.laws_program.specs.ReadAs.{IsPrintedAs};
 ghost use Rattle.laws_program.specs.Sound.{IsSound};
-ghost use Rattle.sudoers_tree.specs.Reading.{read_of};
+ghost use Rattle.sudoers_tree.specs.Load.{Loaded};
 ghost use Rattle.sudoers_check.specs.Chains.{HasReachableCycle};
 ghost use Rattle.sudoers_match_member.specs.declared.asked.Who.{Who as WhoOf};
 ghost use Rattle.sudoers_match_member.specs.declared.request.Request.{Request as RequestOf};
@@ -18,6 +19,7 @@ ghost use Rattle.laws_program.specs.Expanded.{expanded};
 
 use crate::answers::read_member_matches_same;
 use crate::rewriting::expanded_rules_are_read;
+use laws_load::text_loads;
 use sudoers_match::laws::{
     alike_defaults_are_same, alike_rows_answer, alike_rows_fit, alike_specs_have_same_groups,
     equal_specs_answer_same, one_answer,
@@ -54,22 +56,18 @@ pub fn expanded_policy_answers()
 /// What is read of the printed rules of that policy, without unused definitions, answers each request the same, numbers aside. Each
 /// user has the same runas_default, and rules at the same places. No reachable alias is cyclic.
 pub fn printed_expansion_answers()
-    ensures there { (lines read : List LineOf) → IsSound lines → (HasReachableCycle lines → ⊥) → fits (used_rules (expanded lines)) ≡ true
-        → read_of (printed (used_rules (expanded lines))) ≡ Ok read → (request : RequestOf) (answer : Option AnswerOf)
-        → IsAnswer lines request answer → (other : Option AnswerOf) × IsAnswer read request other × SaysSame answer other }
-    ensures back { (lines read : List LineOf) → IsSound lines → (HasReachableCycle lines → ⊥) → fits (used_rules (expanded lines)) ≡ true
-        → read_of (printed (used_rules (expanded lines))) ≡ Ok read → (request : RequestOf) (other : Option AnswerOf)
-        → IsAnswer read request other → (answer : Option AnswerOf) × IsAnswer lines request answer × SaysSame answer other }
-    ensures default { (lines read : List LineOf) → IsSound lines → (HasReachableCycle lines → ⊥) → fits (used_rules (expanded lines)) ≡ true
-        → read_of (printed (used_rules (expanded lines))) ≡ Ok read → (who : WhoOf) (name : List ℕ)
-        → IsRunasDefault lines who name ↔ IsRunasDefault read who name }
-    ensures groups { (lines read : List LineOf) → IsSound lines → (HasReachableCycle lines → ⊥) → fits (used_rules (expanded lines)) ≡ true
-        → read_of (printed (used_rules (expanded lines))) ≡ Ok read → (who : WhoOf) (places : List GroupPlaceOf)
-        → AreHostGroups lines who places ↔ AreHostGroups read who places }
-    ensures straight { (lines read : List LineOf) → IsSound lines → (HasReachableCycle lines → ⊥) → fits (used_rules (expanded lines)) ≡ true
-        → read_of (printed (used_rules (expanded lines))) ≡ Ok read → HasReachableCycle read → ⊥ }
+    ensures there { (lines : List LineOf) (policy : Loaded) → IsSound lines → (HasReachableCycle lines → ⊥) → IsPrintedAs (used_rules (expanded lines)) policy → (request : RequestOf) (answer : Option AnswerOf)
+        → IsAnswer lines request answer → (other : Option AnswerOf) × IsAnswer policy.walk.lines request other × SaysSame answer other }
+    ensures back { (lines : List LineOf) (policy : Loaded) → IsSound lines → (HasReachableCycle lines → ⊥) → IsPrintedAs (used_rules (expanded lines)) policy → (request : RequestOf) (other : Option AnswerOf)
+        → IsAnswer policy.walk.lines request other → (answer : Option AnswerOf) × IsAnswer lines request answer × SaysSame answer other }
+    ensures default { (lines : List LineOf) (policy : Loaded) → IsSound lines → (HasReachableCycle lines → ⊥) → IsPrintedAs (used_rules (expanded lines)) policy → (who : WhoOf) (name : List ℕ)
+        → IsRunasDefault lines who name ↔ IsRunasDefault policy.walk.lines who name }
+    ensures groups { (lines : List LineOf) (policy : Loaded) → IsSound lines → (HasReachableCycle lines → ⊥) → IsPrintedAs (used_rules (expanded lines)) policy → (who : WhoOf) (places : List GroupPlaceOf)
+        → AreHostGroups lines who places ↔ AreHostGroups policy.walk.lines who places }
+    ensures straight { (lines : List LineOf) (policy : Loaded) → IsSound lines → (HasReachableCycle lines → ⊥) → IsPrintedAs (used_rules (expanded lines)) policy → HasReachableCycle policy.walk.lines → ⊥ }
 {
     expanded_rules_are_read();
+    text_loads();
     read_member_matches_same();
     rewritten_lists_are_alike();
     flat_or_cycle();

@@ -1,18 +1,26 @@
+use Rattle.sudoers_cvt.specs.Rules.{lines_of, printed, rules_of}
+use Rattle.laws_program.proofs.OnlyFile.{ReadsLaw, as_read, is_read}
 use Rattle.laws_program.proofs.PrintedAnswers.{same_answer, same_host_groups, same_runas_default}
 use Rattle.laws_program.proofs.SameCycles.{cycle_both}
-use Rattle.laws_program.proofs.Second.{same_read}
+use Rattle.laws_program.proofs.Second.{ReadLaw, same_read}
 use Rattle.laws_program.proofs.answers.printed_rules_answer.Goals as goal
 
 pub returns : goal.returns
-returns c =
-    let answers = same_answer c.printed_rules_are_read.ensures c.rewritten_lists_are_alike.ensures c.equal_specs_answer_same.ensures
-    c.read_member_matches_same.ensures in
-    record {
-      answer = λ lines read is size e q answer. (answers lines read is size e q answer).0;
-      back = λ lines read is size e q answer. (answers lines read is size e q answer).1;
-      groups = same_host_groups c.printed_rules_are_read.ensures c.rewritten_lists_are_alike.ensures c.alike_specs_have_same_groups.ensures
-          c.read_member_matches_same.ensures;
-      cycle = λ lines read is size e. cycle_both lines read (same_read c.printed_rules_are_read.ensures lines read is size e);
-      default = same_runas_default c.printed_rules_are_read.ensures c.rewritten_lists_are_alike.ensures c.alike_defaults_are_same.ensures
-          c.read_member_matches_same.ensures;
-    }
+returns c = record {
+  answer = λ lines policy sound is q answer. (answers lines policy.walk.lines sound is.size (is_read reads (rules_of lines) policy is) q answer).0;
+  back = λ lines policy sound is q answer. (answers lines policy.walk.lines sound is.size (is_read reads (rules_of lines) policy is) q answer).1;
+  groups = λ lines policy sound is. same_host_groups law c.rewritten_lists_are_alike.ensures c.alike_specs_have_same_groups.ensures
+      c.read_member_matches_same.ensures lines policy.walk.lines sound is.size (is_read reads (rules_of lines) policy is);
+  cycle = λ lines policy sound is. cycle_both lines policy.walk.lines
+      (same_read law lines policy.walk.lines sound is.size (is_read reads (rules_of lines) policy is));
+  default = λ lines policy sound is. same_runas_default law c.rewritten_lists_are_alike.ensures c.alike_defaults_are_same.ensures
+      c.read_member_matches_same.ensures lines policy.walk.lines sound is.size (is_read reads (rules_of lines) policy is);
+}
+  where
+    reads : ReadsLaw
+    reads = c.text_loads.ensures.reads
+
+    law : ReadLaw
+    law lines sound size = as_read reads (printed (rules_of lines)) (lines_of (rules_of lines)) (c.printed_rules_are_read.ensures lines sound size)
+
+    answers = same_answer law c.rewritten_lists_are_alike.ensures c.equal_specs_answer_same.ensures c.read_member_matches_same.ensures

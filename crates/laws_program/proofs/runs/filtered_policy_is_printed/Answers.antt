@@ -1,13 +1,12 @@
-use Rattle.std.proofs.Common.{◌≡◌, true, false, List, Result, Ok, Err, refl, sym, ap, ◌∙◌, nat_lt, ◌&&◌}
+use Rattle.std.proofs.Common.{◌≡◌, true, false, List, Result, Ok, Err, refl, sym, ap, subst, ◌∙◌, nat_lt, ◌&&◌}
 use Rattle.sudoers_tree.specs.Line.{Line}
 use Rattle.sudoers_tree.specs.declared.load.NamedFile.{NamedFile}
 use Rattle.sudoers_tree.specs.declared.load_fault.LoadFault.{LoadFault}
 use Rattle.sudoers_tree.specs.Load.{Loaded, load_of}
-use Rattle.sudoers_tree.specs.Reading.{read_of}
 use Rattle.sudoers_files.specs.declared.fault.GatherFault.{GatherFault}
 use Rattle.sudoers_files.specs.Gather.{gathered}
 use Rattle.sudoers_check.specs.Chains.{HasReachableCycle}
-use Rattle.sudoers_cvt.specs.Rules.{Rules, printed, fits}
+use Rattle.sudoers_cvt.specs.Rules.{Rules, lines_of, printed, fits}
 use Rattle.sudoers_cvt_rewrite.specs.declared.filter.Filter.{Filter}
 use Rattle.sudoers_cvt_rewrite.specs.declared.filter_text.FilterFault.{FilterFault}
 use Rattle.sudoers_cvt_rewrite.specs.FilterText.{filter_of}
@@ -18,8 +17,9 @@ use Rattle.sudoers_run.specs.declared.fault.LayerFault.TheVariants as layer
 use Rattle.sudoers_run.specs.declared.words.ConvertWords.{ConvertWords}
 use Rattle.sudoers_run.specs.Convert.{convert_filtered, convert_read, found_filter}
 use Rattle.sudoers_run.specs.Policy.{of_gathered}
-use Rattle.laws_program.specs.Converted.{IsFiltered, filtering, filtering_words}
+use Rattle.laws_program.specs.Converted.{IsFiltered, IsPrinted, filtering, filtering_words}
 use Rattle.laws_program.proofs.Sounds.{sound_lines}
+use Rattle.laws_program.proofs.OnlyFile.{printed_is}
 use Rattle.laws_program.proofs.Outputs.{opened}
 use Rattle.laws_program.proofs.runs.filtered_policy_is_printed.Goals as goal
 
@@ -52,7 +52,8 @@ returns c text prune expand root known out e = gather (gathered known root) refl
           printed = read.read;
           was_loaded = record { files = files; gathers = g; loads = is };
           is_filter = found_is;
-          is_read = ap read_of found.2 ∙ read.is;
+          is_policy = subst (λ out. IsPrinted out read.read) (sym found.2)
+              (printed_is c.text_loads.ensures.reads c.text_is_gathered.ensures (printed rules) (lines_of rules) read);
           was_straight = straight;
           same = read.same;
         }
