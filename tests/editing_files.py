@@ -5,14 +5,17 @@ the next input of `edit`, and has to give back each file as it was.
 """
 
 import os
+from dataclasses import replace
 
 from bundles import bundle
-from program import Wanted, fault
+from program import Wanted, fault, run
 from stand import EMPTY_FOLDER, PIPE, Closed, Folder, Link, Stand, stand_of_nobody
 from tally import difference
 
 PART = "editing_files"
 LIMIT = 4_000_000
+OFF_WALK = "sudoers_tool: %s: no line of the edited policy includes this file\n"
+FULL_ERRORS = 'exec "$@" 2>/dev/full'
 
 PAIR = {"s": "insert 1\n|# first\nfile 2\ndelete 1\n", "a": "@include b\nUser_Alias A = x\n", "b": "# gone\nA ALL=ALL\n"}
 SITE = {
@@ -37,6 +40,11 @@ def made(undo, *files):
     return Wanted(undo.encode() + bundle([(name.encode(), text.encode()) for name, text in files]))
 
 
+def naming(wanted, *names):
+    """The same, with a line on standard error for each of these files of `--also`, which are off the walk."""
+    return replace(wanted, stderr="".join(OFF_WALK % name for name in names).encode())
+
+
 def edited_site(main, folder):
     """The files of SITE after RENAME."""
     return made(
@@ -46,6 +54,127 @@ def edited_site(main, folder):
         (f"{folder}/b", "User_Alias WEB = ann\nWEB ALL = /bin/b"),
     )
 
+
+# Files of `--also`, of which some are off the walk of the edited policy.
+NEW = "bob ALL = ALL\n"
+FILLED = "file 3\ninsert 1\n|bob ALL = ALL\n"
+INSERTED = "insert 1\n|@include local\n"
+EMPTIED = "file 3\ndelete 1\n"
+
+OFF_THE_WALK = (
+    (
+        "other_spelling_of_a_folder",
+        {"main": "@includedir ./d\n", "d/a": "# a\n"},
+        "edit --files - --also d/new main",
+        FILLED,
+        naming(made(EMPTIED, ("main", "@includedir ./d\n"), ("./d/a", "# a\n"), ("d/new", NEW)), "d/new"),
+    ),
+    (
+        "two_spellings_of_a_folder",
+        {"main": "@includedir ./d\n"},
+        "edit --files - --also d/new --also ./d/new main",
+        FILLED,
+        naming(made(EMPTIED, ("main", "@includedir ./d\n"), ("d/new", ""), ("./d/new", NEW)), "d/new"),
+    ),
+    (
+        "other_spelling_of_a_file",
+        {"main": "@include b\n", "b": "# b\n"},
+        "edit --files - --also ./b main",
+        EMPTIED,
+        naming(made("file 3\ninsert 1\n|# b\n", ("main", "@include b\n"), ("b", "# b\n"), ("./b", "")), "./b"),
+    ),
+    (
+        "other_spelling_beside_a_policy_on_standard_input",
+        {"b": "# b\n", "s": "prune\n"},
+        "edit --files s --also ./b -",
+        "@include b\n",
+        naming(made("", ("-", "@include b\n"), ("b", "# b\n"), ("./b", "# b\n")), "./b"),
+    ),
+    (
+        "relative_name_of_a_folder_below_a_root",
+        {"copy/etc/sudoers": "@includedir /etc/sudoers.d\n"},
+        "edit --files - --root copy --also etc/sudoers.d/new /etc/sudoers",
+        "",
+        naming(made("", ("/etc/sudoers", "@includedir /etc/sudoers.d\n"), ("etc/sudoers.d/new", "")), "etc/sudoers.d/new"),
+    ),
+    (
+        "names_that_a_folder_skips",
+        {"main": "@includedir d\n", "d/x.y": "# x\n"},
+        "edit --files - --also d/x.y main --also d/b~",
+        "",
+        naming(made("", ("main", "@includedir d\n"), ("d/x.y", "# x\n"), ("d/b~", "")), "d/x.y", "d/b~"),
+    ),
+    (
+        "two_names_of_which_one_is_off_the_walk",
+        {"main": "@includedir d\n"},
+        "edit --files - --also d/new --also new main",
+        "file 2\ninsert 1\n|bob ALL = ALL\n",
+        naming(made("file 2\ndelete 1\n", ("main", "@includedir d\n"), ("d/new", NEW), ("new", "")), "new"),
+    ),
+    (
+        "name_that_an_inserted_line_includes_and_one_that_none_does",
+        {"main": "# a\n"},
+        "edit --files - --also other --also local main",
+        INSERTED,
+        naming(made("delete 1\n", ("main", "@include local\n# a\n"), ("other", ""), ("local", "")), "other"),
+    ),
+    (
+        "name_that_a_line_of_another_name_includes",
+        {"main": "@includedir d\n"},
+        "edit --files - --also d/x.y --also d/sub/x --also d/new main",
+        "file 4\ninsert 1\n|@include sub/x\n",
+        naming(
+            made(
+                "file 4\ndelete 1\n",
+                ("main", "@includedir d\n"),
+                *(("d/x.y", ""), ("d/sub/x", ""), ("d/new", "@include sub/x\n")),
+            ),
+            "d/x.y",
+        ),
+    ),
+    (
+        "name_that_only_a_file_off_the_walk_includes",
+        {"main": "# a\n", "c": "@include b\n"},
+        "edit --files - --also c --also b main",
+        "",
+        naming(made("", ("main", "# a\n"), ("c", "@include b\n"), ("b", "")), "c", "b"),
+    ),
+    (
+        "inserted_line_that_an_undo_takes_out",
+        {"main": "# a\n"},
+        "edit --undo 1 --files - --also local main",
+        INSERTED,
+        naming(made("", ("main", "# a\n"), ("local", "")), "local"),
+    ),
+    (
+        "inserted_line_that_a_redo_brings_back",
+        {"main": "# a\n"},
+        "edit --undo 1 --redo 1 --files - --also local --also other main",
+        INSERTED,
+        naming(made("delete 1\n", ("main", "@include local\n# a\n"), ("local", ""), ("other", "")), "other"),
+    ),
+    (
+        "deleted_line_of_the_folder_of_a_name",
+        {"main": "@includedir d\n", "d/a": "# a\n"},
+        "edit --files - --also d/new main",
+        "delete 1\n",
+        naming(made("insert 1\n|@includedir d\n", ("main", ""), ("d/a", "# a\n"), ("d/new", "")), "d/new"),
+    ),
+    (
+        "deleted_line_of_a_file_that_is_no_name",
+        {"main": "@include b\n", "b": "# b\n"},
+        "edit --files - --also local main",
+        "delete 1\n",
+        naming(made("insert 1\n|@include b\n", ("main", ""), ("b", "# b\n"), ("local", "")), "local"),
+    ),
+    (
+        "refused_edit_beside_a_name_off_the_walk",
+        {"main": "# a\n"},
+        "edit --files - --also local main",
+        "delete 2\n",
+        fault("edit 1: NoLine"),
+    ),
+)
 
 UNDO_OF_TWO = "file 2\ninsert 1\n|# gone\nfile 1\ndelete 1\n"
 AFTER_ONE = "# first\n@include b\nUser_Alias A = x\n"
@@ -105,12 +234,15 @@ ROWS = (
         HOST,
         "edit --root=copy --files - etc/sudoers --also etc/local",
         "",
-        made(
-            "",
-            ("etc/sudoers", HOST["copy/etc/sudoers"]),
-            ("/etc/sudoers.d/10-ops", "OPS ALL = /bin/a\n"),
-            ("/etc/sudoers.d/20-web", HOST["copy/usr/share/web"]),
-            ("etc/local", ""),
+        naming(
+            made(
+                "",
+                ("etc/sudoers", HOST["copy/etc/sudoers"]),
+                ("/etc/sudoers.d/10-ops", "OPS ALL = /bin/a\n"),
+                ("/etc/sudoers.d/20-web", HOST["copy/usr/share/web"]),
+                ("etc/local", ""),
+            ),
+            "etc/local",
         ),
     ),
     (
@@ -164,8 +296,9 @@ ROWS = (
         {"main": "User_Alias A = bob\n", "local": "A ALL = ALL\n"},
         "edit --files - --also local main",
         "rename user A B\n",
-        made("rename user B A\n", ("main", "User_Alias B = bob\n"), ("local", "A ALL = ALL\n")),
+        naming(made("rename user B A\n", ("main", "User_Alias B = bob\n"), ("local", "A ALL = ALL\n")), "local"),
     ),
+    *OFF_THE_WALK,
     ("name_that_is_found_already", PAIR, "edit --files s a --also b", "", fault("b: SameName")),
     ("name_of_the_policy", PAIR, "edit --files s a --also a", "", fault("a: SameName")),
     ("name_that_is_given_twice", PAIR, "edit --files s a --also c --also c", "", fault("c: SameName")),
@@ -317,6 +450,19 @@ def run_reads(stand):
         stand.note("nothing_is_read_beyond_the_limit", "edit --files - main", fault("InputTooLarge"), folder, seconds=20)
 
 
+def run_full(stand):
+    """The line of a file off the walk comes before the output, and changes nothing if it cannot be written."""
+    words = ("edit", "--files", "-", "--also", "local", "main")
+    with Folder({"main": "# a\n"}) as folder:
+        with open("/dev/full", "wb") as full:
+            answer = run(stand.program, words, folder=folder, stdout=full)
+        wanted = Wanted(stderr=(OFF_WALK % "local").encode() + fault("Write").stderr, status=1)
+        stand.tally.note(f"{PART}: file_off_the_walk, a full standard output", wanted.problems(answer))
+        answer = run("/bin/sh", ("-c", FULL_ERRORS, "sh", stand.program, *words), folder=folder)
+        wanted = made("", ("main", "# a\n"), ("local", ""))
+        stand.tally.note(f"{PART}: file_off_the_walk, a full standard error", wanted.problems(answer))
+
+
 def run_all(program, tally):
     """Runs all rows."""
     stand = Stand(PART, program, tally)
@@ -325,6 +471,7 @@ def run_all(program, tally):
     run_wrong(stand)
     run_limit(stand)
     run_reads(stand)
+    run_full(stand)
     with stand_of_nobody(PART, program, tally) as nobody:
         for name, tree, wanted in NOT_READABLE:
             with Folder(tree) as folder:

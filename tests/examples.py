@@ -10,12 +10,13 @@ import tempfile
 
 import documents
 import way_back
+from bundles import bundle
 from program import Answer, Wanted, run
 
 FOLDER = os.path.join(os.path.dirname(os.path.dirname(os.path.abspath(__file__))), "examples")
 MARK = b"%%\n"
 
-# The policy of several files. It has no script, because `edit` reads one text.
+# The policy of several files, which has no script.
 SITE = "site"
 
 
@@ -62,10 +63,11 @@ def run_site(program, tally, visudo):
 
 
 def run_demo(program, tally):
-    """`scripts/demo` shows the policy, its lines, the edited policy and the way back."""
+    """`scripts/demo` shows the policy, its lines, the edited policy behind the line with its name, and the way back."""
     demo = os.path.join(os.path.dirname(FOLDER), "scripts", "demo")
     done = subprocess.run(["bash", demo, program], check=False, capture_output=True)
-    shown = (read("web", "policy"), read("web", "undo") + MARK + read("web", "edited"), b"gave the policy back, byte for byte")
+    edited = read("web", "undo") + bundle([(b"policy", read("web", "edited"))])
+    shown = (read("web", "policy"), b"\nsudoers_tool edit --files script policy\n\n" + edited, b"gave the policy back, byte for byte")
     problems = Wanted(None, stdout_has=shown).problems(Answer(done.stdout, done.stderr, done.returncode))
     tally.note("scripts/demo", problems)
 

@@ -41,6 +41,13 @@ SHOWN = (
     ("names_of_files", {"main": "@includedir d\n", "d/\x1bx": "# a\n"}, "show main", b"file 1 main\n1 include 1\nfile 2 d/\\x1bx\n1 comment 1\n", 0),
     ("a_carriage_return", {"main": "bob\r\n"}, "edit --files main main", b"sudoers_tool: script:1: BadWord\n", 1),
     ("edited_carriage_returns", {"s": "", "main": "# a\r\n"}, "edit --files s main", b"%% 5 main\n# a\\x0d\n", 0),
+    (
+        "a_name_off_the_walk",
+        {"s": "", "main": "# a\n"},
+        "edit --files s --also \x1b[2J main",
+        b"%% 4 main\n# a\n%% 0 \\x1b[2J\nsudoers_tool: \\x1b[2J: no line of the edited policy includes this file\n",
+        0,
+    ),
     ("line_feeds_and_tabs", {"main": '@include "x\\x0a\\x09y"\n'}, "check main", b"main:1:1: include x\n\ty not loaded\n", 1),
     ("bytes_that_are_not_utf_8", {"main": '@include "x\\xff\\x9b"\n'}, "check main", b"main:1:1: include x\xff\x9b not loaded\n", 1),
 )
@@ -57,6 +64,7 @@ ROWS = (
     ("edited_files", {"s": "", **MANY, "main": "@includedir d\n# \x1b[0m\r\n", f"d/{NAME}": Link("none")}, "stdout", "edit --files s main", 0),
     ("error", {"main": QUOTED}, "stderr", "show main", 1),
     ("error_with_a_name", MANY, "stderr", "edit --files main main", 1),
+    ("name_off_the_walk", {"s": "", "main": "# a\n"}, "stderr", ["edit", "--files", "s", "--also", LINE, "main"], 0),
     ("wrong_folder", {}, "stderr", ["check", "--root", f"none{NAME}", "main"], 2),
     ("wrong_word", {}, "stderr", ["check", f"--{LINE}"], 2),
     ("wrong_command", {}, "stderr", [f"ch{NAME}"], 2),
@@ -116,7 +124,7 @@ def run_row(stand, row):
 
 
 def run_shown(stand, row):
-    """Runs a row with each of its streams on a terminal: one of them shows the text, and the other nothing."""
+    """Runs a row with each of its streams on a terminal: standard output and then standard error show the text."""
     name, tree, words, text, status = row
     with Folder({**PEOPLE, **tree}) as folder:
         shown = b""

@@ -91,7 +91,7 @@ complete -c sudoers_tool -n '__fish_seen_subcommand_from convert' -s f -l form -
 complete -c sudoers_tool -n '__fish_seen_subcommand_from convert' -s m -l match -x -a '(__sudoers_tool_filter)' -d 'Print only rules for some users, groups and hosts'
 complete -c sudoers_tool -n '__fish_seen_subcommand_from convert' -s p -l prune-matches -d 'With -m, drop other users and hosts from the lists'
 complete -c sudoers_tool -n '__fish_seen_subcommand_from edit' -l files -r -F -d 'Script for a policy and the files that it includes'
-complete -c sudoers_tool -n '__fish_seen_subcommand_from edit' -l also -r -F -d 'Further file, for an include that the script inserts'
+complete -c sudoers_tool -n '__fish_seen_subcommand_from edit' -l also -r -F -d 'Further file, spelled as show spells it'
 complete -c sudoers_tool -n '__fish_seen_subcommand_from edit' -l undo -x -d 'Number of edits to take back after the script'
 complete -c sudoers_tool -n '__fish_seen_subcommand_from edit' -l redo -x -d 'Number of these edits to make again'
 complete -c sudoers_tool -n __sudoers_tool_option_of_list -s U -l other-user -x -a '(__fish_complete_users)' -d 'User who would run the command'
