@@ -157,10 +157,12 @@ fn read_script(rt: &HostRuntime, script: &str) -> Result<Vec<u8>, Trouble> {
             Err(fault) => Err(fault),
         }
     };
+    let (alloc, script) = (rt.alloc(), script.as_bytes());
     match read {
         Ok(bytes) => Ok(bytes),
-        Err(ToolFault::InputTooLarge) => Err(Trouble::from(ToolFault::InputTooLarge)),
-        Err(fault) => Err(Trouble::in_file(rt.alloc(), script.as_bytes(), fault)),
+        Err(ToolFault::Read) => Err(Trouble::in_file(alloc, script, ToolFault::Read)),
+        Err(ToolFault::NoEnd) => Err(Trouble::in_file(alloc, script, ToolFault::NoEnd)),
+        Err(fault) => Err(Trouble::from(fault)),
     }
 }
 
