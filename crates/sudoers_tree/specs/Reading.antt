@@ -10,7 +10,7 @@ use Rattle.sudoers_line.specs.Node.{Node}
 use Rattle.sudoers_line_reader.specs.Outcome.{outcome_of}
 use Rattle.sudoers_tree.specs.Line.{Line}
 use Rattle.sudoers_tree.specs.declared.fault.ReadFault.{ReadFault}
-use Rattle.sudoers_tree.specs.declared.fault.ReadFault.TheVariants.{Text, Syntax, Reserved, Duplicate, TooMany, NotLoaded, Twice, TooDeep, NoMemory}
+use Rattle.sudoers_tree.specs.declared.fault.ReadFault.TheVariants.{Text, Syntax, NoMemory}
 use Rattle.sudoers_tree.specs.Physical.{row_behind, column_behind}
 use Rattle.sudoers_tree.specs.Definition.{Definition, definitions, definitions_in}
 use Rattle.sudoers_tree.specs.Policy.{texts, IsPolicy}
@@ -63,16 +63,3 @@ read_of text = read_cut (cut_of text)
 abbrev pub IsOutcome : List ℕ → Result (List Line) ReadFault → Type 0
 IsOutcome text (Ok lines) = IsPolicy lines × (join (texts lines) ≡ text)
 IsOutcome text (Err fault) = IsFaultOf text fault
-
--- The result is the outcome, unless memory ran out.
-abbrev pub ReadGives : Result (List Line) ReadFault → Result (List Line) ReadFault → Type 0
-ReadGives (Ok lines) outcome = outcome ≡ Ok lines
-ReadGives (Err (Text fault)) outcome = outcome ≡ Err (Text fault)
-ReadGives (Err (Syntax row col why)) outcome = outcome ≡ Err (Syntax row col why)
-ReadGives (Err (Reserved k name)) outcome = outcome ≡ Err (Reserved k name)
-ReadGives (Err (Duplicate k name)) outcome = outcome ≡ Err (Duplicate k name)
-ReadGives (Err (TooMany k)) outcome = outcome ≡ Err (TooMany k)
-ReadGives (Err (NotLoaded row name)) outcome = outcome ≡ Err (NotLoaded row name)
-ReadGives (Err (Twice row name)) outcome = outcome ≡ Err (Twice row name)
-ReadGives (Err (TooDeep row)) outcome = outcome ≡ Err (TooDeep row)
-ReadGives (Err NoMemory) outcome = Unit {0}

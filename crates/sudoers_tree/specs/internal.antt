@@ -1,7 +1,6 @@
 -- Devices of the proofs. No contract of an exported function cites them.
 pub mod Index
 pub mod Tree
-pub mod Wrapped
 pub mod Files
 pub mod Walking
 pub mod Pieces

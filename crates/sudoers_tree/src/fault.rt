@@ -3,7 +3,6 @@
 ghost use Rattle.std.specs.Prelude.{◌≡◌};
 ghost use Rattle.sudoers_tree.specs.declared.fault.ReadFault.TheVariants.{NoMemory};
 ghost use Rattle.sudoers_tree.specs.Fault.{syntax_fault};
-ghost use Rattle.sudoers_tree.specs.internal.Wrapped.{fault_of_text};
 
 use std::alloc::{AllocError, AllocFailed};
 use sudoers_line::{Items, Kind, Why};
@@ -74,17 +73,6 @@ impl From<SyntaxFault> for ReadFault {
             line: fault.line,
             col: fault.col,
             why: fault.why,
-        }
-    }
-}
-
-impl From<TextFault> for ReadFault {
-    ghost from_gives = { λ fault e. e ≡ fault_of_text fault };
-
-    fn from(fault: TextFault) -> ReadFault {
-        match fault {
-            TextFault::NoMemory => ReadFault::NoMemory,
-            _ => ReadFault::Text(fault),
         }
     }
 }

@@ -1,7 +1,6 @@
 //! Laws of policies. Each is the contract of a function that does nothing.
 
-ghost use Rattle.std.specs.Prelude.{◌≡◌, ◌≤◌, ◌<◌, ◌+◌, ◌-◌, ◌*◌, List, [], ◌∷◌, ◌++◌, ℕ, Option, option_to_list, length, map, take, drop, insert, remove, nat_eq, false, Ok, Result, Some, None};
-ghost use Rattle.sudoers_text.specs.Ended.{has_unended_inside};
+ghost use Rattle.std.specs.Prelude.{◌≡◌, ◌≤◌, ◌<◌, ◌+◌, ◌-◌, ◌*◌, List, [], ◌∷◌, ◌++◌, ℕ, Option, option_to_list, length, map, take, drop, insert, remove, nat_eq, Ok, Result, Some, None};
 ghost use Rattle.sudoers_text.specs.Line.{join};
 ghost use Rattle.sudoers_text.specs.Whole.{IsLogicalLine};
 ghost use Rattle.sudoers_tree.specs.Line.{Line as LineOf};
@@ -32,7 +31,7 @@ ghost use Rattle.sudoers_tree.specs.declared.load_fault.LoadFault.{LoadFault as 
 use sudoers_line::laws::{no_fault, one_fault};
 use sudoers_line_reader::laws::{one_reading, outcome_is};
 use sudoers_text::laws::{
-    cut_is, line_alone_is_whole, line_alone_size, lines_of_join, lines_stand_alone, one_list,
+    cut_is, line_alone_is_whole, lines_of_join, lines_stand_alone, one_list,
     one_outcome as one_cut, whole_line_is, whole_lines_of_join,
 };
 
@@ -84,17 +83,6 @@ pub fn lines_are_said()
 pub fn members_are_listed()
     ensures { (kind : KindOf) (says : NodeOf) → members_in kind says ≡ of_kind kind (listed says) }
 {}
-
-/// A law: lines that are each one logical line, all but the last ending in LF, are those of the policy that their join is.
-pub fn whole_lines_are_read()
-    ensures { (lines : List (List ℕ)) (policy : List LineOf) → AllByRecursion IsLogicalLine lines → has_unended_inside lines ≡ false
-        → read_of (join lines) ≡ Ok policy → texts policy ≡ lines }
-{
-    policy_is_cut();
-    cut_is();
-    one_list();
-    whole_lines_of_join();
-}
 
 /// Lines after changes are made of the first change and the others: the lines up to its place, the text that it brings, and what the others
 /// make of the lines behind. Without changes they are as they were.
