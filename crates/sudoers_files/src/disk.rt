@@ -51,12 +51,12 @@ impl<S: FileSystem + AllocGlobal + Clone + Drop, R: Read + Drop> FilesOnDisk<S, 
         input: R,
     ) -> FilesOnDisk<S, R>
         ensures { result ≡ record {
-            system = system;
-            top = top;
-            root = root;
-            input = input;
-            asked = [];
-            counts = record { failures = 0; endless = 0 };
+          system = system;
+          top = top;
+          root = root;
+          input = input;
+          asked = [];
+          counts = record { failures = 0; endless = 0 };
         } }
     {
         FilesOnDisk {
@@ -71,7 +71,7 @@ impl<S: FileSystem + AllocGlobal + Clone + Drop, R: Read + Drop> FilesOnDisk<S, 
 
     /// Returns the name of the file or the folder that was asked for last.
     pub fn asked(&self) -> &[u8]
-        ensures { result.now ≡ self.asked }
+        ensures { result.now ≡ self.now.asked }
     {
         self.asked.as_slice()
     }
