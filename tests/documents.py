@@ -42,16 +42,16 @@ from program import Wanted, run
 from tally import difference
 
 TOP = os.path.dirname(os.path.dirname(os.path.abspath(__file__)))
-PATTERNS = ("README.md", "docs/*.md", "crates/*/README.md", "tests/README.md", "bench/README.md", "examples/README.md")
+PATTERNS = ("*.md", "docs/*.md", "crates/*/README.md", "tests/README.md", "bench/README.md", "examples/README.md")
 SECONDS = 60
 
 # How many lines a document has at most, where it is short on purpose.
-LIMITS = {"README.md": 160, "docs/ARCHITECTURE.md": 115, "docs/AUDIT.md": 92}
+LIMITS = {"README.md": 160, "CONTRIBUTING.md": 90, "SECURITY.md": 60, "docs/ARCHITECTURE.md": 115, "docs/AUDIT.md": 92}
 
 # Commands of `console` blocks, and what runs them: a word of each command line, in order, has to be its beginning.
 ELSEWHERE = (
     "bash scripts/try",  # examples.py
-    "bash scripts/build",  # the gate proves and builds with the same words of rt
+    "bash scripts/build",  # installing.py; the gate proves and builds with the same words of rt
     "bash scripts/test",  # these tests are a part of it
     "bench/run",  # a benchmark
     "bash scripts/package",  # installing.py
