@@ -318,9 +318,11 @@ def run_package(program, tally):
 
 
 def git(folder, *words):
-    """Runs git in a folder, and returns what it prints."""
+    """Runs git in a folder, without variables that could lead it to another one, and returns what it prints."""
     who = ("-c", "user.name=a", "-c", "user.email=a@example.com")
-    done = subprocess.run(["git", *who, *words], cwd=folder, capture_output=True, timeout=SECONDS, check=True)
+    variables = {"PATH": os.environ["PATH"], "HOME": folder}
+    words = ["git", *who, *words]
+    done = subprocess.run(words, cwd=folder, env=variables, capture_output=True, timeout=SECONDS, check=True)
     return done.stdout.decode().rstrip("\n")
 
 
