@@ -20,6 +20,7 @@ or an error in that column. Its column `Request` has what bob asks on the host h
 options of `list` and a command. PEOPLE are the users and groups.
 
 The pages of PAGES_OF_CRATES have a link to the README of each crate that they are about.
+CHANGELOG.md has a section of the version that the program prints.
 The tables of docs/AUDIT.md are what scripts/audit prints. exported.py looks for devices of proofs in what is exported.
 """
 
@@ -42,16 +43,16 @@ from program import Wanted, run
 from tally import difference
 
 TOP = os.path.dirname(os.path.dirname(os.path.abspath(__file__)))
-PATTERNS = ("README.md", "docs/*.md", "crates/*/README.md", "tests/README.md", "bench/README.md", "examples/README.md")
+PATTERNS = ("*.md", "docs/*.md", "crates/*/README.md", "tests/README.md", "bench/README.md", "examples/README.md")
 SECONDS = 60
 
 # How many lines a document has at most, where it is short on purpose.
-LIMITS = {"README.md": 160, "docs/ARCHITECTURE.md": 115, "docs/AUDIT.md": 92}
+LIMITS = {"README.md": 160, "CONTRIBUTING.md": 90, "SECURITY.md": 60, "docs/ARCHITECTURE.md": 115, "docs/AUDIT.md": 92}
 
 # Commands of `console` blocks, and what runs them: a word of each command line, in order, has to be its beginning.
 ELSEWHERE = (
     "bash scripts/try",  # examples.py
-    "bash scripts/build",  # the gate proves and builds with the same words of rt
+    "bash scripts/build",  # installing.py; the gate proves and builds with the same words of rt
     "bash scripts/test",  # these tests are a part of it
     "bench/run",  # a benchmark
     "bash scripts/package",  # installing.py
@@ -329,6 +330,16 @@ def run_crates(tally):
         tally.note(f"{page}, crates", [f"there is no link to {crate}" for crate in wanted if crate not in linked])
 
 
+def run_changelog(program, tally):
+    """CHANGELOG.md has a section of the program's version, with a date, or `unreleased` if it is the first section."""
+    version = run(program, ("--version",)).stdout.decode().split()[-1]
+    with open(os.path.join(TOP, "CHANGELOG.md"), encoding="utf-8") as file:
+        sections = re.findall(r"^## (\d\S*) - (\d{4}-\d\d-\d\d|unreleased)$", file.read(), re.MULTILINE)
+    problems = [f"there is no section {version}"] if version not in dict(sections) else []
+    problems += [f"{name} is unreleased" for name, date in sections[1:] if date == "unreleased"]
+    tally.note("CHANGELOG.md, versions", problems)
+
+
 def audited(*words):
     """Returns what scripts/audit prints, or why it stopped."""
     path = os.path.join(TOP, "scripts", "audit")
@@ -371,6 +382,7 @@ def run_all(program, tally):
     """Runs what all documents show, and looks for the tests that they name."""
     named_cases.run_all(tally)
     run_crates(tally)
+    run_changelog(program, tally)
     run_audit(tally)
     exported.run_all(tally)
     if not visudo():

@@ -2,7 +2,9 @@
 
 The lists of files, their modes and what the installed program prints are
 compared. A file that is installed is a row of INSTALLED, and a file that only
-the package has is named in `packaged`.
+the package has is named in `packaged`. The links of its pages have to lead to
+files of it. A script stands for rt where scripts/build is run, to see which
+version and which commit it names.
 """
 
 import glob
@@ -12,7 +14,9 @@ import re
 import shutil
 import subprocess
 import tempfile
+import time
 
+import documents
 from program import Wanted, run
 from tally import difference
 
@@ -30,13 +34,26 @@ INSTALLED = (
 SITE_FUNCTIONS = "share/zsh/site-functions/"
 VENDOR_COMPLETIONS = "share/zsh/vendor-completions/"
 DOCUMENTS = "usr/share/doc/sudoers-tool/"
+PAGES = ("README.md", "CHANGELOG.md", "CONTRIBUTING.md", "SECURITY.md", "LICENSE", "tests/README.md", "bench/README.md")
+CHANGELOG = """\
+sudoers-tool ({version}) unstable; urgency=medium
+
+  * Sources: {commit}.
+  * CHANGELOG.md in this folder says what is new in each version.
+
+ -- {maintainer}  {date}
+"""
+NO_COMMIT = "commit not known"
+
+# What pages link to and the package does not have: the tables of tests are for those who have the sources.
+NOT_PACKAGED = (os.path.join(TOP, "tests/tables"),)
 POLICY = b"User_Alias A = ann\nbob ALL = ALL\n"
 
 
-def script(name, words=(), folder=TOP, **variables):
-    """Runs a script of scripts/ in a folder, and returns its output and its exit status."""
+def script(name, words=(), folder=TOP, top=TOP, **variables):
+    """Runs a script of scripts/ in a folder, and returns its output and its exit status. `top` has the sources."""
     done = subprocess.run(
-        [os.path.join(TOP, "scripts", name), *words],
+        [os.path.join(top, "scripts", name), *words],
         stdout=subprocess.PIPE,
         stderr=subprocess.STDOUT,
         cwd=folder,
@@ -157,7 +174,7 @@ def packaged():
     files = wanted_files("usr")
     del files["usr/share/man/man8/sudoers_tool.8"]
     names = ["usr/share/man/man8/sudoers_tool.8.gz"]
-    names += [DOCUMENTS + name for name in ("README.md", "tests/README.md", "bench/README.md", "copyright")]
+    names += [DOCUMENTS + name for name in (*PAGES, "changelog.gz", "copyright")]
     names += [DOCUMENTS + os.path.relpath(page, TOP) for page in glob.glob(os.path.join(TOP, "crates/*/README.md"))]
     for folder in ("docs", "examples"):
         names += [f"{DOCUMENTS}{folder}/{path}" for path in modes_under(os.path.join(TOP, folder))[0]]
@@ -203,6 +220,34 @@ def depends_problems(program, depends):
     return difference("Depends", f"libc6 (>= {newest})", depends) + difference("libraries", of_libc6, libraries)
 
 
+def changelog_problems(program, folder, fields):
+    """The changelog has one entry in the form of Debian, with the version and the commit, and no time of its own."""
+    packed = read(os.path.join(folder, DOCUMENTS, "changelog.gz"))
+    moment = time.gmtime(int(os.stat(program).st_mtime))
+    wanted = CHANGELOG.format(
+        version=fields.get("Version"),
+        commit=script("commit")[0].decode().rstrip("\n"),
+        maintainer=fields.get("Maintainer"),
+        date=time.strftime("%a, %d %b %Y %H:%M:%S +0000", moment),
+    )
+    problems = difference("changelog", wanted.encode(), gzip.decompress(packed))
+    return problems + difference("flags and time of the changelog", bytes(5), packed[3:8])
+
+
+def link_problems(folder):
+    """Each link of a page of the unpacked package leads to a file there, and the package says its licence."""
+    top, problems = os.path.join(folder, DOCUMENTS), []
+    for page in glob.glob(os.path.join(top, "**", "*.md"), recursive=True):
+        name = os.path.relpath(page, top)
+        for number, link in documents.read_document(page).links:
+            source = os.path.normpath(os.path.join(TOP, os.path.dirname(name), link))
+            if not os.path.exists(os.path.join(os.path.dirname(page), link)) and source not in NOT_PACKAGED:
+                problems.append(f"{name}:{number}: {link}")
+    if b"Licence: Apache License 2.0." not in read(os.path.join(top, "copyright")):
+        problems.append("copyright does not name the licence")
+    return problems
+
+
 def unpacked_problems(program, folder):
     """The unpacked package has the files of the list, and its program runs."""
     files, folders = modes_under(folder)
@@ -214,9 +259,9 @@ def unpacked_problems(program, folder):
     problems += difference("page", read(os.path.join(TOP, "man/sudoers_tool.8")), gzip.decompress(page))
     problems += difference("flags and time of the page", bytes(5), page[3:8])
     for name in files:
-        if name.startswith(DOCUMENTS + "examples/"):
-            source = read(os.path.join(TOP, name[len(DOCUMENTS) :]))
-            problems += difference(name, source, read(os.path.join(folder, name)))
+        source = os.path.join(TOP, name.removeprefix(DOCUMENTS))
+        if name.startswith(DOCUMENTS) and os.path.exists(source):
+            problems += difference(name, read(source), read(os.path.join(folder, name)))
     return problems
 
 
@@ -263,6 +308,8 @@ def run_package(program, tally):
         tally.note("sums of the package", sum_problems(files, control))
         sizes = [os.path.getsize(os.path.join(files, path)) for path in modes_under(files)[0]]
         fields = fields_of(package)
+        tally.note("changelog of the package", changelog_problems(program, files, fields))
+        tally.note("links of the package", link_problems(files))
         tally.note("fields of the package", field_problems(fields, version, sum(-(-size // 1024) for size in sizes)))
         tally.note("libraries of the package", depends_problems(program, fields.get("Depends")))
         listed = subprocess.run(["dpkg-deb", "-c", package], stdout=subprocess.PIPE, timeout=SECONDS, check=True).stdout
@@ -270,8 +317,73 @@ def run_package(program, tally):
         tally.note("owners of the package", difference("owners", {b"root/root"}, owners))
 
 
+def git(folder, *words):
+    """Runs git in a folder, without variables that could lead it to another one, and returns what it prints."""
+    who = ("-c", "user.name=a", "-c", "user.email=a@example.com")
+    variables = {"PATH": os.environ["PATH"], "HOME": folder}
+    words = ["git", *who, *words]
+    done = subprocess.run(words, cwd=folder, env=variables, capture_output=True, timeout=SECONDS, check=True)
+    return done.stdout.decode().rstrip("\n")
+
+
+def make_checkout(folder):
+    """Makes a folder a checkout of all that is in it, and returns the short name of its commit."""
+    git(folder, "init", "-q")
+    git(folder, "add", "-A")
+    git(folder, "commit", "-q", "-m", "all", "--allow-empty")
+    return git(folder, "rev-parse", "--short", "HEAD")
+
+
+def copy_sources(program, top):
+    """Makes a folder with what scripts/build reads, and puts the program where it builds it."""
+    for name in ("scripts", "examples"):
+        shutil.copytree(os.path.join(TOP, name), os.path.join(top, name))
+    shutil.copy(os.path.join(TOP, "crates.txt"), top)
+    with open(os.path.join(top, "crates.txt"), encoding="utf-8") as file:
+        crates = [line.split(":")[0] for line in file.read().splitlines()]
+    for crate in crates:
+        os.makedirs(os.path.join(top, "crates", crate))
+    tool = os.path.join(top, "crates/sudoers_tool")
+    shutil.copy(os.path.join(TOP, "crates/sudoers_tool/stdin"), tool)
+    os.mkdir(os.path.join(tool, "out"))
+    os.symlink(program, os.path.join(tool, "out/sudoers_tool"))
+
+
+def run_build(program, tally):
+    """scripts/build ends with the version and the commit, and scripts/commit knows a commit only of its own checkout."""
+    if shutil.which("git") is None:
+        tally.skip("scripts/commit", "git is missing")
+        return
+    version = run(program, ("--version",)).stdout.decode().rstrip("\n")
+    with tempfile.TemporaryDirectory() as outer:
+        top, bin_folder = os.path.join(outer, "the sources"), os.path.join(outer, "bin")
+        copy_sources(program, top)
+        os.mkdir(bin_folder)
+        with open(os.path.join(bin_folder, "rt"), "w", encoding="utf-8") as file:
+            file.write("#!/bin/sh\necho checked\n")
+        os.chmod(os.path.join(bin_folder, "rt"), 0o755)
+
+        def note(name, commit):
+            tally.note(f"scripts/commit, {name}", difference("answer", (commit.encode() + b"\n", 0), script("commit", top=top)))
+
+        note("no checkout", NO_COMMIT)
+        make_checkout(outer)
+        note("a folder of another checkout", NO_COMMIT)
+        commit = "commit " + make_checkout(top)
+        note("a checkout", commit)
+        output, status = script("build", top=top, PATH=f"{bin_folder}:{os.environ['PATH']}")
+        wanted = (f"{version}, {commit}", 0)
+        tally.note("scripts/build, last line", difference("answer", wanted, (output.decode().splitlines()[-1], status)))
+        with open(os.path.join(top, "new"), "w", encoding="utf-8"):
+            note("a new file", commit)
+        with open(os.path.join(top, "crates.txt"), "a", encoding="utf-8") as file:
+            file.write("#\n")
+        note("a changed file", commit + " with changes")
+
+
 def run_all(program, tally):
     """Runs the scripts."""
     run_install(program, tally)
     run_words(program, tally)
     run_package(program, tally)
+    run_build(program, tally)

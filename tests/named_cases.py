@@ -13,7 +13,7 @@ import large
 from tally import difference
 
 TOP = os.path.dirname(os.path.dirname(os.path.abspath(__file__)))
-PAGES = ("README.md", "docs/*.md", "examples/README.md", "crates/*/README.md")
+PAGES = ("*.md", "docs/*.md", "examples/README.md", "crates/*/README.md")
 # A text in backquotes, or one that has backquotes, in two of them.
 QUOTED = r"(?:`` ?[^\n]*? ?``(?!`)|`[^`\n]+`)"
 NAMED = re.compile(rf"`(tests/[^`\s]*)`(?:,\s+({QUOTED}))?")
