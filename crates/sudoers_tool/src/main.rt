@@ -28,7 +28,7 @@ use sudoers_run::{
 static FORMS: [&str; 2] = ["sudoers", "json"];
 
 /// What `--version` prints after the program's name.
-const VERSION: &str = "0.7.0";
+const VERSION: &str = "0.8.0";
 
 /// What help prints last.
 const EXIT_STATUS: &str =
