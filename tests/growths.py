@@ -21,8 +21,8 @@ from tally import difference
 
 KIND_OF = {b"U": "user", b"R": "runas", b"H": "host", b"C": "cmnd"}
 FEW, MANY = 10, 1_000
-# the line with the number 0, from 0, and the new line
-BODY = bytes(8) + b"# b\n"
+# the file and the line with the number 0, from 0, and the new line
+BODY = bytes(16) + b"# b\n"
 
 
 def policy_of(count):
@@ -41,7 +41,7 @@ def growths_of_change(shim, program, count):
     """How many growths the change of the first line makes before so many lines of aliases, and its answer."""
     policy = policy_of(count)
     change, answer = growths_of(shim, program, policy, b"i")
-    other, _ = growths_of(shim, program, policy, b"n")
+    other, _ = growths_of(shim, program, policy, b"L")
     return change - other, answer
 
 

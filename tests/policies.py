@@ -70,7 +70,7 @@ INCLUDE_FAULTS = ("NotLoaded", "Twice", "TooDeep")
 
 
 def drawn_fault(fault):
-    """The error of a text that is no policy."""
+    """The error in a file that is no policy."""
     if isinstance(fault, list) and fault[0] == "Text":
         (_, held) = fault
         if isinstance(held, str):
@@ -83,16 +83,6 @@ def drawn_fault(fault):
         return f"too many {fault['kind'].lower()}"
     ends = {"Reserved": "is reserved", "Duplicate": "is defined twice"}
     return f"{fault['kind'].lower()} {drawn_text(bytes(items(fault['name'])))} {ends[name]}"
-
-
-def is_fault(line):
-    """Whether a line is the error of a text that is no policy."""
-    return line.startswith(("Text(", "Syntax {", "Reserved {", "Duplicate {", "TooMany {"))
-
-
-def drawn_line_fault(line):
-    """The error that a line writes, or None if it writes none."""
-    return drawn_fault(said.read(line)) if is_fault(line) else None
 
 
 def some(line):
@@ -227,14 +217,29 @@ def drawn_fault_of_files(fault):
     return " ".join([inner[""], file, str(inner["line"]), *name])
 
 
-def is_fault_of_files(line):
+def is_fault(line):
     """Whether a line is the error of files that are no policy."""
     return line.startswith(("TooManyFiles", "SameName {", "InFile {"))
 
 
+def drawn_fault_of_text(fault):
+    """The error of files that are no policy, without the name `policy` if it is in the text of this file."""
+    return drawn_fault_of_files(fault).removeprefix("policy: ")
+
+
+def drawn_line_fault(line):
+    """The error that a line writes, or None if it writes none: without the name `policy` if it is in the text of this file."""
+    return drawn_fault_of_text(said.read(line)) if is_fault(line) else None
+
+
+def drawn_in_file(place, drawn):
+    """What is drawn of a place in the first file. In another its number comes before it."""
+    return f"file {place['file']} {drawn}" if place["file"] else drawn
+
+
 def drawn_report(line):
     """The text of a report, or the error of the files that have none."""
-    return drawn_load_fault(line) if is_fault_of_files(line) else drawn_bytes(line)
+    return drawn_load_fault(line) if is_fault(line) else drawn_bytes(line)
 
 
 def drawn_calls(outcome, count):
@@ -270,22 +275,15 @@ def drawn_definition(line):
     place, members, text = map(some, line.split("\t"))
     if (place, members, text) == (None, None, None):
         return "none"
-    return f"{place['line']}.{place['def']} {drawn_members(bytes(text), members)}"
-
-
-def drawn_place(line):
-    """The line and the place of a definition."""
-    if is_fault(line):
-        return drawn_line_fault(line)
-    place = some(line)
-    return "none" if place is None else f"{place['line']}.{place['def']}"
+    return drawn_in_file(place, f"{place['line']}.{place['def']} {drawn_members(bytes(text), members)}")
 
 
 def drawn_spans(line):
     """The lines and bytes of mentions."""
     if is_fault(line):
         return drawn_line_fault(line)
-    return " ".join(f"{span['line']}:{span['start']}-{span['stop']}" for span in said.read(line)) or "none"
+    spans = [drawn_in_file(span, f"{span['line']}:{span['start']}-{span['stop']}") for span in said.read(line)]
+    return " ".join(spans) or "none"
 
 
 def drawn_unused(line):
@@ -319,12 +317,12 @@ def drawn_change(line):
     if outcome is None:
         return "not allowed"
     word, held = outcome
-    return {"Ok": lambda: "ok", "Err": lambda: drawn_fault(held)}[word]()
+    return {"Ok": lambda: "ok", "Err": lambda: drawn_fault_of_text(held)}[word]()
 
 
 def drawn_outcome(line):
     """What comes of edits: `ok`, `yes` or `no`, or why one is refused, with its number if there may be several."""
-    if is_fault_of_files(line):
+    if is_fault(line):
         return drawn_load_fault(line)
     word, held = said.read(line)
     if word == "Ok":

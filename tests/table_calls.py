@@ -9,9 +9,10 @@ from policies import (
     drawn_outcome,
     drawn_spans,
 )
-from tables import Case, NoRow, call, frame, part, text_of, unrolled
+from tables import Case, NoRow, call, frame, joined, part, text_of, unrolled
 
 SUBJECT = b"e"
+FIRST = bytes(8)  # the number of the first file, as the program reads it
 
 
 def number(word):
@@ -19,6 +20,11 @@ def number(word):
     if not word.isdigit():
         raise NoRow(f"{word}: no number")
     return int(word).to_bytes(8, "big")
+
+
+def place(word):
+    """A line of the first file, as the program reads it."""
+    return FIRST + number(word)
 
 
 def named(kind, name):
@@ -41,6 +47,21 @@ def cases_of_calls(name, sort, text, calls):
         asking = b""
 
 
+def files_there(words):
+    """The names of the files that are there by the words of a head: those after `with`."""
+    return words[words.index("with") + 1 :] if "with" in words else ()
+
+
+def cases_of_policy(name, words, text, calls):
+    """The cases of calls of the policy of one text. The files that are there by the words of the head are empty."""
+    there = files_there(words)
+    if not there:
+        yield from cases_of_calls(name, b"p", text, calls)
+        return
+    files = joined(b"policy", text, *(piece for file in there for piece in (text_of(file), b"")))
+    yield from cases_of_calls(name, b"f", files, calls)
+
+
 def wanted_row(row):
     """An answer as a row has it."""
     return "" if row == "⟨⟩" else unrolled(row)
@@ -50,16 +71,16 @@ def wanted_row(row):
 # The answer `as given` is the first text of the group.
 POLICY_CALLS = {
     "read": (b"r", "", str),
-    "len": (b"n", "", str),
+    "len": (b"L", "", str),
     "text": (b"t", "", drawn_bytes),
-    "line": (b"l", "number", lambda line: Line.drawn(line).text or "none"),
-    "kind": (b"l", "number", lambda line: Line.drawn(line).drawn_kind()),
-    "says": (b"l", "number", lambda line: Line.drawn(line).drawn_node()),
+    "line": (b"l", "place", lambda line: Line.drawn(line).text or "none"),
+    "kind": (b"l", "place", lambda line: Line.drawn(line).drawn_kind()),
+    "says": (b"l", "place", lambda line: Line.drawn(line).drawn_node()),
     "definition": (b"d", "name", drawn_definition),
     "mentions": (b"m", "name", drawn_spans),
-    "insert": (b"w", "number and line", drawn_change),
-    "remove": (b"o", "number", drawn_change),
-    "replace": (b"i", "number and line", drawn_change),
+    "insert": (b"w", "place and line", drawn_change),
+    "remove": (b"o", "place", drawn_change),
+    "replace": (b"i", "place and line", drawn_change),
     "changed": (b"c", "changes", drawn_change),
     "text-after": (b"A", "bytes", drawn_bytes),
 }
@@ -87,16 +108,16 @@ CALLS = {
 }
 
 # The changes of a call `changed`, with ` / ` between two: the byte of each, and what follows its name.
-CHANGES = {"put": (b"p", "number and line"), "swap": (b"s", "number and line"), "take": (b"t", "number")}
+CHANGES = {"put": (b"p", "place and line"), "swap": (b"s", "place and line"), "take": (b"t", "place")}
 
 
 def change_of(row):
-    """A change of lines, as the program reads it: the number of its file is not looked at."""
+    """A change of lines, as the program reads it."""
     word, _, rest = row.partition(" ")
     if word not in CHANGES:
         raise NoRow(f"{word}: no change of lines")
     byte, form = CHANGES[word]
-    return call(byte, number("0") + body_of(form, rest))
+    return call(byte, body_of(form, rest))
 
 
 def body_of(form, rest):
@@ -105,11 +126,11 @@ def body_of(form, rest):
         if rest:
             raise NoRow(f"too many words: {rest}")
         return b""
-    if form == "number":
-        return number(rest)
-    if form == "number and line":
+    if form == "place":
+        return place(rest)
+    if form == "place and line":
         at, _, line = rest.partition(" ")
-        return number(at) + text_of(line)
+        return place(at) + text_of(line)
     if form == "changes":
         return b"".join(change_of(row) for row in rest.split(" / ")) if rest else b""
     if form == "name":

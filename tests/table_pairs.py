@@ -19,7 +19,17 @@ from policies import (
     is_fault,
     lines_of,
 )
-from table_calls import POLICY_CALLS, cases_of_calls, is_error, name_of, named, number, wanted_row
+from table_calls import (
+    POLICY_CALLS,
+    cases_of_calls,
+    cases_of_policy,
+    files_there,
+    is_error,
+    name_of,
+    named,
+    place,
+    wanted_row,
+)
 from tables import NoRow, call, joined, text_of, unrolled
 
 
@@ -36,16 +46,16 @@ def drawn_marked(line):
     return b"|".join(one.text for one in lines), " ".join(one.drawn_kind() for one in lines)
 
 
-def says(name, _words, text, _row, answer):
+def says(name, words, text, _row, answer):
     """What the lines of a policy say, or its error. The policy gives its text back."""
     wanted = wanted_row(answer)
     refused = is_error(wanted)
     calls = [("says", call(b"a"), wanted, drawn_policy)]
     calls.append(("text", call(b"t"), wanted if refused else text, drawn_bytes))
-    yield from cases_of_calls(name, b"p", text, calls)
+    yield from cases_of_policy(name, words, text, calls)
 
 
-def lines(name, _words, _text, row, answer):
+def lines(name, words, _text, row, answer):
     """The lines of a policy, and their kinds."""
     *kinds, last = answer.split(" ")
     if last != "none":
@@ -57,12 +67,12 @@ def lines(name, _words, _text, row, answer):
         at += line.count(b"\n")
     calls = [
         ("lines", call(b"a"), (text_of(row), " ".join(kinds)), drawn_marked),
-        ("after the last", call(b"l", number(str(len(kinds)))), "none", POLICY_CALLS["kind"][2]),
+        ("after the last", call(b"l", place(str(len(kinds)))), "none", POLICY_CALLS["kind"][2]),
         ("text", call(b"t"), text, drawn_bytes),
-        ("len", call(b"n"), str(len(kinds)), str),
+        ("len", call(b"L"), str(len(kinds)), str),
     ]
-    yield from cases_of_calls(name, b"p", text, calls)
-    yield from rows(name, (), text, row, " ".join(starts))
+    yield from cases_of_policy(name, words, text, calls)
+    yield from rows(name, words, text, row, " ".join(starts))
 
 
 def one_line(name, _words, text, _row, answer):
@@ -115,23 +125,23 @@ def gather(name, words, _text, row, answer):
     yield from cases_of_calls(name, b"t", parts, calls)
 
 
-def read(name, _words, text, _row, answer):
+def read(name, words, text, _row, answer):
     """Whether a policy is read."""
     wanted = wanted_row(answer)
     calls = [("read", call(b"r"), wanted, lambda line: drawn_line_fault(line) or line)]
-    yield from cases_of_calls(name, b"p", text, calls)
+    yield from cases_of_policy(name, words, text, calls)
 
 
-def rows(name, _words, text, _row, answer):
+def rows(name, words, text, _row, answer):
     """The first physical lines of the lines of a policy."""
     calls = [("rows", call(b"b"), wanted_row(answer), lambda line: drawn_line_fault(line) or line.strip())]
-    yield from cases_of_calls(name, b"p", text, calls)
+    yield from cases_of_policy(name, words, text, calls)
 
 
 def defined(name, words, text, _row, answer):
     """Where a name is defined, and its members."""
     body, wanted = named(words[0], text_of(words[1])), wanted_row(answer)
-    yield from cases_of_calls(name, b"p", text, [("definition", call(b"d", body), wanted, drawn_definition)])
+    yield from cases_of_policy(name, words, text, [("definition", call(b"d", body), wanted, drawn_definition)])
 
 
 class Marks:
@@ -156,6 +166,8 @@ class Marks:
         """Below each byte of a mention its number."""
         marks = [" "] * len(self.whole)
         for mention, span in enumerate(said.read(line), 1):
+            if span["file"] != 0:
+                return f"file {span['file']} has a mention"
             start, stop = (self.starts[span["line"]] + span[end] for end in ("start", "stop"))
             if self.whole[start:stop] != self.name:
                 return f"{self.whole[start:stop]} is mentioned"
@@ -170,17 +182,17 @@ def mentioned(name, words, text, _row, answer):
         ("text", call(b"a"), text, marks.text),
         ("mentions", call(b"m", named(words[0], marks.name)), answer, marks.mentions),
     ]
-    yield from cases_of_calls(name, b"p", text, calls)
+    yield from cases_of_policy(name, words, text, calls)
 
 
-def unused(name, _words, text, _row, answer):
+def unused(name, words, text, _row, answer):
     """The unused definitions."""
-    yield from cases_of_calls(name, b"p", text, [("unused", call(b"u"), wanted_row(answer), drawn_unused)])
+    yield from cases_of_policy(name, words, text, [("unused", call(b"u"), wanted_row(answer), drawn_unused)])
 
 
-def notes(name, _words, text, _row, answer):
+def notes(name, words, text, _row, answer):
     """The notes of a report."""
-    yield from cases_of_calls(name, b"p", text, [("notes", call(b"k"), wanted_row(answer), drawn_notes)])
+    yield from cases_of_policy(name, words, text, [("notes", call(b"k"), wanted_row(answer), drawn_notes)])
 
 
 def edits(name, _words, text, _row, answer):
@@ -188,30 +200,40 @@ def edits(name, _words, text, _row, answer):
     yield from cases_of_calls(name, b"t", text, [("edits", call(b"r"), wanted_row(answer), str)])
 
 
-# The groups of which two rows are a case and its answer: the words of a head after the first, and their cases.
-PAIRS = {
+# The groups of which two rows are a case and its answer: the words of a head after the first, and their cases. After the
+# words of a group of POLICIES `with` may stand, and files that are there.
+POLICIES = {
     "says": (0, says),
     "lines": (0, lines),
-    "one-line": (0, one_line),
-    "line-of": (1, line_of),
-    "load": (0, load),
-    "gather": (1, gather),
     "read": (0, read),
     "rows": (0, rows),
     "defined": (2, defined),
     "mentioned": (2, mentioned),
     "unused": (0, unused),
     "notes": (0, notes),
+}
+PAIRS = {
+    **POLICIES,
+    "one-line": (0, one_line),
+    "line-of": (1, line_of),
+    "load": (0, load),
+    "gather": (1, gather),
     "edits": (0, edits),
 }
+
+
+def is_of_pairs(group):
+    """Whether two rows of a group are a case and its answer."""
+    word, *words = group.words
+    if word in POLICIES and files_there(words):
+        words = words[: words.index("with")]
+    return word in PAIRS and len(words) == PAIRS[word][0]
 
 
 def cases_of_pairs(group):
     """The cases of a group of which two rows are a case and its answer."""
     word, *words = group.words
-    count, cases_of_pair = PAIRS[word]
-    if len(words) != count:
-        raise NoRow(f"{' '.join(group.words)}: {count} words after {word}")
+    _, cases_of_pair = PAIRS[word]
     for at, row, answer in group.pairs():
         try:
             yield from cases_of_pair(name_of(group, at, row), words, text_of(row), row, answer)

@@ -7,7 +7,7 @@ from table_pairs import files_of
 from tables import NoRow, call, text_of
 
 VERDICTS = (": parsed OK", ": faults found")
-CHECKS = {"notes": b"k", "unused": b"u", "is fine": b"f"}  # what is asked of a policy beside its report
+CHECKS = {"notes": b"k", "unused": b"u", "is fine": b"F"}  # what is asked of a policy beside its report
 
 
 def is_load_error(row):
@@ -37,7 +37,7 @@ def cases_of_report(name, row, strict, report):
     if is_load_error(report[0]):
         calls += [(what, call(byte), wanted, drawn_report) for what, byte in CHECKS.items()]
     else:
-        calls.append(("is fine", call(b"f"), (True, is_fine, len(wanted)), fine))
+        calls.append(("is fine", call(b"F"), (True, is_fine, len(wanted)), fine))
     yield from cases_of_calls(name, b"p", text, calls)
     yield from cases_of_calls(name, b"e", text, [("of an editor", asking, wanted, drawn_report)])
 

@@ -17,10 +17,10 @@ def is_run_alone(group):
     return group.words == ("time",) or group.words[0] == "run" and group.words[-1].isdigit() and len(group.words) == 2
 
 
-def seconds_of(program, case):
-    """The seconds of processor that a program takes to answer a case."""
+def seconds_of(program, text, count):
+    """The seconds of processor that a program takes to read and to check a policy so many times."""
     before = resource.getrusage(resource.RUSAGE_CHILDREN)
-    asked(program, [case])
+    asked(program, [frame_of(b"p", text, [call(b"F")])] * count)
     after = resource.getrusage(resource.RUSAGE_CHILDREN)
     return after.ru_utime - before.ru_utime + after.ru_stime - before.ru_stime
 
@@ -31,11 +31,11 @@ def run_times(program, group, tally):
         whole, smaller = (text_of(f"⟨{count}×{row}⟩{after}") for count in (4096, 4096 // PARTS))
         often = 1
         while True:
-            of_parts = seconds_of(program, frame_of(b"p", smaller, [call(b"f")] * PARTS * often))
+            of_parts = seconds_of(program, smaller, PARTS * often)
             if of_parts > ENOUGH or often > 4096:
                 break
             often *= 2
-        of_whole = seconds_of(program, frame_of(b"p", whole, [call(b"f")] * often))
+        of_whole = seconds_of(program, whole, often)
         slow = of_whole >= TIMES * of_parts
         problems = [f"{of_whole:.2f} s, its parts {of_parts:.2f} s"] if slow else []
         tally.note(f"{name_of(group, at, row)}: time", problems)

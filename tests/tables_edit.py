@@ -20,6 +20,9 @@ The words of a group's head say what its rows are. Two rows, a case and its answ
     notes               the notes of a report, each sort by itself
     edits               how many edits a script has, or its error
 
+A policy is that of one file, whose name is `policy`. After the words of a group of POLICIES in table_pairs.py `with` may
+stand, and the names of other files: these are there, and empty. So `says with /a` has policies that may include `/a`.
+
 Rows of another form:
 
     report, strict      the policy, and as many rows as its report has, on the file `policy`; or the error of the policy
@@ -64,7 +67,7 @@ from table_calls import (
     named,
     wanted_row,
 )
-from table_pairs import PAIRS, cases_of_pairs, says
+from table_pairs import cases_of_pairs, is_of_pairs, says
 from table_reports import cases_of_reports, sorts_of_report
 from table_runs import is_run_alone, run_edits, run_times
 from tables import TABLES, TOP, NoRow, call, groups_of, programs, run_tables, text_of
@@ -164,7 +167,7 @@ def cases_of_refused(group):
 def cases_of_group(group, frames):
     """The cases of a group. `frames` has those of the groups before, by their names."""
     word, *words = group.words
-    if word in PAIRS and len(words) == PAIRS[word][0]:
+    if is_of_pairs(group):
         yield from cases_of_pairs(group)
     elif word in CALLS and not words:
         sort, known = CALLS[word]

@@ -3,24 +3,20 @@
 //! The body of a case is a part, the text, and then calls. Its byte says what the calls are of.
 
 use crate::drawn::{push_debug, push_shown};
+use crate::file_policies;
 use crate::frames::{Call, next_call, next_part};
 use crate::loads::files_of;
 use crate::scripts::{self, push_script};
-use crate::{file_policies, policies};
 use std::alloc::{AllocError, Global};
 use sudoers_edit::{Editor, read_script};
-use sudoers_tree::{LoadFault, OneFile, Policy, ReadFault};
+use sudoers_tree::{LoadFault, Policy};
 
 /// What calls are of.
 #[derive(Drop)]
 enum Target<'a> {
     /// The text itself.
     Text(&'a [u8]),
-    /// The policy that it is.
-    Policy(OneFile),
-    /// The text is no policy, and this answers each call.
-    Fault(ReadFault),
-    /// The policy of the files that the text is.
+    /// The policy of the one file, or of the files, that the text is.
     Files(Policy),
     /// An editor of the policy of the one file, or of the files, that the text is.
     Editor(Editor),
@@ -32,12 +28,8 @@ impl Target<'_> {
     /// Returns that of `text` which `sort` names.
     fn of(alloc: Global, sort: u8, text: &[u8]) -> Result<Target<'_>, AllocError> {
         Ok(match sort {
-            b'p' => match OneFile::read(alloc, text) {
-                Ok(policy) => Target::Policy(policy),
-                Err(fault) => Target::Fault(fault),
-            },
-            b'e' | b'f' | b'g' => match policy_of(alloc, sort, text)? {
-                Ok(policy) if sort == b'f' => Target::Files(policy),
+            b'e' | b'f' | b'g' | b'p' => match policy_of(alloc, sort, text)? {
+                Ok(policy) if sort == b'f' || sort == b'p' => Target::Files(policy),
                 Ok(policy) => Target::Editor(Editor::new(policy)),
                 Err(fault) => Target::LoadFault(fault),
             },
@@ -54,22 +46,20 @@ impl Target<'_> {
     ) -> Result<(), AllocError> {
         match self {
             Target::Text(text) => scripts::push_answer(alloc, text, call, answers),
-            Target::Policy(policy) => policies::push_answer(alloc, policy, call, answers),
-            Target::Editor(editor) => push_of_editor(alloc, editor, call, answers),
-            Target::Fault(fault) => push_debug(&fault, answers),
             Target::Files(policy) => file_policies::push_answer(alloc, policy, call, answers),
+            Target::Editor(editor) => push_of_editor(alloc, editor, call, answers),
             Target::LoadFault(fault) => push_debug(&fault, answers),
         }
     }
 }
 
-/// Returns the policy of the one file `text` with the sort `e`, and else of the files that `text` is, or their fault.
+/// Returns the policy of the one file `text` with the sorts `e` and `p`, and else of the files that `text` is, or their fault.
 fn policy_of(
     alloc: Global,
     sort: u8,
     text: &[u8],
 ) -> Result<Result<Policy, LoadFault>, AllocError> {
-    if sort == b'e' {
+    if sort == b'e' || sort == b'p' {
         Ok(Policy::read(alloc, text))
     } else {
         Ok(Policy::load(alloc, files_of(alloc, text)?.as_slice()))

@@ -1,13 +1,12 @@
-//! Calls of a policy of several files.
+//! Calls of a policy of one file or of several.
 
 use crate::changes::changes_of;
 use crate::drawn::push_debug;
 use crate::file_changes::{changed_together, line_replaced, with_line, without_line};
-use crate::frames::{Call, number_of};
-use crate::loads::{push_files, push_of_policy, push_walk, report_topic};
-use crate::policies::name_of;
+use crate::frames::{Call, next_call, number_of};
+use crate::loads::{Topic, push_files, push_of_policy, push_walk, report_topic};
 use std::alloc::{AllocError, Global};
-use sudoers_tree::{FilePlace, Policy};
+use sudoers_tree::{FilePlace, Kind, Policy, append_texts, lf_count};
 
 /// Adds the answer to a call of `policy`.
 pub fn push_answer(
@@ -33,21 +32,37 @@ pub fn push_answer(
 pub fn push_query(policy: &Policy, call: Call<'_>, answers: &mut String) -> Result<(), AllocError> {
     let (file, number, _) = place_of(call.body);
     match call.asked {
+        b'r' => answers.push_str("read"),
         b'f' => push_walk(policy, answers),
         b'n' => push_files(policy, answers),
         b'N' => push_named(policy, answers),
-        // The number of a file, which is the first without one: its text, and its lines.
+        // The number of a file, which is the first without one: its text, how many lines it has, its lines, and where these begin.
         b't' => push_debug(&policy.text(file)?, answers),
+        b'L' => push_debug(&policy.len(file), answers),
         b'a' => push_lines(policy, file, answers),
+        b'b' => push_first_rows(policy, file, answers),
         // The number of a file, and that of a line there.
         b'l' => push_line(policy, file, number, answers),
         // A kind of alias and a name.
         b'd' => push_definition(policy, call.body, answers),
         b'm' => push_mentions(policy, call.body, answers),
-        // `s` for a strict report.
-        b'p' => push_of_policy(policy.allocator(), policy, report_topic(call.body), answers),
-        _ => answers.push_str("unknown"),
+        // Bytes, and then the lines of the walk.
+        b'A' => push_debug(&text_after(policy, call.body)?, answers),
+        _ => push_checked(policy, call, answers),
     }
+}
+
+/// Adds what is reported of `policy`; `unknown` if the call asks for something else.
+fn push_checked(policy: &Policy, call: Call<'_>, answers: &mut String) -> Result<(), AllocError> {
+    let topic = match call.asked {
+        b'k' => Topic::Notes,
+        b'u' => Topic::Unused,
+        // `s` for a strict report.
+        b'p' => report_topic(call.body),
+        b'F' => Topic::Fine,
+        _ => return answers.push_str("unknown"),
+    };
+    push_of_policy(policy.allocator(), policy, topic, answers)
 }
 
 /// Adds the name of each file and its text, with a tab behind both.
@@ -86,6 +101,18 @@ fn push_line(
     push_debug(&policy.node(file, number), answers)
 }
 
+/// Adds the physical lines on which the lines of a file begin, with a space behind each.
+fn push_first_rows(policy: &Policy, file: usize, answers: &mut String) -> Result<(), AllocError> {
+    let mut row: usize = 1;
+    for number in 0..policy.len(file) {
+        write!(answers, "{row} ")?;
+        if let Some(line) = policy.line(file, number) {
+            row = row.saturating_add(lf_count(line.text));
+        }
+    }
+    Ok(())
+}
+
 /// Adds where a name is defined, its members, and the text of the line.
 fn push_definition(policy: &Policy, named: &[u8], answers: &mut String) -> Result<(), AllocError> {
     let (kind, name) = name_of(named);
@@ -107,6 +134,32 @@ fn text_at(policy: &Policy, place: Option<FilePlace>) -> Option<&[u8]> {
 fn push_mentions(policy: &Policy, named: &[u8], answers: &mut String) -> Result<(), AllocError> {
     let (kind, name) = name_of(named);
     push_debug(&policy.mentions(kind, name)?, answers)
+}
+
+/// Returns `front`, and the texts of the lines of the walk after it.
+fn text_after(policy: &Policy, front: &[u8]) -> Result<Vec<u8>, AllocError> {
+    let lines = policy.lines();
+    let mut text = Vec::from_slice(policy.allocator(), front)?;
+    append_texts(lines.tables, lines.rows, &mut text)?;
+    Ok(text)
+}
+
+/// Returns the kind of alias and the name with which `bytes` begin.
+fn name_of(bytes: &[u8]) -> (Kind, &[u8]) {
+    match next_call(bytes) {
+        Some((named, _)) => (kind_of(named.asked), named.body),
+        None => (Kind::User, b""),
+    }
+}
+
+/// Returns the kind of alias that `byte` names.
+fn kind_of(byte: u8) -> Kind {
+    match byte {
+        b'r' => Kind::Runas,
+        b'h' => Kind::Host,
+        b'c' => Kind::Cmnd,
+        _ => Kind::User,
+    }
 }
 
 /// Returns the number of a file and that of a line with which `bytes` begin, and what follows them.

@@ -30,16 +30,6 @@ pub fn report_topic(asked: &[u8]) -> Topic {
     }
 }
 
-/// Adds what the policy of the one file `text` answers, or its fault.
-pub fn push_of_text(
-    alloc: Global,
-    text: &[u8],
-    topic: Topic,
-    answers: &mut String,
-) -> Result<(), AllocError> {
-    push_loaded(alloc, Policy::read(alloc, text), topic, answers)
-}
-
 /// Adds what the policy of the files that `parts` are answers, or their fault; `no file` if there is none.
 pub fn push_of_files(
     alloc: Global,

@@ -17,7 +17,6 @@ mod line;
 mod loads;
 mod matches;
 mod people;
-mod policies;
 mod scripts;
 mod works;
 
