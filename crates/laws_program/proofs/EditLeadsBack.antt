@@ -28,8 +28,8 @@ use Rattle.sudoers_run.specs.declared.fault.LayerFault.{LayerFault}
 use Rattle.sudoers_run.specs.declared.fault.LayerFault.TheVariants as layer
 use Rattle.sudoers_run.specs.declared.fault.ToolFault.{ToolFault}
 use Rattle.sudoers_run.specs.declared.fault.ToolFault.TheVariants as tool
-use Rattle.sudoers_run.specs.declared.given.Given.{Given}
-use Rattle.sudoers_run.specs.declared.given.Given.TheVariants as given
+use Rattle.sudoers_run.specs.declared.input_shape.InputShape.{InputShape}
+use Rattle.sudoers_run.specs.declared.input_shape.InputShape.TheVariants as shape
 use Rattle.sudoers_run.specs.Edit.{input_limit, output_of, of_given, of_parts, by_bundle, by_layer, by_load, edit_output, edited_output, files_given, given_back, output_of_edits, edits_that_stand, how_many_stand, output_text, by_script, by_edit, ◌>>=◌}
 use Rattle.laws_program.specs.WayBack.{LeadsBack}
 use Rattle.laws_program.proofs.MarkLemmas.{split_at_bundle, split_at_mark, told_text}
@@ -85,23 +85,23 @@ all_stand edits =
 -- FILES AS THEY WERE GIVEN
 
 -- The files can be given in this form: alone, there is one, which has the name of such a file; in a bundle there are some, and it can hold each.
-data CanBeGiven : Given → List NamedFile → Type 0 where
-  alone : (text : List ℕ) → CanBeGiven given.Alone (one_file text)
-  several : (file : NamedFile) (files : List NamedFile) → AllCanBeHeld (file ∷ files) → CanBeGiven given.Bundle (file ∷ files)
+data CanBeGiven : InputShape → List NamedFile → Type 0 where
+  alone : (text : List ℕ) → CanBeGiven shape.OneText (one_file text)
+  several : (file : NamedFile) (files : List NamedFile) → AllCanBeHeld (file ∷ files) → CanBeGiven shape.Bundle (file ∷ files)
 
 -- the text of files in a form, behind what ends the script
-body : Given → List NamedFile → List ℕ
-body given.Alone files = flat_map (λ (file : NamedFile). file.bytes) files
-body given.Bundle files = bundle files
+body : InputShape → List NamedFile → List ℕ
+body shape.OneText files = flat_map (λ (file : NamedFile). file.bytes) files
+body shape.Bundle files = bundle files
 
 -- files that can be given are read of their text
-given_again : Laws → (form : Given) (files : List NamedFile) → CanBeGiven form files → files_given form (body form files) ≡ Ok files
+given_again : Laws → (form : InputShape) (files : List NamedFile) → CanBeGiven form files → files_given form (body form files) ≡ Ok files
 unfolding body
 given_again l _ _ (alone text) = ap (λ (t : List ℕ). Ok (one_file t)) (append-nil text)
 given_again l _ _ (several file files held) = ap by_bundle (l.bundled (file ∷ files) held)
 
 -- their text behind a script is told from it
-split_given : Laws → (edits : List Edit) → AreSpellable edits → (form : Given) (files : List NamedFile) → CanBeGiven form files
+split_given : Laws → (edits : List Edit) → AreSpellable edits → (form : InputShape) (files : List NamedFile) → CanBeGiven form files
     → split_text (spelling edits ++ given_back form files) ≡ Some (spelling edits, form, body form files)
 unfolding body
 split_given l edits can _ _ (alone text) =
@@ -110,25 +110,25 @@ split_given l edits can _ _ (several file files held) =
     split_at_bundle l.pieces (spelling edits) file files held.0 (λ rest. l.before edits rest can) (l.plain edits can)
 
 -- what was given can be given, and its text is that of its files
-record WasGiven (form : Given) (text : List ℕ) (files : List NamedFile) : Type 0 where
+record WasGiven (form : InputShape) (text : List ℕ) (files : List NamedFile) : Type 0 where
   can : CanBeGiven form files
   is : body form files ≡ text
 
 -- a text that ends a script in this form is not empty, if it is a bundle
-some_file : Laws → (text : List ℕ) (files : List NamedFile) → text ≢ [] → length text < 2 ^ 64 → files_in text ≡ Ok files → WasGiven given.Bundle text files
+some_file : Laws → (text : List ℕ) (files : List NamedFile) → text ≢ [] → length text < 2 ^ 64 → files_in text ≡ Ok files → WasGiven shape.Bundle text files
 unfolding body
 some_file l text [] some small is = absurd (some (l.unbundled text [] is))
 some_file l text (file ∷ files) some small is = record { can = several file files (l.held text (file ∷ files) is small); is = sym (l.unbundled text (file ∷ files) is) }
 
-was_given : Laws → (form : Given) (text : List ℕ) (files : List NamedFile) → (form ≡ given.Bundle → text ≢ []) → length text < 2 ^ 64 → files_given form text ≡ Ok files
+was_given : Laws → (form : InputShape) (text : List ℕ) (files : List NamedFile) → (form ≡ shape.Bundle → text ≢ []) → length text < 2 ^ 64 → files_given form text ≡ Ok files
     → WasGiven form text files
 unfolding body
-was_given l given.Alone text files some small is =
+was_given l shape.OneText text files some small is =
     let same : one_file text ≡ files = cc in
-    subst (WasGiven given.Alone text) same (record { can = alone text; is = append-nil text })
-was_given l given.Bundle text files some small is = by (files_in text) refl is
+    subst (WasGiven shape.OneText text) same (record { can = alone text; is = append-nil text })
+was_given l shape.Bundle text files some small is = by (files_in text) refl is
   where
-    by : (r : Result (List NamedFile) ℕ) → files_in text ≡ r → by_bundle r ≡ Ok files → WasGiven given.Bundle text files
+    by : (r : Result (List NamedFile) ℕ) → files_in text ≡ r → by_bundle r ≡ Ok files → WasGiven shape.Bundle text files
     by (Ok found) read e = let same : found ≡ files = cc in some_file l text files (some refl) small (read ∙ ap (λ (fs : List NamedFile). Ok fs) same)
     by (Err n) read e = absurd cc
 
@@ -157,12 +157,12 @@ held_named (file ∷ files) (o ∷ others) same held short =
     )
 
 -- what can be given, can be given after edits that keep its names
-given_named : (form : Given) (files others : List NamedFile) → CanBeGiven form files → names_in others ≡ names_in files
+given_named : (form : InputShape) (files others : List NamedFile) → CanBeGiven form files → names_in others ≡ names_in files
     → AllByRecursion (λ (file : NamedFile). length file.bytes ≤ text_limit) others → CanBeGiven form others
 given_named _ _ [] (alone text) same short = absurd cc
 given_named _ _ (o ∷ []) (alone text) same short =
     let name : o.name ≡ codes "policy" = cc in
-    subst (λ (fs : List NamedFile). CanBeGiven given.Alone fs) (ap (λ (n : List ℕ). (let file : NamedFile = record { name = n; bytes = o.bytes } in file) ∷ []) (sym name)) (alone o.bytes)
+    subst (λ (fs : List NamedFile). CanBeGiven shape.OneText fs) (ap (λ (n : List ℕ). (let file : NamedFile = record { name = n; bytes = o.bytes } in file) ∷ []) (sym name)) (alone o.bytes)
 given_named _ _ (o ∷ p ∷ others) (alone text) same short = absurd cc
 given_named _ _ [] (several file files held) same short = absurd cc
 given_named _ _ (o ∷ others) (several file files held) same short = several o others (held_named (file ∷ files) (o ∷ others) same held short)
@@ -173,7 +173,7 @@ given_named _ _ (o ∷ others) (several file files held) same short = several o 
 record Wrote (input out : List ℕ) : Type 0 where
   short : length input ≤ input_limit
   script : List ℕ
-  form : Given
+  form : InputShape
   text : List ℕ
   parts : split_text input ≡ Some (script, form, text)
   files : List NamedFile
@@ -216,7 +216,7 @@ given_ok (Ok files) next out e = (files, refl, e)
 given_ok (Err fault) next out e = absurd (cc)
 
 abbrev Parts : Type 0
-Parts = List ℕ × Given × List ℕ
+Parts = List ℕ × InputShape × List ℕ
 
 parts_ok : (undo redo : ℕ) (o : Option Parts) (out : List ℕ) → of_parts undo redo o ≡ Ok out
     → (p : Parts) × (o ≡ Some p) × (of_given (λ files. by_layer (edit_output p.1 undo redo p.0 files)) (files_given p.1 p.2) ≡ Ok out)
@@ -231,7 +231,7 @@ wrote : Laws → (undo redo : ℕ) (input out : List ℕ) → output_of undo red
 wrote l undo redo input out e =
     let w = within_ok (nat_lt input_limit (length input)) (of_parts undo redo (split_text input)) out e in
     let a = parts_ok undo redo (split_text input) out w.1 in
-    let form : Given = a.0.1 in
+    let form : InputShape = a.0.1 in
     let g = given_ok (files_given form a.0.2) (λ files. by_layer (edit_output form undo redo a.0.0 files)) out a.2 in
     let told : edit_output form undo redo a.0.0 g.0 ≡ Ok out = layer_ok (edit_output form undo redo a.0.0 g.0) out g.2 in
     let of_edits : List Edit → Result (List ℕ) LayerFault = λ edits. by_load (load_of g.0) >>= edited_output form undo redo edits in
@@ -261,7 +261,7 @@ wrote l undo redo input out e =
     }
 
 -- what is written for a script and files in a form
-writes : (l : Laws) (edits : List Edit) (form : Given) (files : List NamedFile) (policy new : Loaded) → AreSpellable edits → length edits ≤ edit_limit
+writes : (l : Laws) (edits : List Edit) (form : InputShape) (files : List NamedFile) (policy new : Loaded) → AreSpellable edits → length edits ≤ edit_limit
     → CanBeGiven form files → load_of files ≡ Ok policy → run_all 0 edits policy ≡ Ok new → length (inv_run edits policy) ≤ edit_limit
     → length (spelling edits ++ given_back form files) ≤ input_limit
     → output_of 0 0 (spelling edits ++ given_back form files) ≡ Ok (spelling (inv_run edits policy) ++ given_back form (files_of new))
@@ -311,6 +311,6 @@ leads_back l undo redo input out e short =
       back = back;
       again = next;
       policy =
-          ap (option_map {U = Given × List ℕ} (λ (parts : Parts). (parts.1, parts.2))) split ∙ ap (λ (t : List ℕ). Some (w.form, t)) same
-          ∙ sym (ap (option_map {U = Given × List ℕ} (λ (parts : Parts). (parts.1, parts.2))) w.parts);
+          ap (option_map {U = InputShape × List ℕ} (λ (parts : Parts). (parts.1, parts.2))) split ∙ ap (λ (t : List ℕ). Some (w.form, t)) same
+          ∙ sym (ap (option_map {U = InputShape × List ℕ} (λ (parts : Parts). (parts.1, parts.2))) w.parts);
     }

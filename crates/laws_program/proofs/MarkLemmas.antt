@@ -14,8 +14,8 @@ use Rattle.sudoers_bundle.proofs.NumberLemmas.{decimal_lacks}
 use Rattle.sudoers_bundle.proofs.PartLemmas.{lacks_both}
 use Rattle.sudoers_edit_script.specs.Physical.{onto}
 use Rattle.sudoers_run.specs.Edit.{is_header, is_mark, split_lines}
-use Rattle.sudoers_run.specs.declared.given.Given.{Given}
-use Rattle.sudoers_run.specs.declared.given.Given.TheVariants as given
+use Rattle.sudoers_run.specs.declared.input_shape.InputShape.{InputShape}
+use Rattle.sudoers_run.specs.declared.input_shape.InputShape.TheVariants as shape
 
 abbrev pub IsPlain : List ℕ → Type 0
 IsPlain line = slice_index line 0 ≢ 37
@@ -47,10 +47,10 @@ abbrev pub mark : List ℕ
 mark = 37 ∷ 37 ∷ 10 ∷ []
 
 abbrev Parts : Type 0
-Parts = List (List ℕ) × Given × List (List ℕ)
+Parts = List (List ℕ) × InputShape × List (List ℕ)
 
 -- the lines that split is told of behind lines that are neither
-first_told : (ls rest : List (List ℕ)) (told : Given) (ks : List (List ℕ)) → AllByRecursion IsPlain ls → split_lines rest ≡ Some ([], told, ks)
+first_told : (ls rest : List (List ℕ)) (told : InputShape) (ks : List (List ℕ)) → AllByRecursion IsPlain ls → split_lines rest ≡ Some ([], told, ks)
     → split_lines (ls ++ rest) ≡ Some (ls, told, ks)
 first_told [] rest told ks plain is = is
 first_told (l ∷ ls) rest told ks plain is =
@@ -58,22 +58,22 @@ first_told (l ∷ ls) rest told ks plain is =
     (ap (option_map {U = Parts} (λ (parts : Parts). (l ∷ parts.0, parts.1, parts.2))) (first_told ls rest told ks plain.1 is))
 
 -- what follows a script that is lines of its own
-split_behind : ((text : List ℕ) → join (physical_lines text) ≡ text) → (script rest policy : List ℕ) (told : Given) (ks : List (List ℕ))
+split_behind : ((text : List ℕ) → join (physical_lines text) ≡ text) → (script rest policy : List ℕ) (told : InputShape) (ks : List (List ℕ))
     → ((rest : List ℕ) → physical_lines (script ++ rest) ≡ physical_lines script ++ physical_lines rest)
     → AllByRecursion IsPlain (physical_lines script) → split_lines (physical_lines rest) ≡ Some ([], told, ks) → join ks ≡ policy
     → split_text (script ++ rest) ≡ Some (script, told, policy)
 split_behind pieces script rest policy told ks before plain is whole =
     let cut : split_lines (physical_lines (script ++ rest)) ≡ Some (physical_lines script, told, ks) =
     ap split_lines (before rest) ∙ first_told (physical_lines script) (physical_lines rest) told ks plain is in
-    ap (option_map {U = List ℕ × Given × List ℕ} (λ (parts : Parts). (join parts.0, parts.1, join parts.2))) cut
+    ap (option_map {U = List ℕ × InputShape × List ℕ} (λ (parts : Parts). (join parts.0, parts.1, join parts.2))) cut
     ∙ ap₂ (λ (x y : List ℕ). Some (x, told, y)) (pieces script) whole
 
 -- the mark behind it
 pub split_at_mark : ((text : List ℕ) → join (physical_lines text) ≡ text) → (script policy : List ℕ)
     → ((rest : List ℕ) → physical_lines (script ++ rest) ≡ physical_lines script ++ physical_lines rest)
-    → AllByRecursion IsPlain (physical_lines script) → split_text (script ++ 37 ∷ 37 ∷ 10 ∷ policy) ≡ Some (script, given.Alone, policy)
+    → AllByRecursion IsPlain (physical_lines script) → split_text (script ++ 37 ∷ 37 ∷ 10 ∷ policy) ≡ Some (script, shape.OneText, policy)
 split_at_mark pieces script policy before plain =
-    split_behind pieces script (37 ∷ 37 ∷ 10 ∷ policy) policy given.Alone (physical_lines policy) before plain refl (pieces policy)
+    split_behind pieces script (37 ∷ 37 ∷ 10 ∷ policy) policy shape.OneText (physical_lines policy) before plain refl (pieces policy)
 
 -- HEADERS
 
@@ -96,10 +96,10 @@ no_short_mark (b ∷ rest) = refl
 -- a bundle behind it
 pub split_at_bundle : ((text : List ℕ) → join (physical_lines text) ≡ text) → (script : List ℕ) (file : NamedFile) (files : List NamedFile) → CanBeHeld file
     → ((rest : List ℕ) → physical_lines (script ++ rest) ≡ physical_lines script ++ physical_lines rest)
-    → AllByRecursion IsPlain (physical_lines script) → split_text (script ++ bundle (file ∷ files)) ≡ Some (script, given.Bundle, bundle (file ∷ files))
+    → AllByRecursion IsPlain (physical_lines script) → split_text (script ++ bundle (file ∷ files)) ≡ Some (script, shape.Bundle, bundle (file ∷ files))
 split_at_bundle pieces script file files held before plain =
-    split_behind pieces script (bundle (file ∷ files)) (bundle (file ∷ files)) given.Bundle (physical_lines (bundle (file ∷ files))) before plain
-    (ap split_lines lines ∙ told ∙ ap (λ (ks : List (List ℕ)). Some ([], given.Bundle, ks)) (sym lines)) (pieces (bundle (file ∷ files)))
+    split_behind pieces script (bundle (file ∷ files)) (bundle (file ∷ files)) shape.Bundle (physical_lines (bundle (file ∷ files))) before plain
+    (ap split_lines lines ∙ told ∙ ap (λ (ks : List (List ℕ)). Some ([], shape.Bundle, ks)) (sym lines)) (pieces (bundle (file ∷ files)))
   where
     n : ℕ
     n = length file.bytes
@@ -128,7 +128,7 @@ split_at_bundle pieces script file files held before plain =
     lines = ap physical_lines whole ∙ first_line front (file.bytes ++ bundle files) lacks
 
     told : split_lines ((front ++ 10 ∷ []) ∷ physical_lines (file.bytes ++ bundle files))
-        ≡ Some ([], given.Bundle, (front ++ 10 ∷ []) ∷ physical_lines (file.bytes ++ bundle files))
+        ≡ Some ([], shape.Bundle, (front ++ 10 ∷ []) ∷ physical_lines (file.bytes ++ bundle files))
     told = rw (no_short_mark (behind ++ 10 ∷ []), ends front) refl
 
 -- WHAT IS TOLD OF AN INPUT
@@ -146,10 +146,10 @@ equal_parts : {A B C : Type 0} → (x y : A × B × C) → Some x ≡ Some y →
 equal_parts x y e = let same : x ≡ y = cc in (ap (λ z. z.1) same, ap (λ z. z.2) same)
 
 -- what is said of the policy that lines are told of
-abbrev IsToldOf : Given → List (List ℕ) → List (List ℕ) → Type 0
-IsToldOf told ks ls = (told ≡ given.Bundle → join ks ≢ []) × (length (join ks) ≤ length (join ls))
+abbrev IsToldOf : InputShape → List (List ℕ) → List (List ℕ) → Type 0
+IsToldOf told ks ls = (told ≡ shape.Bundle → join ks ≢ []) × (length (join ks) ≤ length (join ls))
 
-one_line_more : (l : List ℕ) (ls front ks : List (List ℕ)) (told : Given) (p : Parts) → IsToldOf p.1 p.2 ls
+one_line_more : (l : List ℕ) (ls front ks : List (List ℕ)) (told : InputShape) (p : Parts) → IsToldOf p.1 p.2 ls
     → (let some : Option Parts = Some (l ∷ p.0, p.1, p.2) in some) ≡ Some (front, told, ks) → IsToldOf told ks (l ∷ ls)
 one_line_more l ls front ks told p both e =
     let same = equal_parts (l ∷ p.0, p.1, p.2) (front, told, ks) e in (
@@ -158,38 +158,38 @@ one_line_more l ls front ks told p both e =
     )
 
 -- lines that are told of as a bundle are not empty, and no lines are more than all
-told_lines : (ls front ks : List (List ℕ)) (told : Given) → split_lines ls ≡ Some (front, told, ks) → IsToldOf told ks ls
+told_lines : (ls front ks : List (List ℕ)) (told : InputShape) → split_lines ls ≡ Some (front, told, ks) → IsToldOf told ks ls
 told_lines [] front ks told e = absurd cc
 told_lines (l ∷ ls) front ks told e = by (is_mark l) (is_header l) refl (λ f k t r. told_lines ls f k t r) e
   where
-    more : (o : Option Parts) → split_lines ls ≡ o → ((f k : List (List ℕ)) (t : Given) → split_lines ls ≡ Some (f, t, k) → IsToldOf t k ls)
+    more : (o : Option Parts) → split_lines ls ≡ o → ((f k : List (List ℕ)) (t : InputShape) → split_lines ls ≡ Some (f, t, k) → IsToldOf t k ls)
         → option_map {U = Parts} (λ (parts : Parts). (l ∷ parts.0, parts.1, parts.2)) o ≡ Some (front, told, ks) → IsToldOf told ks (l ∷ ls)
     more None is rest e = absurd cc
     more (Some p) is rest e = one_line_more l ls front ks told p (rest p.0 p.2 p.1 is) e
 
-    by : (m h : Bool) → is_header l ≡ h → ((f k : List (List ℕ)) (t : Given) → split_lines ls ≡ Some (f, t, k) → IsToldOf t k ls)
-        → (if m then Some ([], given.Alone, ls) else (if h then Some ([], given.Bundle, l ∷ ls) else option_map {U = Parts} (λ (parts : Parts). (l ∷ parts.0, parts.1, parts.2)) (split_lines ls))) ≡ Some (front, told, ks)
+    by : (m h : Bool) → is_header l ≡ h → ((f k : List (List ℕ)) (t : InputShape) → split_lines ls ≡ Some (f, t, k) → IsToldOf t k ls)
+        → (if m then Some ([], shape.OneText, ls) else (if h then Some ([], shape.Bundle, l ∷ ls) else option_map {U = Parts} (λ (parts : Parts). (l ∷ parts.0, parts.1, parts.2)) (split_lines ls))) ≡ Some (front, told, ks)
         → IsToldOf told ks (l ∷ ls)
     by true h is rest e =
-        let same = equal_parts ([], given.Alone, ls) (front, told, ks) e in (
-          λ bundled none. absurd (let no : given.Alone ≡ given.Bundle = same.0 ∙ bundled in cc),
+        let same = equal_parts ([], shape.OneText, ls) (front, told, ks) e in (
+          λ bundled none. absurd (let no : shape.OneText ≡ shape.Bundle = same.0 ∙ bundled in cc),
           subst (λ (z : List (List ℕ)). length (join z) ≤ length (join (l ∷ ls))) same.1 (omega (arith, length-append l (join ls))),
         )
     by false true is rest e =
-        let same = equal_parts ([], given.Bundle, l ∷ ls) (front, told, ks) e in (
+        let same = equal_parts ([], shape.Bundle, l ∷ ls) (front, told, ks) e in (
           λ bundled none. joined_some l ls (header_some l is) (ap join same.1 ∙ none),
           subst (λ (z : List (List ℕ)). length (join z) ≤ length (join (l ∷ ls))) same.1 (omega arith),
         )
     by false false is rest e = more (split_lines ls) refl rest e
 
 -- a policy that is told of as a bundle is not empty, and no policy is longer than the input
-pub told_text : ((text : List ℕ) → join (physical_lines text) ≡ text) → (input script text : List ℕ) (form : Given) → split_text input ≡ Some (script, form, text)
-    → (form ≡ given.Bundle → text ≢ []) × (length text ≤ length input)
+pub told_text : ((text : List ℕ) → join (physical_lines text) ≡ text) → (input script text : List ℕ) (form : InputShape) → split_text input ≡ Some (script, form, text)
+    → (form ≡ shape.Bundle → text ≢ []) × (length text ≤ length input)
 told_text pieces input script text form e = by (split_lines (physical_lines input)) refl e
   where
     by : (o : Option Parts) → split_lines (physical_lines input) ≡ o
-        → option_map {U = List ℕ × Given × List ℕ} (λ (parts : Parts). (join parts.0, parts.1, join parts.2)) o ≡ Some (script, form, text)
-        → (form ≡ given.Bundle → text ≢ []) × (length text ≤ length input)
+        → option_map {U = List ℕ × InputShape × List ℕ} (λ (parts : Parts). (join parts.0, parts.1, join parts.2)) o ≡ Some (script, form, text)
+        → (form ≡ shape.Bundle → text ≢ []) × (length text ≤ length input)
     by None is e = absurd cc
     by (Some p) is e =
         let same = equal_parts (join p.0, p.1, join p.2) (script, form, text) e in

@@ -1,7 +1,7 @@
 -- What `edit` writes for what it wrote.
 use Rattle.std.specs.Prelude.{◌≡◌, ℕ, List, Ok}
 use Rattle.std.specs.Option.{option_map}
-use Rattle.sudoers_run.specs.declared.given.Given.{Given}
+use Rattle.sudoers_run.specs.declared.input_shape.InputShape.{InputShape}
 use Rattle.sudoers_run.specs.Edit.{output_of, split_text}
 
 -- What `edit` wrote, given to it again, with no edit taken back then: it writes the first policy behind its script, in the same form, byte
@@ -9,4 +9,4 @@ use Rattle.sudoers_run.specs.Edit.{output_of, split_text}
 pub record LeadsBack (input out : List ℕ) : Type 0 where
   pub back : List ℕ
   pub again : output_of 0 0 out ≡ Ok back
-  pub policy : option_map {U = Given × List ℕ} (λ parts. (parts.1, parts.2)) (split_text back) ≡ option_map {U = Given × List ℕ} (λ parts. (parts.1, parts.2)) (split_text input)
+  pub policy : option_map {U = InputShape × List ℕ} (λ parts. (parts.1, parts.2)) (split_text back) ≡ option_map {U = InputShape × List ℕ} (λ parts. (parts.1, parts.2)) (split_text input)

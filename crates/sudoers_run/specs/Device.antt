@@ -22,8 +22,8 @@ abbrev pub Rose : ℕ → ℕ → Type 0
 Rose old new = (old < new) ⊎ (new ≡ 2 ^ 64 - 1)
 
 -- one more, up to the greatest number that is counted
-abbrev pub counted_up : ℕ → ℕ
-counted_up n = min (n + 1) (2 ^ 64 - 1)
+abbrev pub saturating_next : ℕ → ℕ
+saturating_next n = min (n + 1) (2 ^ 64 - 1)
 
 -- so many more, up to the greatest number that is counted
 abbrev pub counted_by : ℕ → ℕ → ℕ
@@ -32,7 +32,7 @@ counted_by count n = min (n + count) (2 ^ 64 - 1)
 -- The count of failures goes up with a failure, and stays with anything else.
 abbrev pub CountsFailures : {A : Type 0} → ℕ → ℕ → Result A DeviceFailed → Type 0
 CountsFailures old new (Ok x) = new ≡ old
-CountsFailures old new (Err failed) = new ≡ counted_up old
+CountsFailures old new (Err failed) = new ≡ saturating_next old
 
 -- at most as many bytes as the buffer has
 abbrev pub IsWithin : Pulled → List ℕ → Type 0
@@ -46,7 +46,7 @@ Takes old new Interrupted buf = Keeps old new
 
 -- The count of calls that offer room goes up with such a call, and stays with one that offers none.
 abbrev pub CountsOffers : ℕ → ℕ → List ℕ → Type 0
-CountsOffers old new buf = MatchBool (nat_lt 0 (length buf)) (new ≡ counted_up old) (new ≡ old)
+CountsOffers old new buf = MatchBool (nat_lt 0 (length buf)) (new ≡ saturating_next old) (new ≡ old)
 
 -- The count of bytes goes up by those that are given, and stays with anything else.
 abbrev pub CountsBytes : ℕ → ℕ → Result Pulled DeviceFailed → Type 0
@@ -56,7 +56,7 @@ CountsBytes old new (Err failed) = new ≡ old
 
 -- The count of ends goes up with no bytes where there is room, and stays with anything else.
 abbrev pub CountsEnds : ℕ → ℕ → Result Pulled DeviceFailed → List ℕ → Type 0
-CountsEnds old new (Ok (Bytes n)) buf = MatchBool ((n == 0) && nat_lt 0 (length buf)) (new ≡ counted_up old) (new ≡ old)
+CountsEnds old new (Ok (Bytes n)) buf = MatchBool ((n == 0) && nat_lt 0 (length buf)) (new ≡ saturating_next old) (new ≡ old)
 CountsEnds old new (Ok Interrupted) buf = new ≡ old
 CountsEnds old new (Err failed) buf = new ≡ old
 
@@ -66,7 +66,7 @@ pub record Pulls (result : Result Pulled DeviceFailed) (buf : List ℕ) (old new
   pub bytes : IfOk result (λ pulled. Takes old.remaining new.remaining pulled buf)
   pub kept : OnErr result (Keeps old.remaining new.remaining)
   pub failed : CountsFailures old.failures new.failures result
-  pub asked : new.pulls ≡ counted_up old.pulls
+  pub asked : new.pulls ≡ saturating_next old.pulls
   pub offered : CountsOffers old.offers new.offers buf
   pub given : CountsBytes old.given new.given result
   pub ended : CountsEnds old.ends new.ends result buf

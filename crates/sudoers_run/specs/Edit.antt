@@ -18,8 +18,8 @@ use Rattle.sudoers_run.specs.declared.fault.LayerFault.TheVariants as layer
 use Rattle.sudoers_run.specs.declared.fault.ToolFault.{ToolFault}
 use Rattle.sudoers_run.specs.declared.fault.ToolFault.TheVariants as tool
 use Rattle.sudoers_edit.specs.Memory.{IsOfFiles}
-use Rattle.sudoers_run.specs.declared.given.Given.{Given}
-use Rattle.sudoers_run.specs.declared.given.Given.TheVariants as given
+use Rattle.sudoers_run.specs.declared.input_shape.InputShape.{InputShape}
+use Rattle.sudoers_run.specs.declared.input_shape.InputShape.TheVariants as shape
 use Rattle.sudoers_run.specs.Faults.{IsScriptFault, IsRefusal}
 use Rattle.sudoers_edit_script.specs.Physical.{physical_lines}
 use Rattle.sudoers_edit.specs.Editing.{run_all, inv_run}
@@ -40,15 +40,15 @@ abbrev pub is_header : List ℕ → Bool
 is_header line = bytes_eq (take 3 line) (codes "%% ") && ends_in_lf line
 
 -- the lines before the first mark or header, in which form the policy is given, and its lines
-abbrev pub split_lines : List (List ℕ) → Option (List (List ℕ) × Given × List (List ℕ))
+abbrev pub split_lines : List (List ℕ) → Option (List (List ℕ) × InputShape × List (List ℕ))
 split_lines [] = None
 split_lines (line ∷ lines) =
-    if is_mark line then Some ([], given.Alone, lines)
-    else (if is_header line then Some ([], given.Bundle, line ∷ lines)
+    if is_mark line then Some ([], shape.OneText, lines)
+    else (if is_header line then Some ([], shape.Bundle, line ∷ lines)
     else option_map (λ parts. (line ∷ parts.0, parts.1, parts.2)) (split_lines lines))
 
 -- the script, in which form the policy is given after it, and the text of the policy
-abbrev pub split_text : List ℕ → Option (List ℕ × Given × List ℕ)
+abbrev pub split_text : List ℕ → Option (List ℕ × InputShape × List ℕ)
 split_text text = option_map (λ parts. (join parts.0, parts.1, join parts.2)) (split_lines (physical_lines text))
 
 abbrev pub by_bundle : {A : Type 0} → Result A ℕ → Result A ToolFault
@@ -56,14 +56,14 @@ by_bundle (Ok x) = Ok x
 by_bundle (Err file) = Err (tool.BadBundle file)
 
 -- the files that are given, or the number of the first that is broken
-abbrev pub files_given : Given → List ℕ → Result (List NamedFile) ToolFault
-files_given given.Alone text = Ok (one_file text)
-files_given given.Bundle text = by_bundle (files_in text)
+abbrev pub files_given : InputShape → List ℕ → Result (List NamedFile) ToolFault
+files_given shape.OneText text = Ok (one_file text)
+files_given shape.Bundle text = by_bundle (files_in text)
 
 -- files as they were given
-abbrev pub given_back : Given → List NamedFile → List ℕ
-given_back given.Alone files = 37 ∷ 37 ∷ 10 ∷ flat_map (λ (file : NamedFile). file.bytes) files
-given_back given.Bundle files = bundle files
+abbrev pub given_back : InputShape → List NamedFile → List ℕ
+given_back shape.OneText files = 37 ∷ 37 ∷ 10 ∷ flat_map (λ (file : NamedFile). file.bytes) files
+given_back shape.Bundle files = bundle files
 
 infixl 10 ◌>>=◌
 abbrev pub ◌>>=◌ : {A B : Type 0} → Result A LayerFault → (A → Result B LayerFault) → Result B LayerFault
@@ -83,13 +83,13 @@ by_edit (Ok x) = Ok x
 by_edit (Err refused) = Err (layer.Edit refused.0 refused.1)
 
 -- the spelling of the inverse edits, and the policy's files, unless the edits are too many
-abbrev pub output_text : Given → List Edit → Loaded → Result (List ℕ) LayerFault
+abbrev pub output_text : InputShape → List Edit → Loaded → Result (List ℕ) LayerFault
 output_text form inverse policy =
     if nat_lt edit_limit (length inverse) then Err (layer.Script script.TooMany)
     else Ok (spelling inverse ++ given_back form (files_of policy))
 
 -- what comes of edits of this policy: the inverse script and the edited policy, or the first refusal
-abbrev pub output_of_edits : Given → List Edit → Loaded → Result (List ℕ) LayerFault
+abbrev pub output_of_edits : InputShape → List Edit → Loaded → Result (List ℕ) LayerFault
 output_of_edits form edits policy = by_edit (run_all 0 edits policy) >>= (λ new. output_text form (inv_run edits policy) new)
 
 -- how many of the edits stand after up to `undo` of them were taken back, and up to `redo` of these made again
@@ -101,12 +101,12 @@ abbrev pub edits_that_stand : (undo redo : ℕ) → List Edit → List Edit
 edits_that_stand undo redo edits = take (how_many_stand undo redo (length edits)) edits
 
 -- what comes of those edits, unless one of all the edits is refused
-abbrev pub edited_output : Given → (undo redo : ℕ) → List Edit → Loaded → Result (List ℕ) LayerFault
+abbrev pub edited_output : InputShape → (undo redo : ℕ) → List Edit → Loaded → Result (List ℕ) LayerFault
 edited_output form undo redo edits policy =
     by_edit (run_all 0 edits policy) >>= (λ _. output_of_edits form (edits_that_stand undo redo edits) policy)
 
 -- the same of a script and files; or the first fault of the script, of the files, of the edits
-abbrev pub edit_output : Given → (undo redo : ℕ) → List ℕ → List NamedFile → Result (List ℕ) LayerFault
+abbrev pub edit_output : InputShape → (undo redo : ℕ) → List ℕ → List NamedFile → Result (List ℕ) LayerFault
 edit_output form undo redo script files =
     by_script (reading script) >>= (λ edits. by_load (load_of files) >>= (λ policy. edited_output form undo redo edits policy))
 
@@ -118,7 +118,7 @@ abbrev pub of_given : (List NamedFile → Result (List ℕ) ToolFault) → Resul
 of_given next (Ok files) = next files
 of_given next (Err fault) = Err fault
 
-abbrev pub of_parts : (undo redo : ℕ) → Option (List ℕ × Given × List ℕ) → Result (List ℕ) ToolFault
+abbrev pub of_parts : (undo redo : ℕ) → Option (List ℕ × InputShape × List ℕ) → Result (List ℕ) ToolFault
 of_parts undo redo None = Err tool.NoMark
 of_parts undo redo (Some parts) = of_given (λ files. by_layer (edit_output parts.1 undo redo parts.0 files)) (files_given parts.1 parts.2)
 

@@ -11,8 +11,8 @@ ghost use Rattle.sudoers_run.specs.Edit.{files_given as the_files_given, given_b
 
 use crate::device::{Sink, Source};
 use crate::fault::{LayerFault, ToolFault};
-use crate::given::Given;
 use crate::input::read_all;
+use crate::input_shape::InputShape;
 use crate::loading::load_found;
 use crate::output::write_all;
 use crate::undoing::{redo_up_to, undo_up_to};
@@ -38,7 +38,7 @@ const ALONE: &[u8] = b"policy";
 
 /// Reads a script and a policy: the mark and the text of one file, or a bundle. Makes the edits. Then takes back up to `undo` of them, the
 /// last first, and makes up to `redo` of these again. Writes the script that takes back the edits that stand then, and the policy to which
-/// they lead, in the form in which it was read.
+/// they lead, in the shape in which it was read.
 ///
 /// # Errors
 ///
@@ -79,17 +79,17 @@ fn edit_input(alloc: Global, input: &[u8], undo: u32, redo: u32) -> Result<Vec<u
     ensures ok { IfOk result (λ out. output_of undo redo input.now ≡ Ok out.items) }
     ensures fault { IfErr result (λ fault. TellsTool undo redo fault input.now × IsAnswerFault fault) }
 {
-    let Some((script, form, text)) = split_input(input) else {
+    let Some((script, shape, text)) = split_input(input) else {
         return Err(ToolFault::NoMark);
     };
-    let files = files_given(alloc, form, text)?;
-    let out = edit_given(alloc, script, form, files.as_slice(), undo, redo)?;
+    let files = files_given(alloc, shape, text)?;
+    let out = edit_given(alloc, script, shape, files.as_slice(), undo, redo)?;
     Ok(out)
 }
 
-/// Returns the script before the first line of `input` that is the mark or a header, the form in which the policy is given, and its text.
+/// Returns the script before the first line of `input` that is the mark or a header, the shape in which the policy is given, and its text.
 /// Returns nothing if there is no such line.
-fn split_input(input: &[u8]) -> Option<(&[u8], Given, &[u8])>
+fn split_input(input: &[u8]) -> Option<(&[u8], InputShape, &[u8])>
     ensures { option_map (λ parts. (parts.0.now, parts.1, parts.2.now)) result ≡ split_text input.now }
 {
     physical_lines_join();
@@ -98,10 +98,10 @@ fn split_input(input: &[u8]) -> Option<(&[u8], Given, &[u8])>
         let rest = &input[at..];
         let (line, after) = rest.split_at(first_line_len(rest));
         if is_mark(line) {
-            return Some((&input[..at], Given::Alone, after));
+            return Some((&input[..at], InputShape::OneText, after));
         }
         if is_header(line) {
-            return Some((&input[..at], Given::Bundle, rest));
+            return Some((&input[..at], InputShape::Bundle, rest));
         }
         at += line.len();
     }
@@ -115,15 +115,15 @@ fn is_header(line: &[u8]) -> bool
     line.starts_with(HEADER) && ends_in_lf(line)
 }
 
-/// Returns the files that are given in the form `form` by the text `text`.
-fn files_given(alloc: Global, form: Given, text: &[u8]) -> Result<Vec<NamedFile>, ToolFault>
-    ensures ok { IfOk result (λ files. the_files_given form text.now ≡ Ok files.items) }
+/// Returns the files that are given in the shape `shape` by the text `text`.
+fn files_given(alloc: Global, shape: InputShape, text: &[u8]) -> Result<Vec<NamedFile>, ToolFault>
+    ensures ok { IfOk result (λ files. the_files_given shape text.now ≡ Ok files.items) }
     ensures fault { IfErr result (λ fault. (fault ≡ ToolFault.Layer LayerFault.NoMemory)
-        ⊎ ((file : ℕ) × (fault ≡ ToolFault.BadBundle file) × (the_files_given form text.now ≡ Err fault))) }
+        ⊎ ((file : ℕ) × (fault ≡ ToolFault.BadBundle file) × (the_files_given shape text.now ≡ Err fault))) }
 {
-    match form {
-        Given::Alone => Ok(one_file(alloc, text)?),
-        Given::Bundle => Ok(read_bundle(alloc, text)?),
+    match shape {
+        InputShape::OneText => Ok(one_file(alloc, text)?),
+        InputShape::Bundle => Ok(read_bundle(alloc, text)?),
     }
 }
 
@@ -150,7 +150,7 @@ fn is_mark(line: &[u8]) -> bool
 }
 
 /// Applies the script `script` to the policy of the files `files`. Then takes back up to `undo` of its edits, the last first, and makes
-/// up to `redo` of these again. Returns the script that takes back the edits that stand then, and after it the files in the form `form`.
+/// up to `redo` of these again. Returns the script that takes back the edits that stand then, and after it the files in the shape `shape`.
 /// [`run_edit`] and the files of a disk both come to this.
 ///
 /// # Errors
@@ -159,34 +159,34 @@ fn is_mark(line: &[u8]) -> bool
 pub fn edit_given(
     alloc: Global,
     script: &[u8],
-    form: Given,
+    shape: InputShape,
     files: &[NamedFile],
     undo: u32,
     redo: u32,
 ) -> Result<Vec<u8>, LayerFault>
-    ensures output { MatchResult result (λ out. output_of_edit form undo redo script.now files.now ≡ Ok out.items)
-        (λ fault. TellsLayer fault (output_of_edit form undo redo script.now files.now)) }
+    ensures output { MatchResult result (λ out. output_of_edit shape undo redo script.now files.now ≡ Ok out.items)
+        (λ fault. TellsLayer fault (output_of_edit shape undo redo script.now files.now)) }
     ensures named { IfErr result IsInputFault }
 {
     named_are_written();
     let edits = read_script(alloc, script)?;
     let policy = load_found(alloc, files)??;
-    edited(alloc, form, edits.as_slice(), policy, undo, redo)
+    edited(alloc, shape, edits.as_slice(), policy, undo, redo)
 }
 
 /// Applies `edits` to `policy`, takes back up to `undo` of them, and makes up to `redo` of these again. Returns the inverse script of
 /// the edits that then stand, and the edited policy.
 fn edited(
     alloc: Global,
-    form: Given,
+    shape: InputShape,
     edits: &[Edit],
     policy: Policy,
     undo: u32,
     redo: u32,
 ) -> Result<Vec<u8>, LayerFault>
     requires { AreNamed edits.now }
-    ensures output { MatchResult result (λ out. edited_output form undo redo edits.now policy ≡ Ok out.items)
-        (λ fault. TellsLayer fault (edited_output form undo redo edits.now policy)) }
+    ensures output { MatchResult result (λ out. edited_output shape undo redo edits.now policy ≡ Ok out.items)
+        (λ fault. TellsLayer fault (edited_output shape undo redo edits.now policy)) }
     ensures named { IfErr result IsInputFault }
 {
     let mut editor = Editor::new(policy);
@@ -195,43 +195,43 @@ fn edited(
     redo_up_to(&mut editor, redo)?;
     let inverse = editor.inverse()?;
     named_are_written();
-    output(alloc, form, &inverse, editor.policy())
+    output(alloc, shape, &inverse, editor.policy())
 }
 
-/// Returns the script of `inverse`, and the files of `policy` in the form `form`.
+/// Returns the script of `inverse`, and the files of `policy` in the shape `shape`.
 fn output(
     alloc: Global,
-    form: Given,
+    shape: InputShape,
     inverse: &Edits,
     policy: &Policy,
 ) -> Result<Vec<u8>, LayerFault>
     requires { AreNamed inverse.now }
-    ensures output { MatchResult result (λ out. output_text form inverse.now policy.now ≡ Ok out.items)
-        (λ fault. TellsLayer fault (output_text form inverse.now policy.now)) }
+    ensures output { MatchResult result (λ out. output_text shape inverse.now policy.now ≡ Ok out.items)
+        (λ fault. TellsLayer fault (output_text shape inverse.now policy.now)) }
     ensures named { IfErr result IsInputFault }
 {
     named_are_written();
     let mut out = write_script(alloc, inverse.as_slice())?;
     let files = policy.named_files()?;
-    append_given(alloc, &mut out, form, files.as_slice())?;
+    append_given(alloc, &mut out, shape, files.as_slice())?;
     Ok(out)
 }
 
-/// Appends the files `files` in the form `form`.
+/// Appends the files `files` in the shape `shape`.
 fn append_given(
     alloc: Global,
     out: &mut Vec<u8>,
-    form: Given,
+    shape: InputShape,
     files: &[NamedFile],
 ) -> Result<(), AllocError>
-    ensures { OnOk result (out.new.items ≡ out.old.items ++ given_back form files.now) }
+    ensures { OnOk result (out.new.items ≡ out.old.items ++ given_back shape files.now) }
 {
-    match form {
-        Given::Alone => {
+    match shape {
+        InputShape::OneText => {
             out.extend_from_slice(MARK)?;
             append_bytes(out, files)
         }
-        Given::Bundle => append_bundle(alloc, out, files),
+        InputShape::Bundle => append_bundle(alloc, out, files),
     }
 }
 

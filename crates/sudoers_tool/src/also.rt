@@ -3,7 +3,7 @@
 use crate::budget::Budget;
 use crate::editing::SCRIPT;
 use crate::files::{Disk, name_of};
-use crate::terminal::tell;
+use crate::terminal::print_line;
 use crate::trouble::Trouble;
 use clap::{Arg, ArgAction, ArgMatches};
 use std::alloc::{AllocError, Global};
@@ -68,7 +68,7 @@ fn added_file(
 }
 
 /// Tells of each file of `--also` to which no line of the edited policy `root` leads. `edited` is the inverse script and the bundle.
-pub fn tell_off_walk(
+pub fn name_off_walk(
     rt: &HostRuntime,
     words: &ArgMatches<'_>,
     root: &str,
@@ -80,7 +80,7 @@ pub fn tell_off_walk(
     let walked = walked_files(rt.alloc(), root, edited)?;
     for name in names {
         if !has_name(walked.as_slice(), name.as_bytes()) {
-            tell(rt, &[name.as_bytes(), OFF_WALK])?;
+            print_line(rt, &[name.as_bytes(), OFF_WALK])?;
         }
     }
     Ok(())

@@ -1,6 +1,6 @@
 //! The subcommand `edit`: its command line, and its run.
 
-use crate::also::{ALSO, add_files, also_word, tell_off_walk, trouble_of};
+use crate::also::{ALSO, add_files, also_word, name_off_walk, trouble_of};
 use crate::budget::Budget;
 use crate::files::{STDIN, disk, open};
 use crate::terminal::output;
@@ -9,7 +9,7 @@ use clap::{Arg, ArgMatches, Command};
 use std::alloc::{AllocError, Global};
 use std::io::{Read, Write};
 use sudoers_files::gather;
-use sudoers_run::{Counted, Given, INPUT_LIMIT, ToolFault, edit_given, read_all, run_edit};
+use sudoers_run::{Counted, INPUT_LIMIT, InputShape, ToolFault, edit_given, read_all, run_edit};
 use sudoers_tree::NamedFile;
 
 /// The name of the subcommand.
@@ -114,12 +114,12 @@ pub fn edit_policy(rt: &HostRuntime, words: &ArgMatches<'_>) -> Result<u8, Troub
     let edited = edit_given(
         rt.alloc(),
         script.as_slice(),
-        Given::Bundle,
+        InputShape::Bundle,
         files.as_slice(),
         undo,
         redo,
     )?;
-    tell_off_walk(rt, words, root_of(words), edited.as_slice())?;
+    name_off_walk(rt, words, root_of(words), edited.as_slice())?;
     match output(rt).write_all(edited.as_slice()) {
         Ok(()) => Ok(0),
         Err(_) => Err(Trouble::from(ToolFault::Write)),

@@ -12,7 +12,7 @@ mod trouble;
 use crate::editing::{EDIT, edit_policy, edit_stream, edit_words, wrong_edit_words};
 use crate::files::{STDIN, disk, is_folder};
 use crate::listing::{list_file, list_words};
-use crate::terminal::{errors, output, tell};
+use crate::terminal::{errors, output, print_line};
 use crate::trouble::Trouble;
 use clap::error::ErrorKind;
 use clap::{Arg, ArgAction, ArgMatches, Command, Error};
@@ -39,7 +39,7 @@ const EXIT_STATUS: &str =
 fn main(rt: HostRuntime) -> ExitCode {
     match run(&rt) {
         Ok(code) => code,
-        Err(fault) => told(&rt, &Trouble::from(fault)),
+        Err(fault) => report_fault(&rt, &Trouble::from(fault)),
     }
 }
 
@@ -66,7 +66,7 @@ fn run(rt: &HostRuntime) -> Result<ExitCode, ToolFault> {
                     &command.error(ErrorKind::InvalidValue, message.as_str())?,
                 )
             }
-            None => Ok(obey(rt, &matches)),
+            None => Ok(run_command(rt, &matches)),
         },
         Err(error) => show_usage(rt, &error),
     }
@@ -103,14 +103,14 @@ fn named_command<'a>(alloc: Global, matches: &ArgMatches<'_>) -> Result<Command<
 }
 
 /// Runs the command of a command line that was understood, and prints its error.
-fn obey(rt: &HostRuntime, matches: &ArgMatches<'_>) -> ExitCode {
+fn run_command(rt: &HostRuntime, matches: &ArgMatches<'_>) -> ExitCode {
     match matches.subcommand() {
         Some((name, words)) if name != EDIT => {
             let file = words.get_str("FILE").unwrap_or(STDIN);
-            ended(rt, without_file(run_on_file(rt, name, file, words)))
+            exit_code_of(rt, without_file(run_on_file(rt, name, file, words)))
         }
-        Some((_, words)) => ended(rt, edit_policy(rt, words)),
-        None => ended(rt, without_file(edit_stream(rt, 0, 0))),
+        Some((_, words)) => exit_code_of(rt, edit_policy(rt, words)),
+        None => exit_code_of(rt, without_file(edit_stream(rt, 0, 0))),
     }
 }
 
@@ -138,10 +138,10 @@ fn run_on_file(
 }
 
 /// Returns the exit status of a command that ended so, and prints its error.
-fn ended(rt: &HostRuntime, outcome: Result<u8, Trouble>) -> ExitCode {
+fn exit_code_of(rt: &HostRuntime, outcome: Result<u8, Trouble>) -> ExitCode {
     match outcome {
         Ok(status) => ExitCode::from(status),
-        Err(trouble) => told(rt, &trouble),
+        Err(trouble) => report_fault(rt, &trouble),
     }
 }
 
@@ -334,9 +334,9 @@ fn check_file(rt: &HostRuntime, file: &str, words: &ArgMatches<'_>) -> Result<u8
 }
 
 /// Prints an error, and returns exit status 1. Prints nothing if memory runs out.
-fn told(rt: &HostRuntime, trouble: &Trouble) -> ExitCode {
+fn report_fault(rt: &HostRuntime, trouble: &Trouble) -> ExitCode {
     if let Ok(text) = trouble.text(rt.alloc()) {
-        let _ = tell(rt, &[text.as_slice()]);
+        let _ = print_line(rt, &[text.as_slice()]);
     }
     ExitCode::from(1)
 }

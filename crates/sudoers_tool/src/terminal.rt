@@ -37,7 +37,7 @@ pub fn errors(rt: &HostRuntime) -> Shown<Stderr> {
 /// # Errors
 ///
 /// Memory ran out.
-pub fn tell(rt: &HostRuntime, parts: &[&[u8]]) -> Result<(), AllocError> {
+pub fn print_line(rt: &HostRuntime, parts: &[&[u8]]) -> Result<(), AllocError> {
     let mut message = Vec::from_slice(rt.alloc(), b"sudoers_tool: ")?;
     for part in parts {
         message.extend_from_slice(part)?;

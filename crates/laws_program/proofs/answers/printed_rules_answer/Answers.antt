@@ -22,5 +22,4 @@ returns c = record {
 
     law : ReadLaw
     law lines sound size = as_read reads (printed (rules_of lines)) (lines_of (rules_of lines)) (c.printed_rules_are_read.ensures lines sound size)
-
     answers = same_answer law c.rewritten_lists_are_alike.ensures c.equal_specs_answer_same.ensures c.read_member_matches_same.ensures

@@ -51,10 +51,10 @@ returns-clause-output c =
     c.in_ok-inverse.ensures.exact ∙ ap (λ es. inv_run es (first_of redone)) r.stands ∙ ap (inv_run stood) r.first in
     let run : run_all 0 stood policy ≡ Ok now =
     sym (ap (λ es. run_all 0 es (first_of redone)) r.stands ∙ ap (run_all 0 stood) r.first) ∙ c.policy.ensures.accepted in
-    let same : output_text c.args.form c.in_ok-inverse.inverse now ≡ edited_output c.args.form c.args.undo c.args.redo edits policy =
-    ap (λ es. output_text c.args.form es now) inverse
-    ∙ sym (ap (λ r. by_edit r >>= output_text c.args.form (inv_run stood policy)) run)
-    ∙ sym (ap (λ r. by_edit r >>= (λ _. output_of_edits c.args.form stood policy)) r.accepted) in
+    let same : output_text c.args.shape c.in_ok-inverse.inverse now ≡ edited_output c.args.shape c.args.undo c.args.redo edits policy =
+    ap (λ es. output_text c.args.shape es now) inverse
+    ∙ sym (ap (λ r. by_edit r >>= output_text c.args.shape (inv_run stood policy)) run)
+    ∙ sym (ap (λ r. by_edit r >>= (λ _. output_of_edits c.args.shape stood policy)) r.accepted) in
     subst (λ (z : Result (List ℕ) LayerFault). MatchResult c.output.result (λ out. z ≡ Ok out.items) (λ fault. TellsLayer fault z)) same c.output.ensures.output
 
 pub output-requires : goal.output-requires

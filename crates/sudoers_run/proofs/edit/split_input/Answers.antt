@@ -2,7 +2,7 @@ use Rattle.std.proofs.Common.{◌≡◌, ◌∷◌, ◌++◌, ◌+◌, ◌-◌, 
 use Rattle.std.proofs.lemmas.List.{take_rest, drop-drop, length-drop, take-append-drop}
 use Rattle.std.proofs.Math.Seq.{take-add}
 use Rattle.std.specs.Option.{option_map}
-use Rattle.sudoers_run.specs.declared.given.Given.TheVariants as given
+use Rattle.sudoers_run.specs.declared.input_shape.InputShape.TheVariants as shape
 use Rattle.sudoers_edit_script.specs.Physical.{physical_lines}
 use Rattle.sudoers_run.specs.Edit.{split_lines}
 use Rattle.sudoers_run.proofs.EditLemmas.{parts_after, split_more, mark_found, header_found}
@@ -32,7 +32,7 @@ returns-then-is_header c =
     let whole : line ++ after ≡ take (length input - at) (drop at input) =
     ap (λ (z : List ℕ). z ++ after) c.split_at.ensures.front ∙ ap (λ (z : List ℕ). take n (take (length input - at) (drop at input)) ++ z) c.split_at.ensures.back ∙ take-append-drop n (take (length input - at) (drop at input)) in
     sym (header_found (take at input) line after (c.physical_lines_join.ensures after) (sym c.if-is_mark.ensures) (sym c.if-is_header.ensures)
-    ∙ ap (λ (z : List ℕ). Some (take at input, given.Bundle, z)) whole)
+    ∙ ap (λ (z : List ℕ). Some (take at input, shape.Bundle, z)) whole)
     ∙ ap (λ ls. option_map (parts_after (take at input)) (split_lines ls)) (sym cut)
     ∙ c.loop-at.invariant.1
 
