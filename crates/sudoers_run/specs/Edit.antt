@@ -39,7 +39,7 @@ is_mark _ = false
 abbrev pub is_header : List ℕ → Bool
 is_header line = bytes_eq (take 3 line) (codes "%% ") && ends_in_lf line
 
--- the lines before the first mark or header, in which form the policy is given, and its lines
+-- the lines before the first mark or header, in which shape the policy is given, and its lines
 abbrev pub split_lines : List (List ℕ) → Option (List (List ℕ) × InputShape × List (List ℕ))
 split_lines [] = None
 split_lines (line ∷ lines) =
@@ -47,7 +47,7 @@ split_lines (line ∷ lines) =
     else (if is_header line then Some ([], shape.Bundle, line ∷ lines)
     else option_map (λ parts. (line ∷ parts.0, parts.1, parts.2)) (split_lines lines))
 
--- the script, in which form the policy is given after it, and the text of the policy
+-- the script, in which shape the policy is given after it, and the text of the policy
 abbrev pub split_text : List ℕ → Option (List ℕ × InputShape × List ℕ)
 split_text text = option_map (λ parts. (join parts.0, parts.1, join parts.2)) (split_lines (physical_lines text))
 
