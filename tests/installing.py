@@ -331,7 +331,7 @@ def make_checkout(folder):
     git(folder, "init", "-q")
     git(folder, "add", "-A")
     git(folder, "commit", "-q", "-m", "all", "--allow-empty")
-    return git(folder, "rev-parse", "--short", "HEAD")
+    return git(folder, "rev-parse", "--short=12", "HEAD")
 
 
 def copy_sources(program, top):
