@@ -47,7 +47,7 @@ PATTERNS = ("*.md", "docs/*.md", "crates/*/README.md", "tests/README.md", "bench
 SECONDS = 60
 
 # How many lines a document has at most, where it is short on purpose.
-LIMITS = {"README.md": 160, "CONTRIBUTING.md": 90, "SECURITY.md": 60, "docs/ARCHITECTURE.md": 115, "docs/AUDIT.md": 92}
+LIMITS = {"README.md": 160, "CONTRIBUTING.md": 90, "SECURITY.md": 60, "docs/ARCHITECTURE.md": 115, "docs/AUDIT.md": 92, "docs/DECISIONS.md": 450}
 
 # Commands of `console` blocks, and what runs them: a word of each command line, in order, has to be its beginning.
 ELSEWHERE = (
