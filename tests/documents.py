@@ -48,7 +48,7 @@ PATTERNS += ("tests/README.md", "bench/README.md", "examples/README.md")
 SECONDS = 60
 
 # How many lines a document has at most, where it is short on purpose.
-LIMITS = {"README.md": 160, "CONTRIBUTING.md": 90, "SECURITY.md": 60, "docs/ARCHITECTURE.md": 135, "docs/AUDIT.md": 92}
+LIMITS = {"README.md": 160, "CONTRIBUTING.md": 90, "SECURITY.md": 60, "docs/ARCHITECTURE.md": 135, "docs/AUDIT.md": 100}
 
 # Commands of `console` blocks, and what runs them: a word of each command line, in order, has to be its beginning.
 ELSEWHERE = (
@@ -366,7 +366,7 @@ def run_changelog(program, tally):
 
 
 def run_audit(tally):
-    """AUDIT shows what scripts/audit prints; the files of each command have as many lines; what has contracts is there."""
+    """AUDIT shows what scripts/audit prints; the files of each column have as many lines; what has contracts is there."""
     printed = printed_by("audit")
     tally.note(f"{AUDIT}, tables", stale(printed, marked(AUDIT, "audit"), "audit"))
     rows = [cells_of(line) for line in printed.split("\n")]
@@ -380,8 +380,8 @@ def run_audit(tally):
             with open(path, encoding="utf-8") as file:
                 code += file.read()
     cells = [cell for line in read(AUDIT).split("\n") if line.startswith("| ") for cell in cells_of(line)[1:]]
-    cited = sorted(set(re.findall(r"`(\w+)`", " ".join(cells))))
-    form = r"^(?:pub fn|pub trait|    ensures) {}\b"
+    cited = sorted(set(re.findall(r"`(?:\w+::)?(\w+)`", " ".join(cells))))
+    form = r"^ *(?:pub fn|pub trait|ensures) {}\b"
     missing = [name for name in cited if not re.search(form.format(name), code, re.MULTILINE)]
     tally.note(f"{AUDIT}, contracts", [f"nothing has the contract or the clause {name}" for name in missing])
 
