@@ -19,9 +19,9 @@ So is one whose last header cell is `` `list` answers ``, with `allowed`, `not a
 or an error in that column. Its column `Request` has what bob asks on the host h1:
 options of `list` and a command. PEOPLE are the users and groups.
 
-The pages of PAGES_OF_CRATES have a link to the README of each crate that they are about.
-CHANGELOG.md has a section of the version that the program prints.
-The tables of docs/AUDIT.md are what scripts/audit prints. exported.py looks for devices of proofs in what is exported.
+CHANGELOG.md has a section of the version that the program prints. docs/TRUST.md has a link to each library.
+The tables of docs/AUDIT.md are what scripts/audit prints. The table of the crates in docs/ARCHITECTURE.md and the page
+crates/README.md are what scripts/crates prints. exported.py looks for devices of proofs in what is exported.
 """
 
 import functools
@@ -43,11 +43,20 @@ from program import Wanted, run
 from tally import difference
 
 TOP = os.path.dirname(os.path.dirname(os.path.abspath(__file__)))
-PATTERNS = ("*.md", "docs/*.md", "crates/*/README.md", "tests/README.md", "bench/README.md", "examples/README.md")
+PATTERNS = ("*.md", "docs/*.md", "crates/README.md", "crates/*/README.md")
+PATTERNS += ("tests/README.md", "bench/README.md", "examples/README.md")
 SECONDS = 60
 
 # How many lines a document has at most, where it is short on purpose.
-LIMITS = {"README.md": 160, "CONTRIBUTING.md": 90, "SECURITY.md": 60, "docs/ARCHITECTURE.md": 115, "docs/AUDIT.md": 92, "docs/DECISIONS.md": 450}
+LIMITS = {
+    "README.md": 160,
+    "CONTRIBUTING.md": 90,
+    "SECURITY.md": 60,
+    "docs/ARCHITECTURE.md": 135,
+    "docs/AUDIT.md": 100,
+    "docs/DECISIONS.md": 450,
+    "docs/PROOFS.md": 180,
+}
 
 # Commands of `console` blocks, and what runs them: a word of each command line, in order, has to be its beginning.
 ELSEWHERE = (
@@ -82,13 +91,14 @@ PEOPLE = (
 LIST_WORDS = ("list", "--passwd", "passwd", "--group-file", "group", "--moment", "2026010100Z")
 BOB_ON_H1 = ("-U", "bob", "--host", "h1", "--interfaces", "10.0.0.1/8,127.0.0.1/8")
 
-# The pages that have a link to crates, and the beginnings of the names of these crates.
-PAGES_OF_CRATES = {"docs/ARCHITECTURE.md": ("",), "docs/TRUST.md": ("sudoers_", "laws_")}
+# The page that has a link to each library, what the names of libraries begin with, and the program, which begins so too.
+TRUST = "docs/TRUST.md"
+LIBRARIES = ("sudoers_", "laws_")
 PROGRAM = "sudoers_tool"
 
-# The page that holds what a script prints, and the lines around that.
-AUDIT = "docs/AUDIT.md"
-AUDIT_MARKS = ("<!-- what scripts/audit prints -->\n", "<!-- its end -->\n")
+# The pages that hold what a script prints, and the lines around that in two of them.
+AUDIT, MAP, CRATES = "docs/AUDIT.md", "docs/ARCHITECTURE.md", "crates/README.md"
+MARKS = ("<!-- what scripts/{} prints -->\n", "<!-- its end -->\n")
 
 PRINTS = re.compile(r"`(check|show|convert -f (?:json|sudoers)(?: [^`]+)?)` prints")
 ESCAPES = {"n": b"\n", "r": b"\r", "t": b"\t", "0": b"\0", "\\": b"\\", "|": b"|"}
@@ -192,12 +202,17 @@ def read_row(number, header, cells):
     return Row(number, command, unescaped(policy), b"".join(lines), sudo, what=what)
 
 
+def read(name):
+    """Returns the text of a file of the repository."""
+    with open(os.path.join(TOP, name), encoding="utf-8") as file:
+        return file.read()
+
+
 def read_document(name):
     """Reads the blocks, the rows and the links of a document."""
     document = Document(name)
     block = header = None
-    with open(os.path.join(TOP, name), encoding="utf-8") as file:
-        lines = file.read().split("\n")
+    lines = read(name).split("\n")
     document.lines = len(lines) - 1
     for number, line in enumerate(lines, 1):
         if line.startswith("```"):
@@ -320,54 +335,61 @@ def run_forms(document, tally):
     tally.note(f"{document.name}, length", [f"more than {most} lines"] if document.lines > most else [])
 
 
+def printed_by(script, *words):
+    """Returns what a script prints, or why it stopped."""
+    path = os.path.join(TOP, "scripts", script)
+    done = subprocess.run([sys.executable, path, *words], capture_output=True, timeout=SECONDS, check=False)
+    return (done.stdout if done.returncode == 0 else done.stderr).decode()
+
+
+def marked(name, script):
+    """Returns what a page has between the marks of a script."""
+    return read(name).partition(MARKS[0].format(script))[2].partition(MARKS[1])[0]
+
+
+def stale(printed, shown, script):
+    """Returns where a page shows something else than a script printed."""
+    problems = [f"the page lacks {line}" for line in printed.split("\n") if line not in shown.split("\n")]
+    problems += ["the page has other lines"] if not problems and printed != shown else []
+    return problems and [*problems, f"scripts/{script} --write puts them into the page"]
+
+
 def run_crates(tally):
-    """The pages of PAGES_OF_CRATES have a link to each crate of crates.txt, TRUST.md to each but the program."""
-    with open(os.path.join(TOP, "crates.txt"), encoding="utf-8") as file:
-        crates = [line.split(":")[0] for line in file.read().split("\n") if line]
-    for page, begun in PAGES_OF_CRATES.items():
-        linked = {os.path.basename(os.path.dirname(link)) for _, link in read_document(page).links}
-        wanted = [crate for crate in crates if crate.startswith(begun) and (begun == ("",) or crate != PROGRAM)]
-        tally.note(f"{page}, crates", [f"there is no link to {crate}" for crate in wanted if crate not in linked])
+    """ARCHITECTURE and the page of the crates show what scripts/crates prints, and TRUST has a link to each library."""
+    tally.note(f"{MAP}, table of the crates", stale(printed_by("crates"), marked(MAP, "crates"), "crates"))
+    tally.note(f"{CRATES}, all lines", stale(printed_by("crates", "--page"), read(CRATES), "crates"))
+    crates = [line.split(":")[0] for line in read("crates.txt").split("\n") if line]
+    linked = {os.path.basename(os.path.dirname(link)) for _, link in read_document(TRUST).links}
+    wanted = [crate for crate in crates if crate.startswith(LIBRARIES) and crate != PROGRAM]
+    tally.note(f"{TRUST}, crates", [f"there is no link to {crate}" for crate in wanted if crate not in linked])
 
 
 def run_changelog(program, tally):
     """CHANGELOG.md has a section of the program's version, with a date, or `unreleased` if it is the first section."""
     version = run(program, ("--version",)).stdout.decode().split()[-1]
-    with open(os.path.join(TOP, "CHANGELOG.md"), encoding="utf-8") as file:
-        sections = re.findall(r"^## (\d\S*) - (\d{4}-\d\d-\d\d|unreleased)$", file.read(), re.MULTILINE)
+    sections = re.findall(r"^## (\d\S*) - (\d{4}-\d\d-\d\d|unreleased)$", read("CHANGELOG.md"), re.MULTILINE)
     problems = [f"there is no section {version}"] if version not in dict(sections) else []
     problems += [f"{name} is unreleased" for name, date in sections[1:] if date == "unreleased"]
     tally.note("CHANGELOG.md, versions", problems)
 
 
-def audited(*words):
-    """Returns what scripts/audit prints, or why it stopped."""
-    path = os.path.join(TOP, "scripts", "audit")
-    done = subprocess.run([sys.executable, path, *words], capture_output=True, timeout=SECONDS, check=False)
-    return (done.stdout if done.returncode == 0 else done.stderr).decode()
-
-
 def run_audit(tally):
-    """AUDIT shows what scripts/audit prints; the files of each command have as many lines; what has contracts is there."""
-    with open(os.path.join(TOP, AUDIT), encoding="utf-8") as file:
-        page = file.read()
-    printed, shown = audited(), page.partition(AUDIT_MARKS[0])[2].partition(AUDIT_MARKS[1])[0]
-    stale = [f"the page lacks {line}" for line in printed.split("\n") if line not in shown.split("\n")]
-    stale += ["the page has other lines"] if not stale and printed != shown else []
-    tally.note(f"{AUDIT}, tables", stale and [*stale, "scripts/audit --write puts them into the page"])
+    """AUDIT shows what scripts/audit prints; the files of each column have as many lines; what has contracts is there."""
+    printed = printed_by("audit")
+    tally.note(f"{AUDIT}, tables", stale(printed, marked(AUDIT, "audit"), "audit"))
     rows = [cells_of(line) for line in printed.split("\n")]
     sums = next((row for row in rows if row[:1] == ["**sum**"]), [])
     for command, total in list(zip(rows[0], sums))[1:-1]:
-        lines = re.findall(r"^ *(\d+)  crates/", audited(*command.split()), re.MULTILINE)
+        lines = re.findall(r"^ *(\d+)  crates/", printed_by("audit", *command.split()), re.MULTILINE)
         tally.note(f"{AUDIT}, files of {command}", difference("lines", int(total), sum(map(int, lines))))
     code = ""
     for crates in ("sudoers_*", "laws_*"):
         for path in glob.glob(os.path.join(TOP, "crates", crates, "src", "*.rt")):
             with open(path, encoding="utf-8") as file:
                 code += file.read()
-    cells = [cell for line in page.split("\n") if line.startswith("| ") for cell in cells_of(line)[1:]]
-    cited = sorted(set(re.findall(r"`(\w+)`", " ".join(cells))))
-    form = r"^(?:pub fn|pub trait|    ensures) {}\b"
+    cells = [cell for line in read(AUDIT).split("\n") if line.startswith("| ") for cell in cells_of(line)[1:]]
+    cited = sorted(set(re.findall(r"`(?:\w+::)?(\w+)`", " ".join(cells))))
+    form = r"^ *(?:pub fn|pub trait|ensures) {}\b"
     missing = [name for name in cited if not re.search(form.format(name), code, re.MULTILINE)]
     tally.note(f"{AUDIT}, contracts", [f"nothing has the contract or the clause {name}" for name in missing])
 

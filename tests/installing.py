@@ -34,7 +34,8 @@ INSTALLED = (
 SITE_FUNCTIONS = "share/zsh/site-functions/"
 VENDOR_COMPLETIONS = "share/zsh/vendor-completions/"
 DOCUMENTS = "usr/share/doc/sudoers-tool/"
-PAGES = ("README.md", "CHANGELOG.md", "CONTRIBUTING.md", "SECURITY.md", "LICENSE", "tests/README.md", "bench/README.md")
+PAGES = ("README.md", "CHANGELOG.md", "CONTRIBUTING.md", "SECURITY.md", "LICENSE")
+PAGES += ("tests/README.md", "bench/README.md", "crates/README.md")
 CHANGELOG = """\
 sudoers-tool ({version}) unstable; urgency=medium
 
