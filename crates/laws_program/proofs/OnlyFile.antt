@@ -70,7 +70,7 @@ is_read reads rules policy is = reads is.name (printed rules) policy is.loads
 pub printed_is : ReadsLaw → GathersLaw → (text : List ℕ) (nodes : List Node) (is : IsReadAs text nodes) → IsPrinted text is.read
 printed_is reads gathers text nodes is name = record {
   files = alone name text;
-  gathers = gathers name text is.read (as_read reads text nodes is).is (none_included nodes is.read is.same);
+  gathers = gathers name text is.read (reads [] text (policy_alone [] is.read) (is.loads [])) (none_included nodes is.read is.same);
   loads = is.loads name;
 }
 
