@@ -17,8 +17,8 @@ pub use Rattle.std.specs.Str.{bytes_eq}
 pub use Rattle.sudoers_check.specs.Chain.{Chain, Has, here, onward}
 pub use Rattle.sudoers_check.specs.Chains.{HasReachableCycle, IsReachable, Joins, name_in, names_in, roots, roots_in}
 pub use Rattle.sudoers_check.specs.Led.{is_used}
-pub use Rattle.sudoers_cvt.specs.Effective.{effective_command, effective_commands, effective_group, listed_tags}
-pub use Rattle.sudoers_cvt.specs.Rules.{Rules, defs_in, fits, lines_of, one_def, printed, rules_of, specs_in}
+pub use Rattle.sudoers_cvt_rules.specs.Effective.{effective_command, effective_commands, effective_group, listed_tags}
+pub use Rattle.sudoers_cvt_rules.specs.Rules.{Rules, defs_in, fits, lines_of, one_def, printed, rules_of, specs_in}
 pub use Rattle.sudoers_match_member.specs.declared.asked.Who.{Who}
 pub use Rattle.sudoers_match_member.specs.declared.request.Request.{Request}
 pub use Rattle.sudoers_line.specs.Piece.{has_byte}

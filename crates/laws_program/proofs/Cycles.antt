@@ -3,7 +3,7 @@ use Rattle.laws_program.proofs.Common.{◌≡◌, inl, inr, Bool, true, false, i
 use Rattle.laws_program.proofs.Common.{flat_map, filter, flat_map-append, Kind, Node, Line, Definition, definitions, Has, Chain, here, onward, names_in, Joins}
 use Rattle.laws_program.proofs.Common.{roots_in, roots, IsReachable, HasReachableCycle, is_used, all_append, rules_of, def_of, used_definitions, expanded}
 use Rattle.sudoers_line.specs.Node as node
-use Rattle.sudoers_cvt.specs.Rules.{defaults_in}
+use Rattle.sudoers_cvt_rules.specs.Rules.{defaults_in}
 use Rattle.laws_program.proofs.Aliases.{Said, said_of}
 use Rattle.sudoers_match_list.proofs.Defined.{all_has}
 use Rattle.laws_program.proofs.Flattened.{definitions_kept, expanded_line}

@@ -3,7 +3,7 @@ use Rattle.laws_program.proofs.Common.{◌≡◌, List, [], ◌∷◌, ◌++◌,
 use Rattle.laws_program.proofs.Common.{Definition, definitions, settings_of, defaults_of, specs_of, Rules, specs_in, one_def, defs_in, rules_of, said_by}
 use Rattle.laws_program.proofs.Common.{def_of, used_definitions, used_rules}
 use Rattle.sudoers_line.specs.Node as node
-use Rattle.sudoers_cvt.specs.Rules.{defaults_in}
+use Rattle.sudoers_cvt_rules.specs.Rules.{defaults_in}
 use Rattle.laws_program.proofs.Aliases.{Said, said_of, said_in, said_since}
 use Rattle.laws_program.proofs.Parts.{made_each, no_defaults, nothing}
 use Rattle.laws_program.proofs.Second.{defaults_of_defaults}

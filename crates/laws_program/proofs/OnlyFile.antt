@@ -7,7 +7,7 @@ use Rattle.sudoers_tree.specs.Line.{Line}
 use Rattle.sudoers_tree.specs.Load.{Loaded, load_of}
 use Rattle.sudoers_tree.specs.Reading.{read_of}
 use Rattle.sudoers_files.specs.Gather.{gathered}
-use Rattle.sudoers_cvt.specs.Rules.{Rules, printed}
+use Rattle.sudoers_cvt_rules.specs.Rules.{Rules, printed}
 use Rattle.laws_print.specs.Same.{AllSame, IsSame}
 use Rattle.laws_load.specs.Alone.{IsNoInclude, OtherThanInclude, alone, policy_alone}
 use Rattle.laws_program.specs.Converted.{IsPrinted}

@@ -2,8 +2,8 @@
 use Rattle.laws_program.proofs.Common.{◌≡◌, List, [], ◌∷◌, ◌++◌, map, refl, ap, ap₂, ◌∙◌, append-nil, flat_map, flat_map-append, Kind, Def, Node, Line, AllSame}
 use Rattle.laws_program.proofs.Common.{IsSame, AllAlike, all_alike_append, specs_in, one_def, defs_in, rules_of, lines_of, said_by}
 use Rattle.sudoers_line.specs.Node as node
-use Rattle.sudoers_cvt.specs.Rules.{defaults_in}
-use Rattle.sudoers_cvt.specs.Effective.{effective_group}
+use Rattle.sudoers_cvt_rules.specs.Rules.{defaults_in}
+use Rattle.sudoers_cvt_rules.specs.Effective.{effective_group}
 
 -- ---- rules
 

@@ -16,7 +16,7 @@ use Rattle.sudoers_cvt_spell.specs.Members.{printed_atom, printed_digests, sign,
 use Rattle.sudoers_cvt_spell.specs.Commands.{printed_inside, printed_front, printed_options, printed_tags, printed_command}
 use Rattle.sudoers_cvt_spell.specs.Parameters.{scope_mark, printed_scope, printed_params}
 use Rattle.sudoers_cvt_spell.specs.Lines.{printed_def, printed_group}
-use Rattle.sudoers_cvt.specs.Rules.{defaults_in}
+use Rattle.sudoers_cvt_rules.specs.Rules.{defaults_in}
 use Rattle.laws_program.proofs.ReadBack.{backslash_is_read}
 
 -- ---- members

@@ -7,7 +7,7 @@ use Rattle.laws_program.proofs.Common.{effective_command, effective_group, specs
 use Rattle.sudoers_line.specs.Node as node
 use Rattle.sudoers_tree.specs.Mention.{in_spec}
 use Rattle.sudoers_match.specs.Heads.{filled}
-use Rattle.sudoers_cvt.specs.Rules.{defaults_in}
+use Rattle.sudoers_cvt_rules.specs.Rules.{defaults_in}
 use Rattle.laws_program.proofs.Parts.{made_each, no_defs, nothing, three}
 use Rattle.laws_program.proofs.ReadBack.{same_of_hosts}
 

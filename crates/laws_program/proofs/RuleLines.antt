@@ -4,7 +4,7 @@ use Rattle.laws_program.proofs.Common.{◌≡◌, ℕ, false, List, [], ◌∷�
 use Rattle.laws_program.proofs.Common.{texts, SaysSo, IsSound, IsWritableDef, IsWritable, IsReadable, specs_in, one_def, defs_in, rules_of, lines_of}
 use Rattle.sudoers_line.specs.Node as node
 use Rattle.sudoers_line.specs.Line.{ReadsLine}
-use Rattle.sudoers_cvt.specs.Rules.{defaults_in}
+use Rattle.sudoers_cvt_rules.specs.Rules.{defaults_in}
 use Rattle.laws_program.proofs.Clean.{each_clean}
 use Rattle.laws_program.proofs.PrintedHeads.{all_append, groups_may}
 

@@ -3,7 +3,7 @@ use Rattle.laws_program.proofs.Common.{◌≡◌, ℕ, ◌&&◌, nat_le, true, L
 use Rattle.laws_program.proofs.Common.{flat_map, list_all, map-append, text_limit, line_limit, join, Kind, Def, Node, Line, IsSound, read_of}
 use Rattle.laws_program.proofs.Common.{printed_line, AllSame, IsSame, specs_in, one_def, defs_in, rules_of, lines_of, printed, fits, said_by, IsRead}
 use Rattle.sudoers_line.specs.Node as node
-use Rattle.sudoers_cvt.specs.Rules.{defaults_in}
+use Rattle.sudoers_cvt_rules.specs.Rules.{defaults_in}
 use Rattle.laws_program.proofs.Prints.{same_defaults_in, same_defs_in, same_specs_in, lines_are, same_rules}
 use Rattle.laws_program.proofs.Parts.{no_defaults, no_defs, no_specs, made_of_defaults, made_of_defs, made_of_specs}
 use Rattle.laws_program.proofs.Twice.{groups_twice}

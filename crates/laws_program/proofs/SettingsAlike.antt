@@ -5,7 +5,7 @@ use Rattle.laws_program.proofs.Common.{AreCountedAlike, AreScopesAlike, AreSetti
 use Rattle.laws_program.proofs.Common.{rules_of, lines_of, said_by}
 use Rattle.sudoers_line.specs.Node.{Param}
 use Rattle.sudoers_line.specs.Node as node
-use Rattle.sudoers_cvt.specs.Rules.{defaults_in}
+use Rattle.sudoers_cvt_rules.specs.Rules.{defaults_in}
 use Rattle.laws_program.proofs.Parts.{no_defs, no_specs, made_of_defaults, made_alike}
 
 pub settings_are : (lines : List Line) → defaults_of lines ≡ flat_map settings_of (said_by lines)

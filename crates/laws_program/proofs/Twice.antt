@@ -7,7 +7,7 @@ use Rattle.std.specs.Option.{option_map}
 use Rattle.sudoers_line.specs.declared.node.OptionName.TheVariants as option
 use Rattle.sudoers_line.specs.declared.node.Tag.TheVariants as tag
 use Rattle.sudoers_match.specs.Heads.{filled}
-use Rattle.sudoers_cvt.specs.Effective.{tag_names}
+use Rattle.sudoers_cvt_rules.specs.Effective.{tag_names}
 use Rattle.sudoers_match.proofs.Lasts.{or_none}
 use Rattle.laws_program.proofs.PrintedHeads.{same_option}
 

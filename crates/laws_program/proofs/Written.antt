@@ -3,7 +3,7 @@ use Rattle.laws_program.proofs.Common.{◌≡◌, true, List, [], ◌∷◌, ◌
 use Rattle.laws_program.proofs.Common.{is_used, all_append, IsWritable, IsReadable, Rules, lines_of, printed, fits, IsRead, def_of, used_definitions}
 use Rattle.laws_program.proofs.Common.{used_rules, expanded}
 use Rattle.sudoers_line.specs.Node as node
-use Rattle.sudoers_cvt.specs.Rules.{defaults_in}
+use Rattle.sudoers_cvt_rules.specs.Rules.{defaults_in}
 use Rattle.laws_program.proofs.ReadLines.{PrintLaw, AloneLaw, CutLaw, ReadLaw, OneLaw, MayStand, rules_read_of}
 use Rattle.laws_program.proofs.RuleLines.{GivenLaw, readable_lines, rules_of_readable}
 use Rattle.laws_program.proofs.Flattened.{definitions_kept}

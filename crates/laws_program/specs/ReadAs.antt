@@ -3,7 +3,7 @@ use Rattle.std.specs.Prelude.{◌≡◌, ℕ, true, List, map, Ok}
 use Rattle.sudoers_line.specs.Node.{Node}
 use Rattle.sudoers_tree.specs.Line.{Line}
 use Rattle.sudoers_tree.specs.Load.{Loaded, load_of}
-use Rattle.sudoers_cvt.specs.Rules.{Rules, fits, printed}
+use Rattle.sudoers_cvt_rules.specs.Rules.{Rules, fits, printed}
 use Rattle.laws_print.specs.Same.{AllSame, IsSame}
 use Rattle.laws_load.specs.Alone.{alone, policy_alone}
 

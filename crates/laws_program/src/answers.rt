@@ -14,7 +14,7 @@ ghost use Rattle.sudoers_match.specs.Answer.{Answer as AnswerOf, IsAnswer};
 ghost use Rattle.sudoers_match.specs.Default.{IsRunasDefault};
 ghost use Rattle.sudoers_match.specs.Groups.{AreHostGroups};
 ghost use Rattle.sudoers_match.specs.declared.groups.GroupPlace.{GroupPlace as GroupPlaceOf};
-ghost use Rattle.sudoers_cvt.specs.Rules.{rules_of, printed, fits};
+ghost use Rattle.sudoers_cvt_rules.specs.Rules.{rules_of, printed, fits};
 
 use crate::printing::printed_rules_are_read;
 use laws_load::text_loads;

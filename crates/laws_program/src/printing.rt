@@ -6,7 +6,7 @@ ghost use Rattle.sudoers_tree.specs.Line.{Line as LineOf};
 ghost use Rattle.laws_program.specs.Sound.{IsSound};
 ghost use Rattle.sudoers_tree.specs.Load.{Loaded};
 ghost use Rattle.laws_print.specs.Writable.{IsWritable};
-ghost use Rattle.sudoers_cvt.specs.Rules.{rules_of, lines_of, printed, fits};
+ghost use Rattle.sudoers_cvt_rules.specs.Rules.{rules_of, lines_of, printed, fits};
 ghost use Rattle.laws_program.specs.ReadAs.{IsPrintedAs, IsReadAs};
 
 use laws_load::text_loads;

@@ -6,7 +6,7 @@ ghost use Rattle.sudoers_tree.specs.Line.{Line as LineOf};
 ghost use Rattle.laws_program.specs.Sound.{IsSound};
 ghost use Rattle.sudoers_tree.specs.Load.{Loaded};
 ghost use Rattle.laws_print.specs.Writable.{IsWritable};
-ghost use Rattle.sudoers_cvt.specs.Rules.{lines_of, rules_of, printed, fits};
+ghost use Rattle.sudoers_cvt_rules.specs.Rules.{lines_of, rules_of, printed, fits};
 ghost use Rattle.laws_program.specs.ReadAs.{IsPrintedAs, IsReadAs};
 ghost use Rattle.sudoers_cvt_rewrite.specs.Rewrite.{rewritten, used_rules, Changes as ChangesOf};
 ghost use Rattle.laws_program.specs.Expanded.{expanded};

@@ -13,7 +13,7 @@ ghost use Rattle.sudoers_match.specs.Answer.{Answer as AnswerOf, IsAnswer};
 ghost use Rattle.sudoers_match.specs.Default.{IsRunasDefault};
 ghost use Rattle.sudoers_match.specs.Groups.{AreHostGroups};
 ghost use Rattle.sudoers_match.specs.declared.groups.GroupPlace.{GroupPlace as GroupPlaceOf};
-ghost use Rattle.sudoers_cvt.specs.Rules.{printed, fits};
+ghost use Rattle.sudoers_cvt_rules.specs.Rules.{printed, fits};
 ghost use Rattle.sudoers_cvt_rewrite.specs.Rewrite.{used_rules};
 ghost use Rattle.laws_program.specs.Expanded.{expanded};
 

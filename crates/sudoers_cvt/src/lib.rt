@@ -1,14 +1,9 @@
-//! Conversion of sudoers policies: their rules, printed anew.
+//! Conversion of policies: their rules, filtered or expanded, and printed as one policy or as JSON.
 #![tactic(auto)]
 
-mod fault;
-mod heads;
-mod lines;
-mod printing;
-mod rule;
-mod rules;
+mod changed;
 
-pub use fault::CvtFault;
-pub use printing::{print, print_command};
-pub use rule::Rule;
-pub use rules::Rules;
+pub use changed::{expand_policy, filter_policy};
+pub use sudoers_cvt_json::json;
+pub use sudoers_cvt_rewrite::{Changes, Filter, FilterFault, Rewritten, read_filter, rewrite};
+pub use sudoers_cvt_rules::{CvtFault, Rule, Rules, print, print_command};

@@ -19,7 +19,7 @@ use Rattle.sudoers_match.specs.IsHead.{IsHead}
 use Rattle.sudoers_match.specs.Values.{Values, values_of, values_shown}
 use Rattle.sudoers_cvt_spell.specs.Members.{printed_member}
 use Rattle.sudoers_cvt_spell.specs.Commands.{printed_option, printed_tag}
-use Rattle.sudoers_cvt.specs.Effective.{effective_command, listed_tags, tag_names}
+use Rattle.sudoers_cvt_rules.specs.Effective.{effective_command, listed_tags, tag_names}
 use Rattle.sudoers_cvt_json.specs.Value.{texts_value, runas_value, command_value}
 use Rattle.sudoers_cvt_json.specs.internal.Built.{held_value, option_texts, tag_texts}
 

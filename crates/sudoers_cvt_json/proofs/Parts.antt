@@ -4,11 +4,11 @@ use Rattle.std.specs.Prelude.{◌&&◌}
 use Rattle.serde_json.proofs.OnLiterals.{serde_json_on_literals}
 use Rattle.serde_json.specs.Data.{Data, object, no_members, member}
 use Rattle.serde_json.specs.Written.{compact_text}
-use Rattle.sudoers_cvt.specs.declared.fault.CvtFault.{CvtFault}
-use Rattle.sudoers_cvt.specs.declared.rule.Rule.{Rule}
-use Rattle.sudoers_cvt.specs.declared.rule.Rule.TheVariants.{Defaults, Def, Spec}
-use Rattle.sudoers_cvt.specs.Rule.{rule_shown}
-use Rattle.sudoers_cvt.specs.Rules.{Rules}
+use Rattle.sudoers_cvt_rules.specs.declared.fault.CvtFault.{CvtFault}
+use Rattle.sudoers_cvt_rules.specs.declared.rule.Rule.{Rule}
+use Rattle.sudoers_cvt_rules.specs.declared.rule.Rule.TheVariants.{Defaults, Def, Spec}
+use Rattle.sudoers_cvt_rules.specs.Rule.{rule_shown}
+use Rattle.sudoers_cvt_rules.specs.Rules.{Rules}
 use Rattle.sudoers_cvt_json.specs.Value.{entries, list_value, rules_value}
 use Rattle.sudoers_cvt_json.specs.internal.Built.{IsFault, list_text, rule_value}
 

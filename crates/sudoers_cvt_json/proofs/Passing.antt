@@ -8,7 +8,7 @@ use Rattle.sudoers_line.specs.Node.{CmdSpec}
 use Rattle.sudoers_match.specs.declared.head.Head.{Head as HeadHeld}
 use Rattle.sudoers_match.specs.Heads.{Head, inherit, filled}
 use Rattle.sudoers_match.specs.IsHead.{IsHead}
-use Rattle.sudoers_cvt.specs.Effective.{effective_command}
+use Rattle.sudoers_cvt_rules.specs.Effective.{effective_command}
 use Rattle.sudoers_cvt_json.specs.Value.{command_value}
 use Rattle.sudoers_cvt_json.specs.Unicode.{is_unicode}
 use Rattle.sudoers_cvt_json.specs.internal.Built.{are_unicode, list_text}

@@ -23,7 +23,7 @@ use Rattle.sudoers_line.specs.Kind.{kind_name}
 use Rattle.sudoers_cvt_spell.specs.Members.{printed_member}
 use Rattle.sudoers_cvt_spell.specs.Commands.{printed_option, printed_tag}
 use Rattle.sudoers_cvt_spell.specs.Parameters.{printed_param, scope_mark}
-use Rattle.sudoers_cvt.specs.Rules.{Rules}
+use Rattle.sudoers_cvt_rules.specs.Rules.{Rules}
 
 -- ---- lists
 

@@ -4,7 +4,7 @@ ghost use Rattle.std.specs.Prelude.{◌≡◌, ◌++◌, false, true, map, OnOk,
 ghost use Rattle.serde_json.specs.Written.{compact_text};
 ghost use Rattle.sudoers_line.specs.declared.node.Kind.TheVariants.{User as OfUsers, Host as OfHosts};
 ghost use Rattle.sudoers_line_rows.specs.View.{commands_shown, group_shown, groups_shown, members_shown};
-ghost use Rattle.sudoers_cvt.specs.Effective.{effective_commands, effective_group};
+ghost use Rattle.sudoers_cvt_rules.specs.Effective.{effective_commands, effective_group};
 ghost use Rattle.sudoers_cvt_json.specs.Value.{members_value, command_value, group_value, spec_value};
 ghost use Rattle.sudoers_cvt_json.specs.Unicode.{is_unicode};
 ghost use Rattle.sudoers_cvt_json.specs.internal.Built.{IsFault, list_text, are_unicode, held_value, rule_value};
@@ -12,7 +12,7 @@ ghost use Rattle.sudoers_cvt_json.specs.internal.Built.{IsFault, list_text, are_
 use crate::lists::{append_comma, append_value};
 use crate::values::{command_value, def_value, defaults_value, members_value};
 use std::alloc::Global;
-use sudoers_cvt::{CvtFault, Rule};
+use sudoers_cvt_rules::{CvtFault, Rule};
 use sudoers_line::Kind;
 use sudoers_line_rows::{CommandRow, GroupRow, HostGroup, Member, MemberRow, Rows};
 use sudoers_match::Head;

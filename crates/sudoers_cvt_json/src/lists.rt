@@ -10,7 +10,7 @@ ghost use Rattle.sudoers_cvt_json.specs.internal.Built.{IsFault, bytes_of};
 
 use serde_json::Value;
 use std::alloc::{AllocError, Global};
-use sudoers_cvt::CvtFault;
+use sudoers_cvt_rules::CvtFault;
 
 /// Returns a text as a value.
 pub fn text_value(alloc: Global, text: &[u8]) -> Result<Value, CvtFault>

@@ -1,13 +1,13 @@
 //! The rules of a policy as JSON.
 
 ghost use Rattle.std.specs.Prelude.{◌≡◌, ◌⊎◌, false, true, IfOk, OnOk, IfErr};
-ghost use Rattle.sudoers_cvt.specs.declared.fault.CvtFault.TheVariants.{NotUtf8, NoMemory};
+ghost use Rattle.sudoers_cvt_rules.specs.declared.fault.CvtFault.TheVariants.{NotUtf8, NoMemory};
 ghost use Rattle.sudoers_cvt_json.specs.Value.{rules_value, json_text};
 ghost use Rattle.sudoers_cvt_json.specs.Unicode.{is_unicode};
 
 use crate::entries::append_rules;
 use std::alloc::Global;
-use sudoers_cvt::{CvtFault, Rules};
+use sudoers_cvt_rules::{CvtFault, Rules};
 
 /// Returns `rules` as JSON, in one line with its line end.
 ///

@@ -14,7 +14,7 @@ use crate::lists::{text_value, texts_value};
 use crate::texts::{member_text, member_texts, option_texts, param_texts, tag_texts};
 use serde_json::{Value, json};
 use std::alloc::{AllocError, Global};
-use sudoers_cvt::CvtFault;
+use sudoers_cvt_rules::CvtFault;
 use sudoers_cvt_spell::scope_mark;
 use sudoers_line::{Kind, kind_name};
 use sudoers_line_rows::{Def, Member, MemberRow, ParamRow, Rows, RunasSpec, Scope};

@@ -5,7 +5,7 @@ use Rattle.sudoers_line.specs.Node.{Member, RunasSpec, CmdSpec}
 use Rattle.sudoers_tree.specs.Line.{Line}
 use Rattle.sudoers_tree.specs.Definition.{definitions}
 use Rattle.sudoers_tree.specs.Policy.{IsWalk}
-use Rattle.sudoers_cvt.specs.declared.fault.CvtFault.{CvtFault}
+use Rattle.sudoers_cvt_rules.specs.declared.fault.CvtFault.{CvtFault}
 use Rattle.sudoers_cvt_rewrite.specs.Count.{runas_count, commands_count}
 use Rattle.sudoers_cvt_rewrite.specs.Expand.{with_member}
 use Rattle.sudoers_cvt_rewrite.specs.internal.Written.{IsRefusal, list_if}

@@ -10,7 +10,7 @@ use Rattle.sudoers_line_rows.specs.declared.rows.RunasRow.{RunasRow}
 use Rattle.sudoers_line_rows.specs.declared.rows.Tables.{Tables}
 use Rattle.sudoers_line_rows.specs.Tables.{member_in, command_in, options_in, tags_in, perhaps_runas_in}
 use Rattle.sudoers_tree.specs.Line.{Line}
-use Rattle.sudoers_cvt.specs.declared.fault.CvtFault.{CvtFault}
+use Rattle.sudoers_cvt_rules.specs.declared.fault.CvtFault.{CvtFault}
 use Rattle.sudoers_cvt_rewrite.specs.Count.{member_limit, runas_count, commands_count, group_count, groups_count}
 use Rattle.sudoers_cvt_rewrite.specs.internal.Extended.{IsLike}
 use Rattle.sudoers_cvt_rewrite.specs.internal.Written.{IsRefusal, command_if, each_in, list_if, runas_if}

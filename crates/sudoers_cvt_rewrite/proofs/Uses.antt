@@ -11,7 +11,7 @@ use Rattle.sudoers_check.specs.Chain.{Has}
 use Rattle.sudoers_check.specs.Chains.{IsReachable, IsCyclic, HasReachableCycle}
 use Rattle.sudoers_check.specs.Led.{is_used, is_unused, is_cyclic}
 use Rattle.sudoers_check.proofs.Named.{any_has, both, has_any}
-use Rattle.sudoers_cvt.specs.Rules.{defs_in, marked, one_def, rules_of}
+use Rattle.sudoers_cvt_rules.specs.Rules.{defs_in, marked, one_def, rules_of}
 use Rattle.sudoers_cvt_rewrite.specs.Rewrite.{def_of, used_definitions, has_round}
 
 from_defs : (k : Kind) (line n : ℕ) (ds : List Def) → map def_of (definitions_from k line n ds) ≡ map (one_def k) ds

@@ -10,8 +10,8 @@ use Rattle.sudoers_line_rows.specs.declared.rows.Tables.{Tables}
 use Rattle.sudoers_line_rows.specs.Tables.{node_in, text_in}
 use Rattle.sudoers_tree.specs.declared.line.LineRow.{LineRow}
 use Rattle.sudoers_tree.specs.Line.{Line, line_in}
-use Rattle.sudoers_cvt.specs.declared.fault.CvtFault.{CvtFault}
-use Rattle.sudoers_cvt.specs.declared.fault.CvtFault.TheVariants.{Cycle, TooLarge, NoMemory}
+use Rattle.sudoers_cvt_rules.specs.declared.fault.CvtFault.{CvtFault}
+use Rattle.sudoers_cvt_rules.specs.declared.fault.CvtFault.TheVariants.{Cycle, TooLarge, NoMemory}
 use Rattle.sudoers_cvt_rewrite.specs.Count.{lines_count, member_limit, node_count}
 use Rattle.sudoers_cvt_rewrite.specs.Expand.{expanded_node, expanded_scope, expanded_list, with_member}
 use Rattle.sudoers_cvt_rewrite.specs.Rewrite.{Changes, expanded_if, filtered_by, member_count, rewritten}

@@ -5,7 +5,7 @@ use Rattle.sudoers_line.specs.Node.{Node}
 use Rattle.sudoers_tree.specs.Line.{Line}
 use Rattle.sudoers_tree.specs.Definition.{Definition, definitions}
 use Rattle.sudoers_check.specs.Led.{is_used, is_cyclic}
-use Rattle.sudoers_cvt.specs.Rules.{Rules, rules_of, one_def}
+use Rattle.sudoers_cvt_rules.specs.Rules.{Rules, rules_of, one_def}
 use Rattle.sudoers_cvt_rewrite.specs.Expand.{expanded_node}
 use Rattle.sudoers_cvt_rewrite.specs.declared.filter.Filter.{Filter}
 use Rattle.sudoers_cvt_rewrite.specs.Filter.{filtered_node}

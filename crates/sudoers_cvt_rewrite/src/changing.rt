@@ -1,7 +1,7 @@
 //! Policies that are filtered or expanded.
 
 ghost use Rattle.std.specs.Prelude.{◌≡◌, ◌⊎◌, ◌≤◌, ◌<◌, true, false, IfOk, IfErr};
-ghost use Rattle.sudoers_cvt.specs.declared.fault.CvtFault.TheVariants.{Cycle, NoMemory, TooLarge};
+ghost use Rattle.sudoers_cvt_rules.specs.declared.fault.CvtFault.TheVariants.{Cycle, NoMemory, TooLarge};
 ghost use Rattle.sudoers_cvt_rewrite.specs.Changed.{changes_shown};
 ghost use Rattle.sudoers_cvt_rewrite.specs.Count.{member_limit};
 ghost use Rattle.sudoers_cvt_rewrite.specs.Rewrite.{has_round, member_count, rewritten, used_rules};
@@ -13,7 +13,7 @@ use std::alloc::Global;
 use std::marker::Model;
 use sudoers_check::laws::chains_are;
 use sudoers_check::mark_used;
-use sudoers_cvt::{CvtFault, Rules};
+use sudoers_cvt_rules::{CvtFault, Rules};
 use sudoers_match_list::{Acyclic, AskFault};
 use sudoers_tree::Policy;
 

@@ -14,7 +14,7 @@ use crate::copying::write_commands;
 use crate::listing::{flat_list, write_own_runas};
 use crate::tally::Tally;
 use std::alloc::Global;
-use sudoers_cvt::CvtFault;
+use sudoers_cvt_rules::CvtFault;
 use sudoers_line_rows::{CommandRow, MemberRow, Range, Tables};
 use sudoers_tree::Kind;
 

@@ -13,7 +13,7 @@ use crate::nodes::write_node;
 use crate::selecting::Choice;
 use crate::tally::Tally;
 use std::alloc::Global;
-use sudoers_cvt::CvtFault;
+use sudoers_cvt_rules::CvtFault;
 use sudoers_line_rows::{NodeRow, Tables};
 
 /// Writes what is left of a line that says `row`, its aliases replaced if that is wanted, and counts its members.

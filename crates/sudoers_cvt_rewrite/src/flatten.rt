@@ -4,14 +4,14 @@ ghost use Rattle.std.specs.Prelude.{◌≡◌, ◌⊎◌, ◌<◌, ◌≤◌, �
 ghost use Rattle.sudoers_line_rows.specs.declared.rows.Tables.{Tables as TablesOf};
 ghost use Rattle.sudoers_line_rows.specs.Tables.{member_in};
 ghost use Rattle.sudoers_match_list.specs.Flattened.{flattened, replaced_times, turned_member};
-ghost use Rattle.sudoers_cvt.specs.declared.fault.CvtFault.TheVariants.{TooLarge, NoMemory};
+ghost use Rattle.sudoers_cvt_rules.specs.declared.fault.CvtFault.TheVariants.{TooLarge, NoMemory};
 ghost use Rattle.sudoers_cvt_rewrite.specs.Count.{member_limit};
 ghost use Rattle.sudoers_cvt_rewrite.specs.internal.Parts.{IsReplacement, left_of, steps_left};
 
 use crate::aliases::Source;
 use crate::shortcuts::flip;
 use std::alloc::Global;
-use sudoers_cvt::CvtFault;
+use sudoers_cvt_rules::CvtFault;
 use sudoers_line_rows::MemberRow;
 use sudoers_tree::Kind;
 

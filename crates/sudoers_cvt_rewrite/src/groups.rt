@@ -15,7 +15,7 @@ use crate::listing::write_list;
 use crate::selecting::Selected;
 use crate::tally::Tally;
 use std::alloc::Global;
-use sudoers_cvt::CvtFault;
+use sudoers_cvt_rules::CvtFault;
 use sudoers_line_rows::{GroupRow, MemberRow, NodeRow, Range, Tables, rows_in};
 use sudoers_tree::Kind;
 

@@ -13,7 +13,7 @@ use crate::copying::write_members;
 use crate::flatten::flatten;
 use crate::tally::Tally;
 use std::alloc::Global;
-use sudoers_cvt::CvtFault;
+use sudoers_cvt_rules::CvtFault;
 use sudoers_line_rows::{MemberRow, Range, RunasRow, ScopeRow, Tables, rows_in};
 use sudoers_tree::Kind;
 

@@ -13,7 +13,7 @@ use crate::listing::write_own_scope;
 use crate::selecting::select_all;
 use crate::tally::Tally;
 use std::alloc::{AllocError, Global};
-use sudoers_cvt::CvtFault;
+use sudoers_cvt_rules::CvtFault;
 use sudoers_line_rows::{DefRow, NodeRow, Range, Tables, rows_in};
 
 /// Writes a definition as it stands in the tables `base`.

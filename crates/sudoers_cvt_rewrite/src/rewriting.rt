@@ -19,7 +19,7 @@ use crate::selecting::{Choice, select_node};
 use crate::tally::Tally;
 use std::alloc::{AllocError, Global};
 use std::marker::Model;
-use sudoers_cvt::CvtFault;
+use sudoers_cvt_rules::CvtFault;
 use sudoers_line_rows::{NodeRow, Rows, Tables, Text};
 use sudoers_match_list::Acyclic;
 use sudoers_tree::{ALL_NAME_BITS, LineRow};

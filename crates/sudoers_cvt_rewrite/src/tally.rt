@@ -2,13 +2,13 @@
 
 ghost use Rattle.std.specs.Prelude.{◌≡◌, ◌+◌, ◌<◌, ◌≤◌, length, IfErr, OnOk};
 ghost use Rattle.sudoers_line_rows.specs.Tables.{perhaps_runas_in};
-ghost use Rattle.sudoers_cvt.specs.declared.fault.CvtFault.TheVariants.{TooLarge};
+ghost use Rattle.sudoers_cvt_rules.specs.declared.fault.CvtFault.TheVariants.{TooLarge};
 ghost use Rattle.sudoers_cvt_rewrite.specs.Count.{member_limit, runas_count};
 ghost use Rattle.sudoers_cvt_rewrite.specs.internal.Shortcuts.{marked_count};
 
 use crate::definitions::DefinitionRow;
 use crate::flatten::MEMBER_LIMIT;
-use sudoers_cvt::CvtFault;
+use sudoers_cvt_rules::CvtFault;
 use sudoers_line_rows::{RunasRow, Tables, rows_in};
 
 /// How many members are written, and how many the Runas_Spec has that a next command inherits.

@@ -10,7 +10,7 @@ use Rattle.sudoers_match.specs.Heads.{Head, no_head, inherit, filled}
 use Rattle.sudoers_match.specs.IsHead.{IsHead}
 use Rattle.sudoers_cvt_spell.specs.Members.{printed_list}
 use Rattle.sudoers_cvt_spell.specs.Commands.{printed_inside}
-use Rattle.sudoers_cvt.specs.Effective.{effective_command, effective_commands}
+use Rattle.sudoers_cvt_rules.specs.Effective.{effective_command, effective_commands}
 use Rattle.sudoers_list.specs.Listing.{users_or}
 use Rattle.sudoers_list.specs.Rule.{numbered}
 use Rattle.sudoers_list.specs.internal.Inside.{printed_behind}

@@ -10,7 +10,7 @@ use Rattle.sudoers_match.specs.declared.tags.Tags.{Tags}
 use Rattle.sudoers_match.specs.Heads.{Head, last_said, listed, option_of, tag_of, tag_place, tags_of}
 use Rattle.sudoers_match.specs.IsHead.{IsHead}
 use Rattle.sudoers_match.proofs.Lasts.{or_none}
-use Rattle.sudoers_cvt.specs.Effective.{effective_command, listed_tags, tag_names}
+use Rattle.sudoers_cvt_rules.specs.Effective.{effective_command, listed_tags, tag_names}
 use Rattle.sudoers_list.specs.Rule.{answered, said_by}
 
 -- what is said of the names of which a test holds

@@ -12,7 +12,7 @@ use Rattle.sudoers_match.specs.Groups.{AreHostGroups}
 use Rattle.sudoers_match.specs.Default.{IsRunasDefault}
 use Rattle.sudoers_cvt_spell.specs.Members.{printed_list}
 use Rattle.sudoers_cvt_spell.specs.Commands.{printed_command}
-use Rattle.sudoers_cvt.specs.Effective.{effective_commands}
+use Rattle.sudoers_cvt_rules.specs.Effective.{effective_commands}
 
 -- ---- as whom a command is listed
 

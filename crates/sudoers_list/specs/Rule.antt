@@ -10,7 +10,7 @@ use Rattle.sudoers_match.specs.declared.tags.Tags.{Tags}
 use Rattle.sudoers_match.specs.Answer.{Answer}
 use Rattle.sudoers_match.specs.Heads.{Head, no_head, filled, listed, option_of}
 use Rattle.sudoers_match.specs.Specs.{Spec, spec_in}
-use Rattle.sudoers_cvt.specs.Effective.{listed_tags}
+use Rattle.sudoers_cvt_rules.specs.Effective.{listed_tags}
 
 -- ---- user specifications
 

@@ -12,3 +12,4 @@ mod spot;
 
 pub use listing::{list, list_rules};
 pub use reason::{explain, explain_answer};
+pub use sudoers_list_people::{People, PeopleFault, WhoFault, request_for, who_for};

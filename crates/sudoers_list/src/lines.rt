@@ -9,12 +9,12 @@ ghost use Rattle.sudoers_match.specs.Heads.{Head as HeadOf};
 ghost use Rattle.sudoers_match.specs.IsHead.{IsHead};
 ghost use Rattle.sudoers_cvt_spell.specs.Members.{printed_list};
 ghost use Rattle.sudoers_cvt_spell.specs.Commands.{printed_command, printed_runas};
-ghost use Rattle.sudoers_cvt.specs.Effective.{effective_command, effective_commands};
+ghost use Rattle.sudoers_cvt_rules.specs.Effective.{effective_command, effective_commands};
 ghost use Rattle.sudoers_list.specs.Listing.{command_line, group_lines, listed_command, listed_runas, plain, users_or};
 ghost use Rattle.sudoers_list.specs.internal.Inside.{printed_behind};
 
 use std::alloc::{AllocError, Global};
-use sudoers_cvt::print_command;
+use sudoers_cvt_rules::print_command;
 use sudoers_cvt_spell::{append_list, append_member};
 use sudoers_line::Kind;
 use sudoers_line_rows::{Atom, CommandRow, HostGroup, Member, MemberRow, Rows, RunasSpec, Tables};

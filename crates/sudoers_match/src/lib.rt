@@ -21,6 +21,10 @@ pub use head::Head;
 pub use options::Options;
 pub use request::{join_command, join_words};
 pub use rules::{Answer, Found};
-pub use sudoers_match_list::AskFault;
-pub use sudoers_match_member::{Group, Interface, Person, Request, Who};
+pub use sudoers_match_list::{
+    AskFault, Commands, Decision, Groups, Hit, Hosts, MemberKind, Users, Verdict, decide,
+};
+pub use sudoers_match_member::{
+    CommandLine, GlobMode, Group, Interface, Person, Request, Who, glob, network_hits,
+};
 pub use tags::Tags;

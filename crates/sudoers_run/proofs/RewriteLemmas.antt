@@ -3,7 +3,7 @@ use Rattle.std.proofs.Common.{◌≡◌, ◌<◌, ◌≤◌, ◌&&◌, ℕ, Bool
 use Rattle.std.specs.Prelude.{if◌then◌else◌}
 use Rattle.std.proofs.lemmas.Bool.{lt-ltb, le-ltb}
 use Rattle.sudoers_tree.specs.Line.{Line}
-use Rattle.sudoers_cvt.specs.declared.fault.CvtFault.TheVariants.{Cycle, TooLarge}
+use Rattle.sudoers_cvt_rules.specs.declared.fault.CvtFault.TheVariants.{Cycle, TooLarge}
 use Rattle.sudoers_cvt_rewrite.specs.Count.{member_limit}
 use Rattle.sudoers_cvt_rewrite.specs.Rewrite.{Changes, has_round, member_count, rewritten, used_rules}
 use Rattle.sudoers_run.specs.declared.form.Form.{Form}

@@ -6,9 +6,9 @@ use Rattle.sudoers_tree.specs.Line.{Line}
 use Rattle.sudoers_tree.specs.declared.load.NamedFile.{NamedFile}
 use Rattle.sudoers_tree.specs.declared.load_fault.LoadFault.{LoadFault}
 use Rattle.sudoers_tree.specs.Load.{Loaded}
-use Rattle.sudoers_cvt.specs.declared.fault.CvtFault.{CvtFault}
-use Rattle.sudoers_cvt.specs.declared.fault.CvtFault.TheVariants.{Cycle, TooLarge, NotUtf8}
-use Rattle.sudoers_cvt.specs.Rules.{Rules, rules_of, fits, printed}
+use Rattle.sudoers_cvt_rules.specs.declared.fault.CvtFault.{CvtFault}
+use Rattle.sudoers_cvt_rules.specs.declared.fault.CvtFault.TheVariants.{Cycle, TooLarge, NotUtf8}
+use Rattle.sudoers_cvt_rules.specs.Rules.{Rules, rules_of, fits, printed}
 use Rattle.sudoers_cvt_rewrite.specs.declared.filter.Filter.{Filter}
 use Rattle.sudoers_cvt_rewrite.specs.declared.filter_text.FilterFault.{FilterFault}
 use Rattle.sudoers_cvt_rewrite.specs.FilterText.{filter_of}

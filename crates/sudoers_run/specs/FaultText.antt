@@ -18,8 +18,8 @@ use Rattle.sudoers_edit.specs.declared.fault.EditFault.{EditFault}
 use Rattle.sudoers_edit.specs.declared.fault.EditFault.TheVariants as edit
 use Rattle.sudoers_edit_script.specs.declared.script.ScriptFault.{ScriptFault}
 use Rattle.sudoers_edit_script.specs.declared.script.ScriptFault.TheVariants as script
-use Rattle.sudoers_cvt.specs.declared.fault.CvtFault.{CvtFault}
-use Rattle.sudoers_cvt.specs.declared.fault.CvtFault.TheVariants as cvt
+use Rattle.sudoers_cvt_rules.specs.declared.fault.CvtFault.{CvtFault}
+use Rattle.sudoers_cvt_rules.specs.declared.fault.CvtFault.TheVariants as cvt
 use Rattle.sudoers_cvt_rewrite.specs.declared.filter_text.FilterFault.{FilterFault}
 use Rattle.sudoers_cvt_rewrite.specs.declared.filter_text.FilterFault.TheVariants as filter
 use Rattle.sudoers_list_people.specs.declared.fault.PeopleFile.{PeopleFile}

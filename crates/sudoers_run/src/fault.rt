@@ -2,7 +2,7 @@
 
 use std::alloc::AllocError;
 use sudoers_bundle::BundleFault;
-use sudoers_cvt::CvtFault;
+use sudoers_cvt_rules::CvtFault;
 use sudoers_cvt_rewrite::FilterFault;
 use sudoers_edit::{EditFault, ScriptFault};
 use sudoers_files::GatherFault;

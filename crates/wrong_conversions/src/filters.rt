@@ -1,7 +1,7 @@
 //! What a filter keeps of a policy, and the policy without aliases.
 
 ghost use Rattle.std.specs.Prelude.{◌≡◌, ◌⊎◌, ◌≤◌, ◌<◌, true, false, Ok, Err, IfOk, IfErr};
-ghost use Rattle.sudoers_cvt.specs.declared.fault.CvtFault.TheVariants.{Cycle, NoMemory, TooLarge};
+ghost use Rattle.sudoers_cvt_rules.specs.declared.fault.CvtFault.TheVariants.{Cycle, NoMemory, TooLarge};
 ghost use Rattle.sudoers_cvt_rewrite.specs.declared.filter_text.FilterFault.TheVariants as FilterFault;
 ghost use Rattle.sudoers_cvt_rewrite.specs.Changed.{changes_shown};
 ghost use Rattle.sudoers_cvt_rewrite.specs.Count.{member_limit};
@@ -9,7 +9,7 @@ ghost use Rattle.sudoers_cvt_rewrite.specs.FilterText.{filter_of};
 ghost use Rattle.sudoers_cvt_rewrite.specs.Rewrite.{has_round, member_count, rewritten, used_rules};
 
 use std::alloc::Global;
-use sudoers_cvt::{CvtFault, Rules};
+use sudoers_cvt_rules::{CvtFault, Rules};
 use sudoers_cvt_rewrite::{Changes, Filter, FilterFault, Rewritten, read_filter, rewrite};
 use sudoers_tree::Policy;
 

@@ -1,9 +1,9 @@
 //! The rules of a policy as a policy and as JSON.
 
 ghost use Rattle.std.specs.Prelude.{◌≡◌, ◌⊎◌, false, true, IfOk, OnOk, IfErr};
-ghost use Rattle.sudoers_cvt.specs.declared.fault.CvtFault.TheVariants.{TooLarge, NotUtf8, NoMemory};
-ghost use Rattle.sudoers_cvt.specs.Effective.{effective_command};
-ghost use Rattle.sudoers_cvt.specs.Rules.{fits, printed};
+ghost use Rattle.sudoers_cvt_rules.specs.declared.fault.CvtFault.TheVariants.{TooLarge, NotUtf8, NoMemory};
+ghost use Rattle.sudoers_cvt_rules.specs.Effective.{effective_command};
+ghost use Rattle.sudoers_cvt_rules.specs.Rules.{fits, printed};
 ghost use Rattle.sudoers_cvt_json.specs.Unicode.{is_unicode};
 ghost use Rattle.sudoers_cvt_json.specs.Value.{rules_value, json_text};
 ghost use Rattle.sudoers_match.specs.Heads.{Head as HeadOf};
@@ -12,7 +12,7 @@ ghost use Rattle.sudoers_cvt_spell.specs.Commands.{printed_command};
 ghost use Rattle.sudoers_line_rows.specs.View.{member_shown};
 
 use std::alloc::{AllocError, Global};
-use sudoers_cvt::{CvtFault, Rules, print, print_command};
+use sudoers_cvt_rules::{CvtFault, Rules, print, print_command};
 use sudoers_cvt_json::json;
 use sudoers_line_rows::Member;
 use sudoers_match::Head;

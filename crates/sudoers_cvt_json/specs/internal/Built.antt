@@ -21,11 +21,11 @@ use Rattle.sudoers_match.specs.declared.tags.Tags.{Tags}
 use Rattle.sudoers_match.specs.Values.{value_shown}
 use Rattle.sudoers_cvt_spell.specs.Members.{printed_member}
 use Rattle.sudoers_cvt_spell.specs.Commands.{printed_option, printed_tag}
-use Rattle.sudoers_cvt.specs.declared.fault.CvtFault.{CvtFault}
-use Rattle.sudoers_cvt.specs.declared.fault.CvtFault.TheVariants.{NotUtf8, NoMemory}
-use Rattle.sudoers_cvt.specs.declared.rule.Rule.{Rule}
-use Rattle.sudoers_cvt.specs.declared.rule.Rule.TheVariants.{Defaults, Def, Spec}
-use Rattle.sudoers_cvt.specs.Effective.{effective_group}
+use Rattle.sudoers_cvt_rules.specs.declared.fault.CvtFault.{CvtFault}
+use Rattle.sudoers_cvt_rules.specs.declared.fault.CvtFault.TheVariants.{NotUtf8, NoMemory}
+use Rattle.sudoers_cvt_rules.specs.declared.rule.Rule.{Rule}
+use Rattle.sudoers_cvt_rules.specs.declared.rule.Rule.TheVariants.{Defaults, Def, Spec}
+use Rattle.sudoers_cvt_rules.specs.Effective.{effective_group}
 use Rattle.sudoers_cvt_json.specs.Value.{texts_value, runas_value, spec_value, def_value, defaults_value}
 use Rattle.sudoers_cvt_json.specs.Unicode.{items_are_unicode}
 

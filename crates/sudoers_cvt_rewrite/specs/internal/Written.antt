@@ -13,8 +13,8 @@ use Rattle.sudoers_line_rows.specs.declared.rows.MemberRow.{MemberRow}
 use Rattle.sudoers_line_rows.specs.Tables.{command_in, member_in, perhaps_runas_in, scope_in}
 use Rattle.sudoers_tree.specs.Line.{Line}
 use Rattle.sudoers_match_list.specs.Flattened.{flattened}
-use Rattle.sudoers_cvt.specs.declared.fault.CvtFault.{CvtFault}
-use Rattle.sudoers_cvt.specs.declared.fault.CvtFault.TheVariants.{TooLarge, NoMemory}
+use Rattle.sudoers_cvt_rules.specs.declared.fault.CvtFault.{CvtFault}
+use Rattle.sudoers_cvt_rules.specs.declared.fault.CvtFault.TheVariants.{TooLarge, NoMemory}
 use Rattle.sudoers_cvt_rewrite.specs.Count.{member_limit}
 use Rattle.sudoers_cvt_rewrite.specs.Expand.{with_member}
 use Rattle.sudoers_cvt_rewrite.specs.internal.Extended.{Extended}

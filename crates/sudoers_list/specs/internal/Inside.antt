@@ -7,7 +7,7 @@ use Rattle.sudoers_tree.specs.Line.{Line, line_shown}
 use Rattle.sudoers_match.specs.Heads.{Head}
 use Rattle.sudoers_match.specs.IsHead.{IsHead}
 use Rattle.sudoers_cvt_spell.specs.Members.{printed_list}
-use Rattle.sudoers_cvt.specs.Effective.{effective_command}
+use Rattle.sudoers_cvt_rules.specs.Effective.{effective_command}
 use Rattle.sudoers_list.specs.declared.inner.Inner.{Inner as InnerHeld}
 use Rattle.sudoers_list.specs.declared.rule.LineAt.{LineAt}
 use Rattle.sudoers_list.specs.declared.rule.Rule.{Rule as RuleHeld}

@@ -3,7 +3,7 @@ use Rattle.sudoers_tree.specs.Line.{Line}
 use Rattle.sudoers_tree.specs.Load.{Loaded}
 use Rattle.sudoers_match_member.specs.declared.request.Request.{Request}
 use Rattle.sudoers_match.specs.Answer.{Answer, IsAnswer}
-use Rattle.sudoers_cvt.specs.Rules.{lines_of, printed, rules_of}
+use Rattle.sudoers_cvt_rules.specs.Rules.{lines_of, printed, rules_of}
 use Rattle.laws_program.specs.ReadAs.{IsPrintedAs}
 use Rattle.laws_program.specs.Sound.{IsSound}
 use Rattle.laws_program.proofs.OnlyFile.{ReadsLaw, as_read, is_read}

@@ -1,4 +1,4 @@
-use Rattle.sudoers_cvt.specs.Rules.{lines_of, printed, rules_of}
+use Rattle.sudoers_cvt_rules.specs.Rules.{lines_of, printed, rules_of}
 use Rattle.laws_program.proofs.OnlyFile.{as_only_file}
 use Rattle.laws_program.proofs.ReadLines.{rules_read}
 use Rattle.laws_program.proofs.printing.printed_rules_are_read.Goals as goal

@@ -1,4 +1,4 @@
-use Rattle.sudoers_cvt.specs.Rules.{lines_of, printed, rules_of}
+use Rattle.sudoers_cvt_rules.specs.Rules.{lines_of, printed, rules_of}
 use Rattle.laws_program.proofs.OnlyFile.{ReadsLaw, as_read, is_read}
 use Rattle.laws_program.proofs.Second.{ReadLaw, second, second_fits}
 use Rattle.laws_program.proofs.printing.second_printing_is_same.Goals as goal

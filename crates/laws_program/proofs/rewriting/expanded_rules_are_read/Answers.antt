@@ -1,4 +1,4 @@
-use Rattle.sudoers_cvt.specs.Rules.{Rules, lines_of, printed}
+use Rattle.sudoers_cvt_rules.specs.Rules.{Rules, lines_of, printed}
 use Rattle.sudoers_cvt_rewrite.specs.Rewrite.{used_rules}
 use Rattle.laws_program.specs.Expanded.{expanded}
 use Rattle.laws_program.proofs.OnlyFile.{as_only_file}

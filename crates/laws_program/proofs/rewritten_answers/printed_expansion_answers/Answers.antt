@@ -1,6 +1,6 @@
 use Rattle.std.proofs.Common.{List}
 use Rattle.sudoers_tree.specs.Line.{Line}
-use Rattle.sudoers_cvt.specs.Rules.{Rules, lines_of, printed}
+use Rattle.sudoers_cvt_rules.specs.Rules.{Rules, lines_of, printed}
 use Rattle.sudoers_cvt_rewrite.specs.Rewrite.{used_rules}
 use Rattle.laws_program.specs.Expanded.{expanded}
 use Rattle.laws_program.proofs.Flattened.{ListLaws}

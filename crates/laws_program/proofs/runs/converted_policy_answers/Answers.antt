@@ -5,7 +5,7 @@ use Rattle.sudoers_tree.specs.declared.load_fault.LoadFault.{LoadFault}
 use Rattle.sudoers_tree.specs.Load.{Loaded, load_of}
 use Rattle.sudoers_files.specs.declared.fault.GatherFault.{GatherFault}
 use Rattle.sudoers_files.specs.Gather.{gathered}
-use Rattle.sudoers_cvt.specs.Rules.{rules_of, lines_of, printed, fits}
+use Rattle.sudoers_cvt_rules.specs.Rules.{rules_of, lines_of, printed, fits}
 use Rattle.sudoers_run.specs.declared.words.ConvertWords.{ConvertWords}
 use Rattle.sudoers_run.specs.Convert.{convert_read}
 use Rattle.sudoers_run.specs.Policy.{of_gathered}

@@ -6,7 +6,7 @@ use Rattle.sudoers_tree.specs.Load.{Loaded, load_of}
 use Rattle.sudoers_files.specs.declared.fault.GatherFault.{GatherFault}
 use Rattle.sudoers_files.specs.Gather.{gathered}
 use Rattle.sudoers_check.specs.Chains.{HasReachableCycle}
-use Rattle.sudoers_cvt.specs.Rules.{Rules, lines_of, printed, fits}
+use Rattle.sudoers_cvt_rules.specs.Rules.{Rules, lines_of, printed, fits}
 use Rattle.sudoers_cvt_rewrite.specs.declared.filter.Filter.{Filter}
 use Rattle.sudoers_cvt_rewrite.specs.declared.filter_text.FilterFault.{FilterFault}
 use Rattle.sudoers_cvt_rewrite.specs.FilterText.{filter_of}

@@ -5,8 +5,8 @@ use Rattle.sudoers_line.specs.Node.{CmdSpec}
 use Rattle.sudoers_line_rows.specs.Tables.{command_in}
 use Rattle.sudoers_line_rows.specs.View.{command_shown}
 use Rattle.sudoers_match.specs.Heads.{inherit}
-use Rattle.sudoers_cvt.specs.declared.fault.CvtFault.{CvtFault}
-use Rattle.sudoers_cvt.specs.Effective.{effective_commands}
+use Rattle.sudoers_cvt_rules.specs.declared.fault.CvtFault.{CvtFault}
+use Rattle.sudoers_cvt_rules.specs.Effective.{effective_commands}
 use Rattle.sudoers_cvt_json.specs.Value.{command_value}
 use Rattle.sudoers_cvt_json.specs.Unicode.{is_unicode}
 use Rattle.sudoers_cvt_json.specs.internal.Built.{IsFault, are_unicode, held_value, list_text}

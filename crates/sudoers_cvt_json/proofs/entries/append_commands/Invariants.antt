@@ -1,6 +1,6 @@
 use Rattle.std.proofs.Common.{◌++◌, drop, map, false}
 use Rattle.sudoers_line_rows.specs.Tables.{command_in}
-use Rattle.sudoers_cvt.specs.Effective.{effective_commands}
+use Rattle.sudoers_cvt_rules.specs.Effective.{effective_commands}
 use Rattle.sudoers_cvt_json.specs.Value.{command_value}
 use Rattle.sudoers_cvt_json.specs.internal.Built.{are_unicode, list_text}
 use Rattle.sudoers_cvt_json.proofs.Passing.{IsSoFar}

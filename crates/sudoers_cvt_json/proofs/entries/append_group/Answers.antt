@@ -2,7 +2,7 @@ use Rattle.std.proofs.Common.{◌≡◌, ◌++◌, false, map, codes, ap, ◌∙
 use Rattle.serde_json.specs.Written.{compact_text}
 use Rattle.sudoers_line.specs.declared.node.Kind.TheVariants.{Host}
 use Rattle.sudoers_line_rows.specs.View.{commands_shown, members_shown}
-use Rattle.sudoers_cvt.specs.Effective.{effective_commands}
+use Rattle.sudoers_cvt_rules.specs.Effective.{effective_commands}
 use Rattle.sudoers_cvt_json.specs.Value.{command_value, members_value}
 use Rattle.sudoers_cvt_json.specs.internal.Built.{list_text}
 use Rattle.sudoers_cvt_json.proofs.Parts.{group_text}

@@ -1,6 +1,6 @@
 use Rattle.std.proofs.Common.{◌≡◌, ◌++◌, drop, map, false}
 use Rattle.sudoers_line_rows.specs.Tables.{group_in}
-use Rattle.sudoers_cvt.specs.Effective.{effective_group}
+use Rattle.sudoers_cvt_rules.specs.Effective.{effective_group}
 use Rattle.sudoers_cvt_json.specs.Value.{group_value}
 use Rattle.sudoers_cvt_json.specs.internal.Built.{are_unicode, list_text}
 use Rattle.sudoers_cvt_json.proofs.entries.append_groups.Given as goal

@@ -2,7 +2,7 @@ use Rattle.std.proofs.Common.{◌≡◌, ◌++◌, true, false, map, codes, ap, 
 use Rattle.serde_json.specs.Written.{compact_text}
 use Rattle.sudoers_line.specs.declared.node.Kind.TheVariants.{User}
 use Rattle.sudoers_line_rows.specs.View.{groups_shown, members_shown}
-use Rattle.sudoers_cvt.specs.Effective.{effective_group}
+use Rattle.sudoers_cvt_rules.specs.Effective.{effective_group}
 use Rattle.sudoers_cvt_json.specs.Value.{group_value, members_value}
 use Rattle.sudoers_cvt_json.specs.internal.Built.{list_text}
 use Rattle.sudoers_cvt_json.proofs.Parts.{spec_text}

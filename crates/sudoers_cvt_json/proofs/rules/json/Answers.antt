@@ -1,8 +1,8 @@
 use Rattle.std.proofs.Common.{rules, ◌≡◌, ◌++◌, false, map, codes, Err, IfErr, sym, ap, subst, ◌∙◌}
 use Rattle.serde_json.specs.Data.{Data}
 use Rattle.serde_json.specs.Written.{compact_text}
-use Rattle.sudoers_cvt.specs.declared.fault.CvtFault.{CvtFault}
-use Rattle.sudoers_cvt.specs.Rule.{rule_shown}
+use Rattle.sudoers_cvt_rules.specs.declared.fault.CvtFault.{CvtFault}
+use Rattle.sudoers_cvt_rules.specs.Rule.{rule_shown}
 use Rattle.std.specs.List.{flat_map}
 use Rattle.sudoers_cvt_json.specs.Value.{entries, rules_value}
 use Rattle.sudoers_cvt_json.specs.Unicode.{is_unicode}

@@ -1,7 +1,7 @@
 use Rattle.std.proofs.Common.{◌≡◌, ◌≤◌, ◌∙◌, true, false, Err, IfErr, inr, length, map, rules, sym, ap, ap₂, subst, arith}
 use Rattle.sudoers_tree.specs.Definition.{definitions}
 use Rattle.sudoers_check.specs.Led.{is_used}
-use Rattle.sudoers_cvt.specs.declared.fault.CvtFault.{CvtFault}
+use Rattle.sudoers_cvt_rules.specs.declared.fault.CvtFault.{CvtFault}
 use Rattle.sudoers_cvt_rewrite.specs.Changed.{changes_shown}
 use Rattle.sudoers_cvt_rewrite.specs.Count.{lines_count, member_limit}
 use Rattle.sudoers_cvt_rewrite.specs.Rewrite.{member_count, rewritten}

@@ -2,7 +2,7 @@ use Rattle.std.proofs.Common.{rules, ◌≡◌, ◌+◌, true, false, inr, drop,
 use Rattle.sudoers_line.specs.Node.{CmdSpec}
 use Rattle.std.proofs.Common.{List, ◌++◌}
 use Rattle.sudoers_line_rows.specs.Tables.{command_in}
-use Rattle.sudoers_cvt.specs.declared.fault.CvtFault.{CvtFault}
+use Rattle.sudoers_cvt_rules.specs.declared.fault.CvtFault.{CvtFault}
 use Rattle.sudoers_cvt_rewrite.specs.declared.tally.Tally.{Tally}
 use Rattle.sudoers_cvt_rewrite.specs.Count.{commands_count}
 use Rattle.sudoers_cvt_rewrite.specs.internal.Written.{IsRefusal, each_in}

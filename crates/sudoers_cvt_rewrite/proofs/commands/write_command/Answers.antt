@@ -6,7 +6,7 @@ use Rattle.sudoers_line.specs.Node.{CmdSpec}
 use Rattle.sudoers_line_rows.specs.declared.rows.CommandRow.{CommandRow}
 use Rattle.sudoers_line_rows.specs.declared.rows.Tables.{Tables}
 use Rattle.sudoers_line_rows.specs.Tables.{command_in}
-use Rattle.sudoers_cvt.specs.declared.fault.CvtFault.{CvtFault}
+use Rattle.sudoers_cvt_rules.specs.declared.fault.CvtFault.{CvtFault}
 use Rattle.sudoers_cvt_rewrite.specs.Count.{commands_count}
 use Rattle.sudoers_cvt_rewrite.specs.internal.Extended.{Extended}
 use Rattle.sudoers_cvt_rewrite.specs.internal.Written.{IsRefusal, command_if, each_in, list_if, runas_if}

@@ -2,7 +2,7 @@ use Rattle.std.proofs.Common.{rules, ◌≡◌, ◌+◌, List, Err, IfErr, flat_
 use Rattle.std.proofs.lemmas.List.{at_drop_all, at_drop_more}
 use Rattle.sudoers_line_rows.specs.declared.rows.CommandRow.{CommandRow}
 use Rattle.sudoers_line_rows.specs.Tables.{command_in}
-use Rattle.sudoers_cvt.specs.declared.fault.CvtFault.{CvtFault}
+use Rattle.sudoers_cvt_rules.specs.declared.fault.CvtFault.{CvtFault}
 use Rattle.sudoers_cvt_rewrite.specs.Count.{commands_count}
 use Rattle.sudoers_cvt_rewrite.specs.internal.Written.{IsRefusal, command_if}
 use Rattle.sudoers_cvt_rewrite.proofs.Extending.{extended_on, like_on}

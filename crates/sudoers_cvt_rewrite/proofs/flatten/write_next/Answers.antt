@@ -3,7 +3,7 @@ use Rattle.std.proofs.lemmas.List.{length-map, nil_from_length}
 use Rattle.std.proofs.lemmas.Result.{IfErr-weaker, on_ok_weaker}
 use Rattle.sudoers_line_rows.specs.Tables.{member_in}
 use Rattle.sudoers_match_list.specs.Flattened.{replaced_times, turned_member}
-use Rattle.sudoers_cvt.specs.declared.fault.CvtFault.TheVariants.{TooLarge, NoMemory}
+use Rattle.sudoers_cvt_rules.specs.declared.fault.CvtFault.TheVariants.{TooLarge, NoMemory}
 use Rattle.sudoers_cvt_rewrite.specs.declared.flatten.Part.{Part}
 use Rattle.sudoers_cvt_rewrite.specs.Count.{member_limit}
 use Rattle.sudoers_cvt_rewrite.specs.internal.Parts.{IsReplacement, left_of, steps_left}

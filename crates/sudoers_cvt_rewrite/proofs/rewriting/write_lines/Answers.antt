@@ -2,7 +2,7 @@ use Rattle.std.proofs.Common.{rules, ◌≡◌, ◌+◌, Err, IfErr, drop, refl,
 use Rattle.std.proofs.lemmas.List.{at_drop_all}
 use Rattle.sudoers_line.specs.Node.{Node}
 use Rattle.sudoers_tree.specs.Line.{line_in}
-use Rattle.sudoers_cvt.specs.declared.fault.CvtFault.{CvtFault}
+use Rattle.sudoers_cvt_rules.specs.declared.fault.CvtFault.{CvtFault}
 use Rattle.sudoers_cvt_rewrite.specs.Changed.{changes_shown}
 use Rattle.sudoers_cvt_rewrite.specs.Count.{lines_count, node_count}
 use Rattle.sudoers_cvt_rewrite.specs.Rewrite.{filtered_by}

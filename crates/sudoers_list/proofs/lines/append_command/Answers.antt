@@ -5,7 +5,7 @@ use Rattle.sudoers_line_rows.specs.View.{member_shown}
 use Rattle.sudoers_match.specs.Heads.{Head, listed, option_of, tag_of}
 use Rattle.sudoers_cvt_spell.specs.Members.{printed_member}
 use Rattle.sudoers_cvt_spell.specs.Commands.{printed_options, printed_runas, printed_tags}
-use Rattle.sudoers_cvt.specs.Effective.{listed_tags}
+use Rattle.sudoers_cvt_rules.specs.Effective.{listed_tags}
 use Rattle.sudoers_list.specs.Listing.{listed_runas}
 use Rattle.sudoers_list.proofs.Passing.{on_ok, parts, when_ok}
 use Rattle.sudoers_list.proofs.lines.append_command.Goals as goal

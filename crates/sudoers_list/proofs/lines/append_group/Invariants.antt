@@ -1,7 +1,7 @@
 use Rattle.std.proofs.Common.{◌++◌, drop, map, flat_map}
 use Rattle.sudoers_line_rows.specs.Tables.{command_in}
 use Rattle.sudoers_line_rows.specs.View.{commands_shown}
-use Rattle.sudoers_cvt.specs.Effective.{effective_commands}
+use Rattle.sudoers_cvt_rules.specs.Effective.{effective_commands}
 use Rattle.sudoers_list.specs.Listing.{command_line}
 use Rattle.sudoers_list.proofs.Passing.{IsSoFar}
 use Rattle.sudoers_list.proofs.lines.append_group.Given as goal

@@ -3,7 +3,7 @@ use Rattle.sudoers_line.specs.Node.{Node}
 use Rattle.sudoers_tree.specs.Line.{Line, lines_shown}
 use Rattle.sudoers_tree.specs.Definition.{definitions}
 use Rattle.sudoers_check.specs.Led.{is_used}
-use Rattle.sudoers_cvt.specs.Rules.{Rules, rules_of, with_marked}
+use Rattle.sudoers_cvt_rules.specs.Rules.{Rules, rules_of, with_marked}
 use Rattle.sudoers_cvt_rewrite.proofs.Uses.{as_many, used_defs}
 use Rattle.sudoers_cvt_rewrite.proofs.changing.Rewritten.rules.Goals as goal
 

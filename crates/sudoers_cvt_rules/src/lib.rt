@@ -1,0 +1,14 @@
+//! Conversion of sudoers policies: their rules, printed anew.
+#![tactic(auto)]
+
+mod fault;
+mod heads;
+mod lines;
+mod printing;
+mod rule;
+mod rules;
+
+pub use fault::CvtFault;
+pub use printing::{print, print_command};
+pub use rule::Rule;
+pub use rules::Rules;

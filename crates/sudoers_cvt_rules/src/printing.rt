@@ -1,0 +1,89 @@
+//! Rules, printed as the text of a policy.
+
+ghost use Rattle.std.specs.Prelude.{◌≡◌, ◌⊎◌, true, false, ◌≤◌, ◌<◌, ◌++◌, length, map, IfOk, OnOk, IfErr};
+ghost use Rattle.std.specs.List.{AllByRecursion};
+ghost use Rattle.sudoers_text.specs.Fault.{text_limit, line_limit};
+ghost use Rattle.sudoers_line_rows.specs.View.{member_shown};
+ghost use Rattle.sudoers_match.specs.Heads.{Head as HeadOf};
+ghost use Rattle.sudoers_match.specs.IsHead.{IsHead};
+ghost use Rattle.sudoers_cvt_spell.specs.Commands.{printed_command};
+ghost use Rattle.sudoers_cvt_spell.specs.Lines.{printed_line, printed_lines};
+ghost use Rattle.sudoers_cvt_rules.specs.declared.fault.CvtFault.TheVariants.{TooLarge, NoMemory};
+ghost use Rattle.sudoers_cvt_rules.specs.Effective.{effective_command};
+ghost use Rattle.sudoers_cvt_rules.specs.Rules.{fits, printed};
+ghost use Rattle.sudoers_cvt_rules.specs.Rule.{rule_shown};
+ghost use Rattle.sudoers_cvt_rules.specs.internal.Long.{Fits, IsPrintFault, PassesLimit};
+
+use crate::fault::CvtFault;
+use crate::heads::append_command;
+use crate::lines::rule_line;
+use crate::rule::Rule;
+use crate::rules::Rules;
+use std::alloc::{AllocError, Global};
+use sudoers_line_rows::Member;
+use sudoers_match::Head;
+use sudoers_text::TEXT_LIMIT;
+
+/// Appends rules, a line each.
+fn append_rules(alloc: Global, text: &mut Vec<u8>, rules: &[Rule<'_>]) -> Result<(), CvtFault>
+    ensures appended { OnOk result (text.new.items ≡ text.old.items ++ printed_lines (map rule_shown rules.now)) }
+    ensures fits { OnOk result (length text.old.items ≤ text_limit → length text.new.items ≤ text_limit) }
+    ensures lines { OnOk result (AllByRecursion (λ n. length (printed_line n) ≤ line_limit) (map rule_shown rules.now)) }
+    ensures fault { IfErr result (PassesLimit text.old.items (map rule_shown rules.now)) }
+{
+    for rule in rules {
+        let line = rule_line(alloc, rule)?;
+        text.extend_from_slice(line.as_slice())?;
+        if text.len() > TEXT_LIMIT {
+            return Err(CvtFault::TooLarge);
+        }
+    }
+    Ok(())
+}
+
+/// Returns `rules` as the text of a policy: all Defaults lines, then all definitions, then all user specifications.
+///
+/// # Errors
+///
+/// `TooLarge`: the text passes 1,048,576 bytes, or one of its lines 65,536. `NoMemory`: memory ran out.
+pub fn print(alloc: Global, rules: &Rules<'_>) -> Result<Vec<u8>, CvtFault>
+    ensures text { IfOk result (λ text. text.items ≡ printed rules.now) }
+    ensures fits { OnOk result (fits rules.now ≡ true) }
+    ensures fault { IfErr result (λ fault. (fault ≡ NoMemory) ⊎ ((fault ≡ TooLarge) × (fits rules.now ≡ false))) }
+{
+    match print_lines(alloc, rules) {
+        Ok(text) => Ok(text),
+        Err(fault) => Err(fault),
+    }
+}
+
+/// Returns the lines of `rules`, one after another.
+fn print_lines(alloc: Global, rules: &Rules<'_>) -> Result<Vec<u8>, CvtFault>
+    ensures text { IfOk result (λ text. text.items ≡ printed rules.now) }
+    ensures fits { OnOk result (Fits rules.now) }
+    ensures fault { IfErr result (IsPrintFault rules.now) }
+{
+    let mut text = Vec::new(alloc);
+    append_rules(alloc, &mut text, rules.defaults())?;
+    append_rules(alloc, &mut text, rules.defs())?;
+    append_rules(alloc, &mut text, rules.specs())?;
+    Ok(text)
+}
+
+/// Returns a command as it is printed: the Runas_Spec, the options and the tags that hold of it, and the command.
+///
+/// # Errors
+///
+/// Memory ran out.
+pub fn print_command(
+    alloc: Global,
+    head: &Head<'_>,
+    command: &Member<'_>,
+) -> Result<Vec<u8>, AllocError>
+    ensures { IfOk result (λ text. (h : HeadOf) → IsHead head.now h
+        → text.items ≡ printed_command (effective_command (h, member_shown command.now))) }
+{
+    let mut out = Vec::new(alloc);
+    append_command(alloc, &mut out, head, command)?;
+    Ok(out)
+}
