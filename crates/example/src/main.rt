@@ -13,11 +13,17 @@ use sudoers_tree::{Items, Policy};
 const POLICY: &[u8] = b"User_Alias WEB = ann, bob # the web team\n\
     WEB www1 = (root) NOPASSWD: /usr/bin/systemctl restart nginx\n\
     eve ALL = ALL\n";
+
 const PASSWD: &[u8] = b"root:x:0:0::/root:/bin/sh\nann:x:1001:1001::/home/ann:/bin/sh\n";
+
 const GROUP: &[u8] = b"root:x:0:\nann:x:1001:\n";
+
 const COMMAND: [&[u8]; 3] = [b"/usr/bin/systemctl", b"restart", b"nginx"];
+
 const MOMENT: &[u8] = b"20260131120000Z";
+
 const SCRIPT: &[u8] = b"drop user WEB 2\nrename user WEB CREW\n";
+
 const FILTER: &[u8] = b"user=ann";
 
 /// Why the example stopped.
@@ -65,16 +71,12 @@ fn ask(rt: &HostRuntime, policy: &Policy) -> Result<(), Stopped> {
 }
 
 /// Returns whether `who` may run the command as root.
-fn is_allowed(
-    alloc: Global,
-    policy: &Policy,
-    people: &People,
-    who: Who,
-) -> Result<bool, Stopped> {
+fn is_allowed(alloc: Global, policy: &Policy, people: &People, who: Who) -> Result<bool, Stopped> {
     let Ok(words) = words_of(alloc) else {
         return Err(Stopped("no memory\n"));
     };
-    let Ok(request) = request_for(alloc, people, who, b"root", None, words.as_slice(), MOMENT) else {
+    let Ok(request) = request_for(alloc, people, who, b"root", None, words.as_slice(), MOMENT)
+    else {
         return Err(Stopped("no request\n"));
     };
     match answer(alloc, policy, &request) {

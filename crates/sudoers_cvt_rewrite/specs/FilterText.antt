@@ -72,10 +72,10 @@ is_same_key key other = false
 abbrev pub values_of : Key → List (Key × List ℕ) → List (List ℕ)
 values_of key pairs = map (λ (p : Key × List ℕ). p.1) (filter (λ (p : Key × List ℕ). is_same_key key p.0) pairs)
 
-abbrev pub filter_from : Result (List (Key × List ℕ)) FilterFault → Result Filter FilterFault
-filter_from (Err fault) = Err fault
-filter_from (Ok pairs) = Ok (record { users = values_of User pairs; groups = values_of Group pairs; hosts = values_of Host pairs })
+abbrev pub filter_of_pairs : Result (List (Key × List ℕ)) FilterFault → Result Filter FilterFault
+filter_of_pairs (Err fault) = Err fault
+filter_of_pairs (Ok pairs) = Ok (record { users = values_of User pairs; groups = values_of Group pairs; hosts = values_of Host pairs })
 
 -- what the text of a filter says
 abbrev pub filter_of : List ℕ → Result Filter FilterFault
-filter_of text = filter_from (pairs_of (slice_split (λ b. b == 44) text))
+filter_of text = filter_of_pairs (pairs_of (slice_split (λ b. b == 44) text))

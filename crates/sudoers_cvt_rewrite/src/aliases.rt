@@ -26,7 +26,7 @@ pub struct Chain<'a> {
 
 /// A policy whose lines are written anew, with its definitions and shortcuts by their numbers, and whether aliases are replaced.
 #[derive(Drop)]
-pub struct Source<'a, 'b> {
+pub struct Expansion<'a, 'b> {
     pub policy: &'b Acyclic<'a>,
     pub lines: Rows<'a, LineRow>,
     pub definitions: Vec<DefinitionRow<'a>>,
@@ -37,7 +37,7 @@ pub struct Source<'a, 'b> {
     ghost shortcuts_are: { AreShortcuts policy.now shortcuts.items },
 }
 
-impl<'a, 'b> Source<'a, 'b> {
+impl<'a, 'b> Expansion<'a, 'b> {
     /// Returns `policy` as a source of lines.
     ///
     /// # Errors
@@ -47,14 +47,14 @@ impl<'a, 'b> Source<'a, 'b> {
         alloc: Global,
         policy: &'b Acyclic<'a>,
         expand: bool,
-    ) -> Result<Source<'a, 'b>, AllocError>
+    ) -> Result<Expansion<'a, 'b>, AllocError>
         ensures policy { IfOk result (λ source. source.policy.now ≡ policy.now) }
         ensures expand { IfOk result (λ source. source.expand ≡ expand) }
     {
         let lines = policy.lines();
         let definitions = list_definitions(alloc, policy, &lines)?;
         let shortcuts = find_shortcuts(alloc, policy, lines.tables, definitions.as_slice())?;
-        Ok(Source {
+        Ok(Expansion {
             policy,
             lines,
             definitions,

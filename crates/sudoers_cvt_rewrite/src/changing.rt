@@ -6,7 +6,7 @@ ghost use Rattle.sudoers_cvt_rewrite.specs.Changed.{changes_shown};
 ghost use Rattle.sudoers_cvt_rewrite.specs.Count.{member_limit};
 ghost use Rattle.sudoers_cvt_rewrite.specs.Rewrite.{has_round, member_count, rewritten, used_rules};
 
-use crate::aliases::Source;
+use crate::aliases::Expansion;
 use crate::filter::Filter;
 use crate::rewriting::{NewLines, write_lines};
 use std::alloc::Global;
@@ -101,7 +101,7 @@ pub fn rewrite_acyclic(
     ensures fault { IfErr result (λ fault. (fault ≡ NoMemory) ⊎ ((fault ≡ TooLarge) × (changes.now.expand ≡ true)
         × (member_limit < member_count (rewritten (changes_shown changes.now) policy.now)))) }
 {
-    let source = Source::new(alloc, policy, changes.expand)?;
+    let source = Expansion::new(alloc, policy, changes.expand)?;
     let (lines, mut tally) = write_lines(alloc, &source, changes)?;
     let marks = mark_used(alloc, policy.numbers(), &lines.as_rows())?;
     if changes.expand {

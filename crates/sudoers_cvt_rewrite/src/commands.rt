@@ -9,7 +9,7 @@ ghost use Rattle.sudoers_cvt_rewrite.specs.Count.{commands_count};
 ghost use Rattle.sudoers_cvt_rewrite.specs.internal.Extended.{IsLike, Extended, Stays};
 ghost use Rattle.sudoers_cvt_rewrite.specs.internal.Written.{IsRefusal, command_if, each_in};
 
-use crate::aliases::Source;
+use crate::aliases::Expansion;
 use crate::copying::write_commands;
 use crate::listing::{flat_list, write_own_runas};
 use crate::tally::Tally;
@@ -20,7 +20,7 @@ use sudoers_tree::Kind;
 
 /// Appends a command for each of the members, and counts them.
 fn append_each(
-    source: &Source<'_, '_>,
+    source: &Expansion<'_, '_>,
     tables: &Tables,
     tally: &mut Tally,
     row: CommandRow,
@@ -48,7 +48,7 @@ fn append_each(
 /// Writes a command, its aliases replaced if that is wanted: one command for each member of its flat list.
 fn write_command(
     alloc: Global,
-    source: &Source<'_, '_>,
+    source: &Expansion<'_, '_>,
     tables: &mut Tables,
     tally: &mut Tally,
     row: &CommandRow,
@@ -76,7 +76,7 @@ fn write_command(
 #[tactic(auto, using(crate::proofs::Extending::extended_self, crate::proofs::Extending::extended_on, crate::proofs::Extending::like_on))]
 pub fn write_command_list(
     alloc: Global,
-    source: &Source<'_, '_>,
+    source: &Expansion<'_, '_>,
     tables: &mut Tables,
     tally: &mut Tally,
     rows: &[CommandRow],

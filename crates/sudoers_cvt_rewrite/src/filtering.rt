@@ -7,7 +7,7 @@ ghost use Rattle.sudoers_cvt_rewrite.specs.internal.Extended.{IsLike, Extended, 
 ghost use Rattle.sudoers_cvt_rewrite.specs.internal.Selected.{chosen_in};
 ghost use Rattle.sudoers_cvt_rewrite.specs.internal.Written.{IsRefusal, node_if};
 
-use crate::aliases::Source;
+use crate::aliases::Expansion;
 use crate::groups::write_spec;
 use crate::nodes::write_node;
 use crate::selecting::Choice;
@@ -20,7 +20,7 @@ use sudoers_line_rows::{NodeRow, Tables};
 #[tactic(auto, using(crate::proofs::Extending::extended_self))]
 pub fn write_choice(
     alloc: Global,
-    source: &Source<'_, '_>,
+    source: &Expansion<'_, '_>,
     tables: &mut Tables,
     tally: &mut Tally,
     row: &NodeRow,

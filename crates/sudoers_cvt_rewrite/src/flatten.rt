@@ -8,7 +8,7 @@ ghost use Rattle.sudoers_cvt_rules.specs.declared.fault.CvtFault.TheVariants.{To
 ghost use Rattle.sudoers_cvt_rewrite.specs.Count.{member_limit};
 ghost use Rattle.sudoers_cvt_rewrite.specs.internal.Parts.{IsReplacement, left_of, steps_left};
 
-use crate::aliases::Source;
+use crate::aliases::Expansion;
 use crate::shortcuts::flip;
 use std::alloc::Global;
 use sudoers_cvt_rules::CvtFault;
@@ -33,7 +33,7 @@ struct Part<'a> {
 /// `TooLarge`: the list has more than 65,536 members then. `NoMemory`: memory ran out.
 pub fn flatten<'a>(
     alloc: Global,
-    source: &Source<'a, '_>,
+    source: &Expansion<'a, '_>,
     kind: Kind,
     rows: &'a [MemberRow],
 ) -> Result<Vec<MemberRow>, CvtFault>
@@ -58,7 +58,7 @@ pub fn flatten<'a>(
 /// Appends the next member of a part to the list `flat`. If it names an alias that is to be replaced, the members of the alias are left
 /// to be written in its place.
 fn write_next<'a>(
-    source: &Source<'a, '_>,
+    source: &Expansion<'a, '_>,
     kind: Kind,
     part: &Part<'a>,
     parts: &mut Vec<Part<'a>>,
@@ -93,7 +93,7 @@ fn write_next<'a>(
 
 /// Returns what comes in the place of a member, if it names an alias and aliases are still replaced, so many times.
 fn replacement<'a>(
-    source: &Source<'a, '_>,
+    source: &Expansion<'a, '_>,
     kind: Kind,
     row: &MemberRow,
     times: usize,

@@ -8,7 +8,7 @@ ghost use Rattle.sudoers_cvt_rewrite.specs.internal.Extended.{IsLike, Extended, 
 ghost use Rattle.sudoers_cvt_rewrite.specs.internal.Selected.{selected_in};
 ghost use Rattle.sudoers_cvt_rewrite.specs.internal.Written.{IsRefusal, group_if, group_of, node_if};
 
-use crate::aliases::Source;
+use crate::aliases::Expansion;
 use crate::commands::write_command_list;
 use crate::copying::write_groups;
 use crate::listing::write_list;
@@ -23,7 +23,7 @@ use sudoers_tree::Kind;
 #[tactic(auto, using(crate::proofs::Extending::extended_self, crate::proofs::Extending::extended_on, crate::proofs::Extending::like_on))]
 pub fn write_group(
     alloc: Global,
-    source: &Source<'_, '_>,
+    source: &Expansion<'_, '_>,
     tables: &mut Tables,
     tally: &mut Tally,
     hosts: &[MemberRow],
@@ -50,7 +50,7 @@ pub fn write_group(
 #[tactic(auto, using(crate::proofs::Extending::extended_self, crate::proofs::Extending::extended_on, crate::proofs::Extending::like_on))]
 fn write_group_list(
     alloc: Global,
-    source: &Source<'_, '_>,
+    source: &Expansion<'_, '_>,
     tables: &mut Tables,
     tally: &mut Tally,
     groups: &[Selected],
@@ -76,7 +76,7 @@ fn write_group_list(
 #[tactic(auto, using(crate::proofs::Extending::extended_self, crate::proofs::Extending::extended_on, crate::proofs::Extending::like_on))]
 pub fn write_spec(
     alloc: Global,
-    source: &Source<'_, '_>,
+    source: &Expansion<'_, '_>,
     tables: &mut Tables,
     tally: &mut Tally,
     users: &[MemberRow],

@@ -8,7 +8,7 @@ ghost use Rattle.sudoers_line.specs.declared.node.Kind.TheVariants.{Runas};
 ghost use Rattle.sudoers_cvt_rewrite.specs.internal.Extended.{IsLike, Extended, Stays};
 ghost use Rattle.sudoers_cvt_rewrite.specs.internal.Written.{IsRefusal, list_if, perhaps_scope_in, runas_if, scope_if};
 
-use crate::aliases::Source;
+use crate::aliases::Expansion;
 use crate::copying::write_members;
 use crate::flatten::flatten;
 use crate::tally::Tally;
@@ -20,7 +20,7 @@ use sudoers_tree::Kind;
 /// Returns the list, its aliases replaced if that is wanted.
 pub fn flat_list(
     alloc: Global,
-    source: &Source<'_, '_>,
+    source: &Expansion<'_, '_>,
     kind: Kind,
     rows: &[MemberRow],
 ) -> Result<Vec<MemberRow>, CvtFault>
@@ -39,7 +39,7 @@ pub fn flat_list(
 /// Writes a list, its aliases replaced if that is wanted, and counts it.
 pub fn write_list(
     alloc: Global,
-    source: &Source<'_, '_>,
+    source: &Expansion<'_, '_>,
     tables: &mut Tables,
     tally: &mut Tally,
     kind: Kind,
@@ -64,7 +64,7 @@ pub fn write_list(
 /// Writes a list that stands in a range, its aliases replaced if that is wanted. It is counted elsewhere.
 fn write_range(
     alloc: Global,
-    source: &Source<'_, '_>,
+    source: &Expansion<'_, '_>,
     tables: &mut Tables,
     range: Range,
 ) -> Result<Range, CvtFault>
@@ -83,7 +83,7 @@ fn write_range(
 /// Writes a Runas_Spec, its aliases replaced if that is wanted. It is counted with the commands of which it holds.
 fn write_runas(
     alloc: Global,
-    source: &Source<'_, '_>,
+    source: &Expansion<'_, '_>,
     tables: &mut Tables,
     row: RunasRow,
 ) -> Result<RunasRow, CvtFault>
@@ -102,7 +102,7 @@ fn write_runas(
 /// Writes the Runas_Spec of a command, if it has one.
 pub fn write_own_runas(
     alloc: Global,
-    source: &Source<'_, '_>,
+    source: &Expansion<'_, '_>,
     tables: &mut Tables,
     row: Option<RunasRow>,
 ) -> Result<Option<RunasRow>, CvtFault>
@@ -122,7 +122,7 @@ pub fn write_own_runas(
 /// Writes the scope of a Defaults line, its aliases replaced if that is wanted; a list of commands stays as it is.
 fn write_scope(
     alloc: Global,
-    source: &Source<'_, '_>,
+    source: &Expansion<'_, '_>,
     tables: &mut Tables,
     tally: &mut Tally,
     row: ScopeRow,
@@ -150,7 +150,7 @@ fn write_scope(
 
 /// Writes a list as it is, and counts it.
 fn write_plain(
-    source: &Source<'_, '_>,
+    source: &Expansion<'_, '_>,
     tables: &mut Tables,
     tally: &mut Tally,
     rows: &[MemberRow],
@@ -172,7 +172,7 @@ fn write_plain(
 /// Writes the scope of a Defaults line, if it has one.
 pub fn write_own_scope(
     alloc: Global,
-    source: &Source<'_, '_>,
+    source: &Expansion<'_, '_>,
     tables: &mut Tables,
     tally: &mut Tally,
     row: Option<ScopeRow>,

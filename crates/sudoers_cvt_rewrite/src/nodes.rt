@@ -6,7 +6,7 @@ ghost use Rattle.sudoers_cvt_rewrite.specs.Count.{node_count};
 ghost use Rattle.sudoers_cvt_rewrite.specs.internal.Extended.{IsLike, Extended, Stays};
 ghost use Rattle.sudoers_cvt_rewrite.specs.internal.Written.{IsRefusal, node_if};
 
-use crate::aliases::Source;
+use crate::aliases::Expansion;
 use crate::copying::{write_defs, write_members};
 use crate::groups::write_spec;
 use crate::listing::write_own_scope;
@@ -47,7 +47,7 @@ fn write_def_list(
 /// Writes what a line says, its aliases replaced if that is wanted, and counts its members. Definitions stay as they are.
 pub fn write_node(
     alloc: Global,
-    source: &Source<'_, '_>,
+    source: &Expansion<'_, '_>,
     tables: &mut Tables,
     tally: &mut Tally,
     row: &NodeRow,

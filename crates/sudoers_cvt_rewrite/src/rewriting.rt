@@ -10,7 +10,7 @@ ghost use Rattle.sudoers_cvt_rewrite.specs.Rewrite.{filtered_by};
 ghost use Rattle.sudoers_cvt_rewrite.specs.internal.Selected.{chosen_in, NodeIsStraight};
 ghost use Rattle.sudoers_cvt_rewrite.specs.internal.Written.{IsRefusal, node_if, written_lines};
 
-use crate::aliases::Source;
+use crate::aliases::Expansion;
 use crate::changing::Changes;
 use crate::copying::copy_texts;
 use crate::filtering::write_choice;
@@ -83,7 +83,7 @@ fn choose<'a>(
 #[tactic(auto, using(crate::proofs::Extending::extended_self, crate::proofs::Extending::like_on))]
 pub fn write_lines(
     alloc: Global,
-    source: &Source<'_, '_>,
+    source: &Expansion<'_, '_>,
     changes: &Changes<'_>,
 ) -> Result<(NewLines, Tally), CvtFault>
     ensures lines { IfOk result (λ new. new.0 ≡ written_lines (λ n. node_if source.now.expand source.now.policy.now

@@ -17,9 +17,9 @@ use crate::loading::load_policy;
 use crate::output::write_all;
 use crate::words::ConvertWords;
 use std::alloc::Global;
-use sudoers_cvt_rules::{Rules, print};
 use sudoers_cvt_json::json;
 use sudoers_cvt_rewrite::{Changes, Filter, read_filter, rewrite};
+use sudoers_cvt_rules::{Rules, print};
 use sudoers_files::Files;
 use sudoers_tree::{LoadFault, Policy};
 

@@ -2,8 +2,8 @@
 
 use std::alloc::AllocError;
 use sudoers_bundle::BundleFault;
-use sudoers_cvt_rules::CvtFault;
 use sudoers_cvt_rewrite::FilterFault;
+use sudoers_cvt_rules::CvtFault;
 use sudoers_edit::{EditFault, ScriptFault};
 use sudoers_files::GatherFault;
 use sudoers_list_people::{PeopleFault, WhoFault};

@@ -5,8 +5,8 @@ ghost use Rattle.sudoers_run.specs.FaultText.{ask_name, cvt_name, file_name, fil
 
 use crate::fault::{LayerFault, ToolFault};
 use std::alloc::{AllocError, Global};
-use sudoers_cvt_rules::CvtFault;
 use sudoers_cvt_rewrite::FilterFault;
+use sudoers_cvt_rules::CvtFault;
 use sudoers_edit::{EditFault, ScriptFault};
 use sudoers_files::{FileFault, GatherFault};
 use sudoers_line::{Kind, Why, kind_name};

@@ -9,8 +9,8 @@ ghost use Rattle.sudoers_cvt_rewrite.specs.FilterText.{filter_of};
 ghost use Rattle.sudoers_cvt_rewrite.specs.Rewrite.{has_round, member_count, rewritten, used_rules};
 
 use std::alloc::Global;
-use sudoers_cvt_rules::{CvtFault, Rules};
 use sudoers_cvt_rewrite::{Changes, Filter, FilterFault, Rewritten, read_filter, rewrite};
+use sudoers_cvt_rules::{CvtFault, Rules};
 use sudoers_tree::Policy;
 
 /// Returns the filter that `text` is.

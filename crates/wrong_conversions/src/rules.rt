@@ -12,8 +12,8 @@ ghost use Rattle.sudoers_cvt_spell.specs.Commands.{printed_command};
 ghost use Rattle.sudoers_line_rows.specs.View.{member_shown};
 
 use std::alloc::{AllocError, Global};
-use sudoers_cvt_rules::{CvtFault, Rules, print, print_command};
 use sudoers_cvt_json::json;
+use sudoers_cvt_rules::{CvtFault, Rules, print, print_command};
 use sudoers_line_rows::Member;
 use sudoers_match::Head;
 

@@ -9,7 +9,7 @@ use Rattle.sudoers_match_list.specs.Flat.{alias_of}
 use Rattle.sudoers_match_list.proofs.Numbered.{alias_none, number_within}
 use Rattle.sudoers_cvt_rewrite.specs.internal.Shortcuts.{IsChain}
 use Rattle.sudoers_cvt_rewrite.proofs.Shortened.{as_many, chain_is}
-use Rattle.sudoers_cvt_rewrite.proofs.aliases.Source.find.Goals as goal
+use Rattle.sudoers_cvt_rewrite.proofs.aliases.Expansion.find.Goals as goal
 
 -- what `get` finds
 read_at : {X : Type 0} (xs ys : List X) (i : ℕ) (x : X) → xs ≡ ys → true ≡ ltb i (length xs) → x ≡ get_or xs i x → slice_get ys i ≡ Some x
