@@ -52,7 +52,7 @@ LIMITS = {
     "README.md": 160,
     "CONTRIBUTING.md": 90,
     "SECURITY.md": 60,
-    "docs/ARCHITECTURE.md": 135,
+    "docs/ARCHITECTURE.md": 140,
     "docs/AUDIT.md": 100,
     "docs/DECISIONS.md": 450,
     "docs/PROOFS.md": 180,
