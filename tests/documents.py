@@ -11,7 +11,8 @@ tests or the gate run. Any other block is a picture.
 A table whose first header cell is `Policy` and whose last is `` `check` prints ``,
 `` `show` prints `` or one like `` `convert -f sudoers -e` prints `` is run row by
 row: the first cell holds the file `policy`, and the last one what the command
-prints of it. An output of `convert` has to be right by itself too (converting.py).
+prints of it. A column `Options` has further words of the command, or an empty
+cell. An output of `convert` has to be right by itself too (converting.py).
 In a column `sudo` the cells `reads` and `refuses` are compared with the answer of
 visudo, if it is of that version. A row that says `write this` is compared with those above it (written_instead.py).
 
@@ -192,6 +193,9 @@ def read_row(number, header, cells):
     if header[-1] == ANSWERS:
         return read_answer(number, header, cells)
     command = PRINTS.fullmatch(header[-1])[1]
+    options = cells[header.index("Options")] if "Options" in header else ""
+    if options:
+        command += f" {code_span(options)}"
     sudo = cells[header.index("sudo")] if "sudo" in header else ""
     policy = code_span(cells[0])
     printed = [code_span(part) for part in cells[-1].split("<br>")]
