@@ -88,24 +88,28 @@ pub fn name_off_walk(
 
 /// Returns the files of the edited policy `root` to which its lines lead. `edited` is the inverse script and the bundle.
 fn walked_files(alloc: Global, root: &str, edited: &[u8]) -> Result<Vec<NamedFile>, Trouble> {
-    let bundle = &edited[bundle_start(edited)..];
-    let mut files = FilesInMemory::new(read_bundle(alloc, bundle).map_err(ToolFault::from)?);
+    let files = read_bundle(alloc, bundle_in(edited)).map_err(ToolFault::from)?;
+    let mut files = FilesInMemory::new(files);
     match gather(alloc, root.as_bytes(), &mut files) {
         Ok(walked) => Ok(walked),
         Err(fault) => Err(Trouble::from(LayerFault::from(fault))),
     }
 }
 
-/// Returns where the bundle begins in `edited`, which has an inverse script before it. No line of a script begins with `%`.
-fn bundle_start(edited: &[u8]) -> usize {
-    let mut at = 0;
+/// Returns the bundle in `edited`, which has an inverse script before it. No line of a script begins with `%`.
+fn bundle_in(edited: &[u8]) -> &[u8] {
+    let mut at: usize = 0;
     for line in edited.split(|byte| *byte == b'\n') {
         if line.starts_with(b"%") {
-            return at;
+            break;
         }
-        at += line.len() + 1;
+        at = at.saturating_add(line.len()).saturating_add(1);
     }
-    edited.len()
+    if at < edited.len() {
+        &edited[at..]
+    } else {
+        b""
+    }
 }
 
 /// Returns the error of files that cannot be gathered, with the name of the file or the folder that was asked for last.
