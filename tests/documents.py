@@ -55,7 +55,9 @@ LIMITS = {
     "SECURITY.md": 60,
     "docs/ARCHITECTURE.md": 140,
     "docs/AUDIT.md": 100,
+    "docs/BENCHMARK.md": 120,
     "docs/DECISIONS.md": 450,
+    "docs/GATE.md": 40,
     "docs/PROOFS.md": 180,
 }
 

@@ -177,7 +177,7 @@ def packaged():
     names = ["usr/share/man/man8/sudoers_tool.8.gz"]
     names += [DOCUMENTS + name for name in (*PAGES, "changelog.gz", "copyright")]
     names += [DOCUMENTS + os.path.relpath(page, TOP) for page in glob.glob(os.path.join(TOP, "crates/*/README.md"))]
-    for folder in ("docs", "examples"):
+    for folder in ("docs", "examples", "bench/results"):
         names += [f"{DOCUMENTS}{folder}/{path}" for path in modes_under(os.path.join(TOP, folder))[0]]
     return {**files, **{name: oct(0o644) for name in names}}
 
