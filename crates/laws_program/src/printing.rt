@@ -39,8 +39,10 @@ pub fn printed_rules_are_read()
 
 /// What is read of the printed rules of a policy gives rules that are printed as the same text, which is within the limits again.
 pub fn second_printing_is_same()
-    ensures text { (lines : List LineOf) (policy : Loaded) → IsSound lines → IsPrintedAs (rules_of lines) policy → printed (rules_of policy.walk.lines) ≡ printed (rules_of lines) }
-    ensures size { (lines : List LineOf) (policy : Loaded) → IsSound lines → IsPrintedAs (rules_of lines) policy → fits (rules_of policy.walk.lines) ≡ true }
+    ensures text { (lines : List LineOf) (policy : Loaded) → IsSound lines
+        → IsPrintedAs (rules_of lines) policy → printed (rules_of policy.walk.lines) ≡ printed (rules_of lines) }
+    ensures size { (lines : List LineOf) (policy : Loaded) → IsSound lines
+        → IsPrintedAs (rules_of lines) policy → fits (rules_of policy.walk.lines) ≡ true }
 {
     printed_rules_are_read();
     text_loads();

@@ -60,8 +60,10 @@ pub fn filtered_rules_are_read()
 /// What is read of the printed rules of a policy with its aliases replaced gives rules that are printed as the same text, which is within
 /// the limits again.
 pub fn second_printing_of_expansion_is_same()
-    ensures text { (lines : List LineOf) (policy : Loaded) → IsSound lines → IsPrintedAs (used_rules (expanded lines)) policy → printed (rules_of policy.walk.lines) ≡ printed (used_rules (expanded lines)) }
-    ensures size { (lines : List LineOf) (policy : Loaded) → IsSound lines → IsPrintedAs (used_rules (expanded lines)) policy → fits (rules_of policy.walk.lines) ≡ true }
+    ensures text { (lines : List LineOf) (policy : Loaded) → IsSound lines
+        → IsPrintedAs (used_rules (expanded lines)) policy → printed (rules_of policy.walk.lines) ≡ printed (used_rules (expanded lines)) }
+    ensures size { (lines : List LineOf) (policy : Loaded) → IsSound lines
+        → IsPrintedAs (used_rules (expanded lines)) policy → fits (rules_of policy.walk.lines) ≡ true }
 {
     expanded_rules_are_read();
     text_loads();

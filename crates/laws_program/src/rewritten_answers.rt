@@ -56,15 +56,20 @@ pub fn expanded_policy_answers()
 /// What is read of the printed rules of that policy, without unused definitions, answers each request the same, numbers aside. Each
 /// user has the same runas_default, and rules at the same places. No reachable alias is cyclic.
 pub fn printed_expansion_answers()
-    ensures there { (lines : List LineOf) (policy : Loaded) → IsSound lines → (HasReachableCycle lines → ⊥) → IsPrintedAs (used_rules (expanded lines)) policy → (request : RequestOf) (answer : Option AnswerOf)
+    ensures there { (lines : List LineOf) (policy : Loaded) → IsSound lines → (HasReachableCycle lines → ⊥)
+        → IsPrintedAs (used_rules (expanded lines)) policy → (request : RequestOf) (answer : Option AnswerOf)
         → IsAnswer lines request answer → (other : Option AnswerOf) × IsAnswer policy.walk.lines request other × SaysSame answer other }
-    ensures back { (lines : List LineOf) (policy : Loaded) → IsSound lines → (HasReachableCycle lines → ⊥) → IsPrintedAs (used_rules (expanded lines)) policy → (request : RequestOf) (other : Option AnswerOf)
+    ensures back { (lines : List LineOf) (policy : Loaded) → IsSound lines → (HasReachableCycle lines → ⊥)
+        → IsPrintedAs (used_rules (expanded lines)) policy → (request : RequestOf) (other : Option AnswerOf)
         → IsAnswer policy.walk.lines request other → (answer : Option AnswerOf) × IsAnswer lines request answer × SaysSame answer other }
-    ensures default { (lines : List LineOf) (policy : Loaded) → IsSound lines → (HasReachableCycle lines → ⊥) → IsPrintedAs (used_rules (expanded lines)) policy → (who : WhoOf) (name : List ℕ)
+    ensures default { (lines : List LineOf) (policy : Loaded) → IsSound lines → (HasReachableCycle lines → ⊥)
+        → IsPrintedAs (used_rules (expanded lines)) policy → (who : WhoOf) (name : List ℕ)
         → IsRunasDefault lines who name ↔ IsRunasDefault policy.walk.lines who name }
-    ensures groups { (lines : List LineOf) (policy : Loaded) → IsSound lines → (HasReachableCycle lines → ⊥) → IsPrintedAs (used_rules (expanded lines)) policy → (who : WhoOf) (places : List GroupPlaceOf)
+    ensures groups { (lines : List LineOf) (policy : Loaded) → IsSound lines → (HasReachableCycle lines → ⊥)
+        → IsPrintedAs (used_rules (expanded lines)) policy → (who : WhoOf) (places : List GroupPlaceOf)
         → AreHostGroups lines who places ↔ AreHostGroups policy.walk.lines who places }
-    ensures straight { (lines : List LineOf) (policy : Loaded) → IsSound lines → (HasReachableCycle lines → ⊥) → IsPrintedAs (used_rules (expanded lines)) policy → HasReachableCycle policy.walk.lines → ⊥ }
+    ensures straight { (lines : List LineOf) (policy : Loaded) → IsSound lines → (HasReachableCycle lines → ⊥)
+        → IsPrintedAs (used_rules (expanded lines)) policy → HasReachableCycle policy.walk.lines → ⊥ }
 {
     expanded_rules_are_read();
     text_loads();
