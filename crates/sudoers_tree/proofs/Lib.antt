@@ -50,3 +50,4 @@ pub mod TreeLines
 pub mod KeptRows
 pub mod KeptNames
 pub mod WalksBefore
+pub mod Known

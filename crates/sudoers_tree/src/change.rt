@@ -27,11 +27,6 @@ use crate::texts::text_of;
 use std::alloc::{AllocError, Global};
 use sudoers_line::Items;
 use sudoers_line_rows::Tables;
-use sudoers_line_rows::laws::growth_goes_on;
-use sudoers_text::laws::{
-    cut_is, line_alone_is_whole, line_alone_size, lines_of_join, lines_stand_alone, one_list,
-    whole_line_is, whole_lines_of_join,
-};
 use sudoers_text::{LINE_LIMIT, TEXT_LIMIT, TextFault, cut};
 
 /// Returns how many lines the pieces `pieces` have.
@@ -60,12 +55,6 @@ fn size_of(alloc: Global, tables: &Tables, pieces: &[Piece<'_>]) -> Result<usize
         (λ size. (cut_of (join (piece_texts tables.now pieces.now)) ≡ Ok (piece_texts tables.now pieces.now)) × (size ≡ length (join (piece_texts tables.now pieces.now))))
         (λ fault. CutGives (Err fault) (cut_of (join (piece_texts tables.now pieces.now)))) }
 {
-    lines_of_join();
-    line_alone_is_whole();
-    whole_line_is();
-    whole_lines_of_join();
-    cut_is();
-    one_list();
     if let Some(size) = size_within(tables, pieces) {
         return Ok(size);
     }
@@ -144,7 +133,6 @@ fn read_pieces(
     ensures stand { IfOk result (λ _. All (Stands tables.new) rows.new.items) }
     ensures read { IfOk result (λ fault. (map (line_in tables.new) rows.new.items, fault) ≡ read_until [] (piece_texts tables.old pieces.now)) }
 {
-    growth_goes_on();
     for piece in pieces {
         if let Some(fault) = read_piece(alloc, tables, piece, rows)? {
             return Ok(Some(fault));
@@ -168,7 +156,6 @@ fn read_piece(
     ensures stand { IfOk result (λ _. All (Stands tables.new) rows.new.items) }
     ensures read { IfOk result (λ fault. ReadsOn fault (map (line_in tables.old) rows.old.items) (map (line_in tables.new) rows.new.items) (texts_of tables.old piece.now)) }
 {
-    growth_goes_on();
     match piece {
         Piece::Old(old) => {
             rows.extend_from_slice(old)?;
@@ -195,11 +182,6 @@ pub fn read_changed(
     ensures grown { Grown tables.old tables.new }
     ensures read { ReadsFile result tables.new (cut_file name (cut_of (join (piece_texts tables.old pieces.now)))) }
 {
-    growth_goes_on();
-    lines_stand_alone();
-    line_alone_is_whole();
-    line_alone_size();
-    whole_line_is();
     match size_of(alloc, tables, pieces) {
         Ok(_) => {
             let mut rows = Vec::with_capacity(alloc, line_count(pieces))?;

@@ -24,7 +24,6 @@ use crate::pieces::pieces;
 use std::alloc::Global;
 use sudoers_line::Items;
 use sudoers_line_rows::Tables;
-use sudoers_line_rows::laws::growth_goes_on;
 
 /// Reads the files `files` after the changes `changes` of their lines. The new lines are read into `tables`.
 ///
@@ -45,7 +44,6 @@ pub fn changed_files(
         × All (IsFile tables.new) new.items)
         (λ fault. (fault ≡ NoMemory) ⊎ (readings [] (files_changed changes.now (map (reading_in tables.old) files.now)) ≡ Err fault)) }
 {
-    growth_goes_on();
     let mut new = Vec::with_capacity(alloc, files.len())?;
     let mut rest = changes;
     for (number, file) in files.iter().enumerate() {

@@ -1,9 +1,7 @@
 //! Files that are read.
 
-ghost use Rattle.std.specs.Prelude.{◌≡◌, ◌≤◌, ◌+◌, ℕ, List, false, length, slice_get, option_map, IfOk, IfSome, Some};
+ghost use Rattle.std.specs.Prelude.{◌≡◌, ◌+◌, ℕ, List, false, length, slice_get, option_map, IfOk, IfSome, Some};
 ghost use Rattle.std.specs.Option.{option_copied};
-ghost use Rattle.sudoers_text.specs.Line.{join};
-ghost use Rattle.sudoers_text.specs.Fault.{text_limit};
 ghost use Rattle.sudoers_tree.specs.Files.{fault_of, lines_of, name_of, row_of};
 ghost use Rattle.sudoers_tree.specs.Fault.{syntax_fault};
 ghost use Rattle.sudoers_tree.specs.Kind.{line_kind};
@@ -12,7 +10,6 @@ ghost use Rattle.sudoers_tree.specs.Load.{reserved_in};
 ghost use Rattle.sudoers_tree.specs.NameBits.{bits_of};
 ghost use Rattle.sudoers_tree.specs.Reading.{or_later};
 ghost use Rattle.sudoers_tree.specs.Standing.{IsAbsent};
-ghost use Rattle.sudoers_tree.specs.Policy.{texts};
 ghost use Rattle.sudoers_tree.specs.internal.Files.{AreFiles, files_shown};
 ghost use Rattle.sudoers_tree.specs.internal.Tree.{Stands};
 
@@ -143,12 +140,6 @@ impl<'a> Files<'a> {
         }
     }
 
-    /// A law: the lines of each file are within the limit of a text.
-    pub fn files_fit(&self)
-        requires { AreFiles self.now }
-        ensures { (file : ℕ) → length (join (texts (lines_of (files_shown self.now) file))) ≤ text_limit }
-    {}
-
     /// Returns the physical line, from 1, on which the line begins that follows the line with the number `number` of the file with the
     /// number `file`. That line begins on the physical line `row`.
     pub fn row_behind(&self, file: usize, number: usize, row: usize) -> usize
@@ -157,7 +148,6 @@ impl<'a> Files<'a> {
         ensures { (line : LineOf) → slice_get (lines_of (files_shown self.now) file) number ≡ Some line
             → result ≡ row_of (lines_of (files_shown self.now) file) (number + 1) }
     {
-        self.files_fit();
         match self.line_row(file, number) {
             Some(line) => row + line.lfs as usize,
             None => row,

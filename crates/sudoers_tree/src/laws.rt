@@ -115,16 +115,12 @@ pub fn reads_is()
 /// The lines of the walk over loaded files are a walk: each says what is kept of it, and no name that they define has a fault.
 pub fn loaded_is_walk()
     ensures { (files : List NamedFileOf) (policy : Loaded) → load_of files ≡ Ok policy → IsWalk policy.walk.lines }
-{
-    outcome_is();
-}
+{}
 
 /// Each line of the walk over loaded files stands at its spot.
 pub fn loaded_lines_stand()
     ensures { (files : List NamedFileOf) (policy : Loaded) → load_of files ≡ Ok policy → StandAt policy.files policy.walk.spots policy.walk.lines }
-{
-    outcome_is();
-}
+{}
 
 /// Each line of the walk over loaded files is one logical line.
 pub fn loaded_lines_are_whole()
@@ -141,19 +137,14 @@ pub fn loaded_lines_are_whole()
 pub fn loaded_is_within()
     ensures once { (files : List NamedFileOf) (policy : Loaded) → load_of files ≡ Ok policy → IsDistinct nat_eq policy.walk.on }
     ensures within { (files : List NamedFileOf) (policy : Loaded) → load_of files ≡ Ok policy → length (join (texts policy.walk.lines)) ≤ file_limit * text_limit }
-{
-    cut_is();
-}
+{}
 
 /// Loaded files keep their names and their bytes. Each of their lines parses.
 pub fn loaded_files_are()
     ensures bytes { (files : List NamedFileOf) (policy : Loaded) → load_of files ≡ Ok policy → files_of policy ≡ files }
     ensures parse { (files : List NamedFileOf) (policy : Loaded) → load_of files ≡ Ok policy
         → AllByRecursion (λ (file : FileReading). file.fault ≡ None) policy.files }
-{
-    cut_is();
-    reads_is();
-}
+{}
 
 /// A law: the lines of each loaded file are those of its text.
 pub fn loaded_files_are_cut()

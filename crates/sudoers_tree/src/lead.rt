@@ -8,7 +8,6 @@ use crate::single::read_line;
 use memchr::{memmem, memrchr};
 use std::alloc::{AllocError, Global};
 use sudoers_line::Items;
-use sudoers_line_reader::laws::outcome_is;
 use sudoers_line_rows::Node;
 
 /// Where an include line leads: to a file or to the files of a folder, by its name (sudoers(5), Including other files from within
@@ -82,7 +81,6 @@ pub fn may_lead(text: &[u8]) -> bool
     ensures nowhere { result ≡ false → (name before line after : List ℕ) → text.now ≡ before ++ (line ++ after) → leads name line ≡ None }
     ensures held { result ≡ true → (before : List ℕ) × (after : List ℕ) × (text.now ≡ before ++ (codes "include" ++ after)) }
 {
-    outcome_is();
     // Each word with which an include begins has these bytes.
     memmem::find(text, b"include").is_some()
 }

@@ -16,8 +16,6 @@ use crate::reading::read_lines;
 use std::alloc::{AllocError, Global};
 use sudoers_line::Items;
 use sudoers_line_rows::Tables;
-use sudoers_line_rows::laws::growth_goes_on;
-use sudoers_text::laws::{line_alone_is_whole, line_alone_size, lines_stand_alone, whole_line_is};
 use sudoers_text::{TextFault, cut};
 
 /// How many files a policy may have.
@@ -64,7 +62,6 @@ pub fn read_files(
     ensures { MatchResult result (λ read. (readings [] files.now ≡ Ok (map (reading_in tables.new) read.items)) × All (IsFile tables.new) read.items)
         (λ fault. (fault ≡ NoMemory) ⊎ (readings [] files.now ≡ Err fault)) }
 {
-    growth_goes_on();
     let mut read = Vec::with_capacity(alloc, files.len())?;
     for file in files {
         read.push(read_file(alloc, tables, file)?)?;
@@ -77,10 +74,6 @@ fn read_file(alloc: Global, tables: &mut Tables, file: &NamedFile) -> Result<Fil
     ensures grown { Grown tables.old tables.new }
     ensures read { ReadsFile result tables.new (cut_file file.now.name (cut_of file.now.bytes)) }
 {
-    lines_stand_alone();
-    line_alone_is_whole();
-    line_alone_size();
-    whole_line_is();
     let name = Items::from_slice(alloc, file.name.as_slice())?;
     match cut(alloc, file.bytes.as_slice()) {
         Ok(lines) => {

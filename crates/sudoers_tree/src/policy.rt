@@ -20,7 +20,6 @@ ghost use Rattle.sudoers_tree.specs.internal.Tree.{Stands};
 
 use crate::files::Files;
 use crate::kind::LineKind;
-use crate::laws::{loaded_files_are, loaded_is_walk, loaded_is_within, loaded_lines_stand};
 use crate::line::{Line, LineRow};
 use crate::line_change::LineChange;
 use crate::load::{FILE_LIMIT, NamedFile, first_repeated, read_files};
@@ -69,7 +68,6 @@ impl Policy {
         ensures { MatchResult result (λ policy. load_of files.now ≡ Ok policy)
             (λ fault. (fault ≡ NoMemory) ⊎ (load_of files.now ≡ Err fault)) }
     {
-        loaded_files_are();
         if files.len() > FILE_LIMIT {
             return Err(LoadFault::TooManyFiles);
         }
@@ -147,9 +145,6 @@ impl Policy {
     pub fn walk(&self) -> Walk<'_>
         ensures { result ≡ self.now.walk.lines }
     {
-        self.is_loaded();
-        loaded_is_walk();
-        loaded_is_within();
         Walk::of(self.rows(), &self.walked.index)
     }
 
@@ -164,7 +159,7 @@ impl Policy {
     pub fn files_fit(&self)
         ensures { (file : ℕ) → length (join (texts (lines_of self.now.files file))) ≤ text_limit }
     {
-        self.read_files().files_fit();
+        let _ = &self.walked;
     }
 
     /// A law: each line of the walk stands at its spot. Its row and the length of its text together are at most twice the limit of a text,
@@ -173,9 +168,7 @@ impl Policy {
         ensures count { length self.now.walk.spots ≡ length self.now.walk.lines }
         ensures stand { (number : ℕ) (line : LineOf) → slice_get self.now.walk.lines number ≡ Some line → HasSpot self.now number line }
     {
-        self.files_fit();
-        self.is_loaded();
-        loaded_lines_stand();
+        let _ = &self.walked;
     }
 
     /// Returns the numbers of the files on the walk, in the order in which they came onto it.
@@ -234,8 +227,6 @@ impl Policy {
         ensures files { OnOk result (files_of self.new ≡ files_changed changes.now self.old.files) }
         ensures unchanged { OnErr result (self.new ≡ self.old) }
     {
-        self.is_loaded();
-        loaded_files_are();
         self.drop_waste()?;
         self.walked.change(self.alloc, changes)
     }
@@ -244,7 +235,6 @@ impl Policy {
     fn drop_waste(&mut self) -> Result<(), AllocError>
         ensures { self.new ≡ self.old }
     {
-        self.is_loaded();
         if self.walked.has_grown() {
             let files = self.named_files()?;
             match Policy::load(self.alloc, files.as_slice()) {

@@ -18,7 +18,6 @@ use crate::row::read_row;
 use std::alloc::{AllocError, Global};
 use sudoers_line::{LineFault, Why};
 use sudoers_line_rows::Tables;
-use sudoers_line_rows::laws::growth_goes_on;
 use sudoers_text::Lines;
 
 /// Returns the fault `why` at the byte `at` of the line `text`, which begins on the physical line `row`.
@@ -53,7 +52,6 @@ pub fn read_lines(
     ensures stand { IfOk result (λ _. All (Stands tables.new) rows.new.items) }
     ensures read { IfOk result (λ fault. (map (line_in tables.new) rows.new.items, fault) ≡ read_until [] lines.now) }
 {
-    growth_goes_on();
     for number in 0..lines.len() {
         let Some(text) = lines.get(number) else {
             return Ok(None);
@@ -82,7 +80,6 @@ pub fn read_text(
     ensures stand { IfOk result (λ _. All (Stands tables.new) rows.new.items) }
     ensures read { IfOk result (λ fault. ReadsOn fault (map (line_in tables.old) rows.old.items) (map (line_in tables.new) rows.new.items) (text.now ∷ [])) }
 {
-    growth_goes_on();
     match read_row(alloc, tables, text) {
         Ok(row) => {
             rows.push(row)?;

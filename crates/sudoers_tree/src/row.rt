@@ -10,7 +10,6 @@ use crate::position::lf_count;
 use std::alloc::{AllocError, Global};
 use sudoers_line::LineFault;
 use sudoers_line_reader::read_line;
-use sudoers_line_rows::laws::growth_goes_on;
 use sudoers_line_rows::{Tables, keep_text, place};
 
 /// Reads the line `line` into `tables`, and returns its row.
@@ -22,7 +21,6 @@ pub fn read_row(alloc: Global, tables: &mut Tables, line: &[u8]) -> Result<LineR
     ensures gives { GivesLine tables.new result line.now }
     ensures grown { Grown tables.old tables.new }
 {
-    growth_goes_on();
     let node = read_line(alloc, tables, line)?;
     let text = keep_text(tables, line)?;
     let bits = bits_in(&tables.node(&node));

@@ -7,7 +7,6 @@ use std::alloc::{AllocError, Global};
 use sudoers_line::LineFault;
 use sudoers_line_reader::{Reading, parse};
 use sudoers_text::is_logical_line;
-use sudoers_text::laws::whole_line_is;
 
 /// Returns what the bytes `text` say, if they are one logical line that parses. Their length does not matter.
 ///
@@ -20,7 +19,6 @@ pub fn read_line(alloc: Global, text: &[u8]) -> Result<Option<Reading>, AllocErr
     // The result is what `said` computes.
     ensures said { IfOk result (λ says. says ≡ said text.now) }
 {
-    whole_line_is();
     if !is_logical_line(text) {
         return Ok(None);
     }

@@ -24,9 +24,7 @@ use crate::off_walk::look_off;
 use crate::place::Spot;
 use crate::walking::{Walking, walk_over};
 use std::alloc::{AllocError, Global};
-use sudoers_line_reader::laws::outcome_is;
 use sudoers_line_rows::Tables;
-use sudoers_line_rows::laws::growth_goes_on;
 
 /// Files with the walk over them: the rows of its lines, the spot of each, the numbers of its files in their order, and the names that its
 /// lines define. The lines say something in the tables, which had `begun` bytes when the files were loaded.
@@ -116,8 +114,6 @@ impl WalkedFiles {
             (λ fault. (fault ≡ NoMemory) ⊎ (and_then (readings [] (files_changed changes.now (loaded_in self.old).files)) loaded_over ≡ Err fault)) }
         ensures unchanged { OnErr result (loaded_in self.new ≡ loaded_in self.old) }
     {
-        growth_goes_on();
-        outcome_is();
         let counts = self.tables.counts();
         let before = WalkBefore {
             files: self.files.as_slice(),
@@ -225,7 +221,6 @@ fn walk_changed(
     ensures grown { Grown tables.old tables.new }
     ensures walks { WalksChanged result tables.new before.now (readings [] (files_changed changes.now (before_files tables.old before.now))) }
 {
-    growth_goes_on();
     let files = changed_files(alloc, tables, before.files, changes)?;
     let read = Files {
         tables: &*tables,

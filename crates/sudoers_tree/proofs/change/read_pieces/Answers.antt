@@ -8,11 +8,12 @@ use Rattle.sudoers_tree.specs.Policy.{texts}
 use Rattle.sudoers_tree.specs.internal.Pieces.{texts_of, IsKeptPiece, ReadsOn}
 use Rattle.sudoers_tree.proofs.PieceLines.{kept_first, no_piece}
 use Rattle.sudoers_tree.proofs.ReadPieces.{piece_fits, piece_on, piece_read, piece_stops, pieces_read, same_texts}
+use Rattle.sudoers_line_rows.proofs.Growth.{grown_on}
 use Rattle.sudoers_tree.proofs.change.read_pieces.Goals as goal
 
 pub read_piece-requires-clause-kept : goal.read_piece-requires-clause-kept
 read_piece-requires-clause-kept c =
-    piece_on c.growth_goes_on.ensures.on c.args.tables.now c.loop-piece.tables c.loop-piece.invariant.0 (get_or c.args.pieces.now c.loop-piece.piece-index no_piece)
+    piece_on grown_on c.args.tables.now c.loop-piece.tables c.loop-piece.invariant.0 (get_or c.args.pieces.now c.loop-piece.piece-index no_piece)
     (kept_first c.args.tables.now c.args.pieces.now c.loop-piece.piece-index c.loop-piece-test.true c.requires.kept)
 
 pub read_piece-requires-clause-fits : goal.read_piece-requires-clause-fits
@@ -26,11 +27,11 @@ read_piece-requires-clause-fits c =
 
 pub returns-in_err-fault-clause-grown : goal.returns-in_err-fault-clause-grown
 returns-in_err-fault-clause-grown c =
-    c.growth_goes_on.ensures.on c.args.tables.now c.loop-piece.tables c.read_piece.new.tables c.loop-piece.invariant.0 c.in_err-fault.ensures.grown
+    grown_on c.args.tables.now c.loop-piece.tables c.read_piece.new.tables c.loop-piece.invariant.0 c.in_err-fault.ensures.grown
 
 pub returns-in-Some-clause-grown : goal.returns-in-Some-clause-grown
 returns-in-Some-clause-grown c =
-    c.growth_goes_on.ensures.on c.args.tables.now c.loop-piece.tables c.read_piece.new.tables c.loop-piece.invariant.0 c.in_ok-fault.ensures.grown
+    grown_on c.args.tables.now c.loop-piece.tables c.read_piece.new.tables c.loop-piece.invariant.0 c.in_ok-fault.ensures.grown
 
 pub returns-in-Some-clause-read : goal.returns-in-Some-clause-read
 returns-in-Some-clause-read c =
@@ -54,7 +55,7 @@ loop-piece-preserved c =
     let on : ReadsOn None before after (texts_of c.args.tables.now piece) =
     subst (ReadsOn None before after) (same_texts c.args.tables.now c.loop-piece.tables c.loop-piece.invariant.0 piece kept)
     (subst (λ f. ReadsOn f before after (texts_of c.loop-piece.tables piece)) c.in_default.is c.in_ok-fault.ensures.read) in (
-      c.growth_goes_on.ensures.on c.args.tables.now c.loop-piece.tables c.read_piece.new.tables c.loop-piece.invariant.0 c.in_ok-fault.ensures.grown,
+      grown_on c.args.tables.now c.loop-piece.tables c.read_piece.new.tables c.loop-piece.invariant.0 c.in_ok-fault.ensures.grown,
       c.in_ok-fault.ensures.stand,
       piece_read c.args.tables.now c.args.pieces.now before after i c.loop-piece-test.true c.loop-piece.invariant.2 on,
     )

@@ -14,6 +14,7 @@ use Rattle.sudoers_tree.specs.internal.Files.{IsFile, reading_in}
 use Rattle.sudoers_tree.proofs.FileChanges.{AreFirst, are_ended, are_first, bring_lines, file_stays, in_order, turn_goes_on, turn_stops}
 use Rattle.sudoers_tree.proofs.FileRows.{files_on, same_files}
 use Rattle.sudoers_tree.proofs.PieceLines.{item_first}
+use Rattle.sudoers_line_rows.proofs.Growth.{grown_on}
 use Rattle.sudoers_tree.proofs.changing.changed_files.Goals as goal
 
 pub changed_file-requires-clause-file : goal.changed_file-requires-clause-file
@@ -30,7 +31,7 @@ changed_file-requires-clause-file c =
     let state : AreFirst i rest (length files) = are_first i rest (length files) c.loop-number.invariant.4 in
     let here_is : here ≡ changes_of i changes =
     c.split_at.ensures.front ∙ ap (λ n. take n rest) c.front_count.ensures.is ∙ state.here ∙ c.loop-number.invariant.3 i (omega arith) in
-    file_stays c.growth_goes_on.ensures.on t u c.loop-number.invariant.0 files changes c.requires.files c.requires.changes i file (drop (i + 1) files) first here here_is
+    file_stays grown_on t u c.loop-number.invariant.0 files changes c.requires.files c.requires.changes i file (drop (i + 1) files) first here here_is
 
 pub changed_file-requires-clause-order : goal.changed_file-requires-clause-order
 changed_file-requires-clause-order c =
@@ -46,7 +47,7 @@ changed_file-requires-clause-order c =
     let state : AreFirst i rest (length files) = are_first i rest (length files) c.loop-number.invariant.4 in
     let here_is : here ≡ changes_of i changes =
     c.split_at.ensures.front ∙ ap (λ n. take n rest) c.front_count.ensures.is ∙ state.here ∙ c.loop-number.invariant.3 i (omega arith) in
-    in_order c.growth_goes_on.ensures.on t u c.loop-number.invariant.0 files changes c.requires.files c.requires.changes i file (drop (i + 1) files) first here here_is
+    in_order grown_on t u c.loop-number.invariant.0 files changes c.requires.files c.requires.changes i file (drop (i + 1) files) first here here_is
 
 pub changed_file-requires-clause-lines : goal.changed_file-requires-clause-lines
 changed_file-requires-clause-lines c =
@@ -62,7 +63,7 @@ changed_file-requires-clause-lines c =
     let state : AreFirst i rest (length files) = are_first i rest (length files) c.loop-number.invariant.4 in
     let here_is : here ≡ changes_of i changes =
     c.split_at.ensures.front ∙ ap (λ n. take n rest) c.front_count.ensures.is ∙ state.here ∙ c.loop-number.invariant.3 i (omega arith) in
-    bring_lines c.growth_goes_on.ensures.on t u c.loop-number.invariant.0 files changes c.requires.files c.requires.changes i file (drop (i + 1) files) first here here_is
+    bring_lines grown_on t u c.loop-number.invariant.0 files changes c.requires.files c.requires.changes i file (drop (i + 1) files) first here here_is
 
 pub changed_file-requires-clause-ended : goal.changed_file-requires-clause-ended
 changed_file-requires-clause-ended c =
@@ -78,7 +79,7 @@ changed_file-requires-clause-ended c =
     let state : AreFirst i rest (length files) = are_first i rest (length files) c.loop-number.invariant.4 in
     let here_is : here ≡ changes_of i changes =
     c.split_at.ensures.front ∙ ap (λ n. take n rest) c.front_count.ensures.is ∙ state.here ∙ c.loop-number.invariant.3 i (omega arith) in
-    are_ended c.growth_goes_on.ensures.on t u c.loop-number.invariant.0 files changes c.requires.files c.requires.changes i file (drop (i + 1) files) first here here_is
+    are_ended grown_on t u c.loop-number.invariant.0 files changes c.requires.files c.requires.changes i file (drop (i + 1) files) first here here_is
 
 pub returns-in_err-changed_file-clause-read : goal.returns-in_err-changed_file-clause-read
 returns-in_err-changed_file-clause-read c =
@@ -99,7 +100,7 @@ returns-in_err-changed_file-clause-read c =
     let v : Tables = c.changed_file.new.tables in
     let whole = readings [] (files_changed changes (map (reading_in t) files)) in
     subst (λ r. MatchResult r (λ new. (whole ≡ Ok (map (reading_in v) new.items)) × All (IsFile v) new.items) (λ e. (e ≡ NoMemory) ⊎ (whole ≡ Err e))) (sym told)
-    (turn_stops c.growth_goes_on.ensures.on t u c.loop-number.invariant.0 files changes c.requires.files c.requires.changes i file (drop (i + 1) files) first here here_is
+    (turn_stops grown_on t u c.loop-number.invariant.0 files changes c.requires.files c.requires.changes i file (drop (i + 1) files) first here here_is
     (map (reading_in u) c.loop-number.new.items) whole fault c.loop-number.invariant.2 c.in_err-changed_file.ensures.read)
 
 pub loop-number-preserved : goal.loop-number-preserved
@@ -126,10 +127,10 @@ loop-number-preserved c =
     ap (map (reading_in v)) c.in_ok-push.ensures.items
     ∙ map-append (reading_in v) read (new ∷ [])
     ∙ ap (λ rs. rs ++ reading_in v new ∷ []) (same_files u v c.in_ok-changed_file.ensures.grown read c.loop-number.invariant.1) in (
-      c.growth_goes_on.ensures.on t u v c.loop-number.invariant.0 c.in_ok-changed_file.ensures.grown,
+      grown_on t u v c.loop-number.invariant.0 c.in_ok-changed_file.ensures.grown,
       All-same (IsFile v) c.push.new.self.items (read ++ new ∷ []) c.in_ok-push.ensures.items
-          (All-push (IsFile v) read new (files_on c.growth_goes_on.ensures.on u v c.in_ok-changed_file.ensures.grown read c.loop-number.invariant.1) c.in_ok-changed_file.ensures.read.1),
-      turn_goes_on c.growth_goes_on.ensures.on t u c.loop-number.invariant.0 files changes c.requires.files c.requires.changes i file (drop (i + 1) files) first here here_is
+          (All-push (IsFile v) read new (files_on grown_on u v c.in_ok-changed_file.ensures.grown read c.loop-number.invariant.1) c.in_ok-changed_file.ensures.read.1),
+      turn_goes_on grown_on t u c.loop-number.invariant.0 files changes c.requires.files c.requires.changes i file (drop (i + 1) files) first here here_is
           (map (reading_in u) read) (map (reading_in v) c.push.new.self.items) (reading_in v new) whole c.loop-number.invariant.2 c.in_ok-changed_file.ensures.read.0 more,
       λ later within.
           let less : i < later = omega (arith, within) in

@@ -10,6 +10,7 @@ use Rattle.sudoers_tree.specs.Walk.{and_then}
 use Rattle.sudoers_tree.specs.internal.Files.{IsFile, reading_in}
 use Rattle.sudoers_tree.proofs.FileRows.{files_on, same_files}
 use Rattle.sudoers_tree.proofs.PieceLines.{item_first}
+use Rattle.sudoers_line_rows.proofs.Growth.{grown_on}
 use Rattle.sudoers_tree.proofs.load.read_files.Goals as goal
 
 pub loop-file-preserved : goal.loop-file-preserved
@@ -28,7 +29,7 @@ loop-file-preserved c =
     ∙ map-append (reading_in u) read (new ∷ [])
     ∙ ap (λ rs. rs ++ reading_in u new ∷ []) (same_files t u c.in_ok-read_file.ensures.grown read c.loop-file.invariant.0) in (
       All-same (IsFile u) c.push.new.self.items (read ++ new ∷ []) c.in_ok-push.ensures.items
-          (All-push (IsFile u) read new (files_on c.growth_goes_on.ensures.on t u c.in_ok-read_file.ensures.grown read c.loop-file.invariant.0) c.in_ok-read_file.ensures.read.1),
+          (All-push (IsFile u) read new (files_on grown_on t u c.in_ok-read_file.ensures.grown read c.loop-file.invariant.0) c.in_ok-read_file.ensures.read.1),
       ap (λ rs. readings rs rest) more
           ∙ ap (λ o. and_then o (λ reading. readings (map (reading_in t) read ++ reading ∷ []) rest)) (sym c.in_ok-read_file.ensures.read.0)
           ∙ ap (readings (map (reading_in t) read)) (sym (item_first files i here c.loop-file-test.true c.file-item.is))

@@ -7,6 +7,7 @@ use Rattle.sudoers_tree.specs.Policy.{texts}
 use Rattle.sudoers_tree.specs.internal.Pieces.{ReadsOn}
 use Rattle.sudoers_tree.proofs.Numbered.{drop_at}
 use Rattle.sudoers_tree.proofs.ReadUntil.{all_read, more_fits, more_read, more_stops}
+use Rattle.sudoers_line_rows.proofs.Growth.{grown_on}
 use Rattle.sudoers_tree.proofs.reading.read_lines.Goals as goal
 
 pub read_text-requires-clause-fits : goal.read_text-requires-clause-fits
@@ -21,11 +22,11 @@ read_text-requires-clause-fits c =
 
 pub returns-in_err-fault-clause-grown : goal.returns-in_err-fault-clause-grown
 returns-in_err-fault-clause-grown c =
-    c.growth_goes_on.ensures.on c.args.tables.now c.loop-number.tables c.read_text.new.tables c.loop-number.invariant.0 c.in_err-fault.ensures.grown
+    grown_on c.args.tables.now c.loop-number.tables c.read_text.new.tables c.loop-number.invariant.0 c.in_err-fault.ensures.grown
 
 pub returns-in-Some-2-clause-grown : goal.returns-in-Some-2-clause-grown
 returns-in-Some-2-clause-grown c =
-    c.growth_goes_on.ensures.on c.args.tables.now c.loop-number.tables c.read_text.new.tables c.loop-number.invariant.0 c.in_ok-fault.ensures.grown
+    grown_on c.args.tables.now c.loop-number.tables c.read_text.new.tables c.loop-number.invariant.0 c.in_ok-fault.ensures.grown
 
 pub returns-in-Some-2-clause-read : goal.returns-in-Some-2-clause-read
 returns-in-Some-2-clause-read c =
@@ -46,7 +47,7 @@ loop-number-preserved c =
     let first : drop n lines ≡ text ∷ drop (n + 1) lines = drop_at lines n text (sym c.in-Some.ensures) in
     let before : List Line = map (line_in c.loop-number.tables) c.loop-number.rows.items in
     let after : List Line = map (line_in c.read_text.new.tables) c.read_text.new.rows.items in (
-      c.growth_goes_on.ensures.on c.args.tables.now c.loop-number.tables c.read_text.new.tables c.loop-number.invariant.0 c.in_ok-fault.ensures.grown,
+      grown_on c.args.tables.now c.loop-number.tables c.read_text.new.tables c.loop-number.invariant.0 c.in_ok-fault.ensures.grown,
       c.in_ok-fault.ensures.stand,
       more_read lines before after (drop n lines) (text ∷ []) (drop (n + 1) lines) first c.loop-number.invariant.2
           (subst (λ f. ReadsOn f before after (text ∷ [])) c.in_default-2.is c.in_ok-fault.ensures.read),

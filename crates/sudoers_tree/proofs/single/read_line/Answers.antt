@@ -7,6 +7,7 @@ use Rattle.sudoers_line.specs.Node.{Node}
 use Rattle.sudoers_line.specs.Line.{Gives}
 use Rattle.sudoers_line_reader.specs.Outcome.{outcome_of, LineGives}
 use Rattle.sudoers_tree.specs.Single.{said}
+use Rattle.sudoers_tree.proofs.Known.{is_known, is_told}
 use Rattle.sudoers_tree.proofs.single.read_line.Goals as goal
 
 -- bytes that are not one line have no reading
@@ -19,8 +20,16 @@ said_is : (text : List ℕ) (outcome : Result Node LineFault) → true ≡ is_lo
 unfolding said
 said_is text outcome e is = ap result_ok (sym is) ∙ ap (λ t. if t then result_ok (outcome_of text) else None) e
 
+pub returns-then-not-is_logical_line-clause-line : goal.returns-then-not-is_logical_line-clause-line
+returns-then-not-is_logical_line-clause-line c = λ says whole reads.
+    let both : false ≡ true = c.if-not-is_logical_line.ensures ∙ is_known c.args.text.now whole in
+    absurd cc
+
 pub returns-then-not-is_logical_line-clause-said : goal.returns-then-not-is_logical_line-clause-said
 returns-then-not-is_logical_line-clause-said c = said_none c.args.text.now c.if-not-is_logical_line.ensures
+
+pub returns-in-Ok-clause-line : goal.returns-in-Ok-clause-line
+returns-in-Ok-clause-line c = (is_told c.args.text.now (sym c.if-not-is_logical_line.ensures), c.in-Ok.ensures.found)
 
 pub returns-in-Ok-clause-said : goal.returns-in-Ok-clause-said
 returns-in-Ok-clause-said c = said_is c.args.text.now (Ok c.in-Ok.reading) c.if-not-is_logical_line.ensures c.in-Ok.ensures.outcome

@@ -5,11 +5,12 @@ use Rattle.sudoers_tree.specs.internal.KeptLines.{before_files}
 use Rattle.sudoers_tree.specs.Mapped.{file_names}
 use Rattle.sudoers_tree.proofs.FileRows.{same_files}
 use Rattle.sudoers_tree.proofs.WalksBefore.{names_stay, stands_on}
+use Rattle.sudoers_line_rows.proofs.Growth.{grown_on}
 use Rattle.sudoers_tree.proofs.walked.walk_changed.Goals as goal
 
 pub new_walk-requires-clause-before : goal.new_walk-requires-clause-before
 new_walk-requires-clause-before c =
-    stands_on c.growth_goes_on.ensures.on c.args.tables.now c.changed_files.new.tables c.in_ok-files.ensures.grown c.args.before.now c.requires.files c.requires.before
+    stands_on grown_on c.args.tables.now c.changed_files.new.tables c.in_ok-files.ensures.grown c.args.before.now c.requires.files c.requires.before
 
 pub new_walk-requires-clause-names : goal.new_walk-requires-clause-names
 new_walk-requires-clause-names c =

@@ -8,6 +8,7 @@ use Rattle.sudoers_tree.specs.Load.{Loaded, file_limit, first_repeated, load_of,
 use Rattle.sudoers_tree.specs.Files.{FileReading}
 use Rattle.sudoers_tree.specs.internal.Loading.{AreWalked, loaded_in}
 use Rattle.sudoers_tree.proofs.Loads.{Stops, loads_as, loads_over, not_read, same_name, too_many}
+use Rattle.sudoers_tree.proofs.Known.{bytes_kept}
 use Rattle.sudoers_tree.proofs.policy.Policy.load.Goals as goal
 
 pub returns-then-files-gt-FILE_LIMIT : goal.returns-then-files-gt-FILE_LIMIT
@@ -54,5 +55,5 @@ pub invariant_of-result : goal.invariant_of-result
 invariant_of-result c =
     let policy : Loaded = loaded_in c.in_ok-new.field-0.value in (
       subst AreWalked (sym c.in_ok-new.ensures.ok) c.in_ok-walked.ensures.1,
-      ap load_of (c.loaded_files_are.ensures.bytes c.args.files.now policy (is_loaded c)) ∙ is_loaded c,
+      ap load_of (bytes_kept c.args.files.now policy (is_loaded c)) ∙ is_loaded c,
     )
