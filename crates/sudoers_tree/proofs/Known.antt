@@ -1,4 +1,4 @@
--- What is known of lines and of loaded files, by what the crates below prove of lines.
+-- What is known of lines, of loaded files and of policies, by what the crates below prove of lines.
 use Rattle.std.proofs.Common.{◌≡◌, ℕ, ◌*◌, ◌≤◌, nat_eq, true, List, [], ◌∷◌, length, Ok, subst}
 use Rattle.std.specs.List.{AllByRecursion, IsDistinct}
 use Rattle.sudoers_text.specs.Cut.{cut_of, StandAlone}
@@ -76,6 +76,7 @@ is_within = loaded_within cut_is
 
 -- POLICIES, as their files and their walk are kept
 
+-- A policy is that of its own files.
 pub is_loaded : (w : WalkedFiles) (policy : Loaded) → loaded_in w ≡ policy → load_of (files_of (loaded_in w)) ≡ Ok (loaded_in w)
     → load_of (files_of policy) ≡ Ok policy
 is_loaded w policy same is = subst (λ (p : Loaded). load_of (files_of p) ≡ Ok p) same is
