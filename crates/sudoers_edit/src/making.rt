@@ -9,17 +9,18 @@ use crate::plan::{Plan, carry_out};
 use crate::prune_plan::pruned;
 use crate::renaming::alias_renamed;
 use crate::splice_edits::{def_added, def_dropped, member_added, member_dropped};
-use crate::way_back::{Back, changes_back, changes_lead_back};
+use crate::way_back::{Back, changes_back};
 use sudoers_edit_script::Edit;
 use sudoers_tree::Policy;
 
 /// Makes an edit, and returns what takes it back. A refused edit leaves the policy as it was.
+#[tactic(auto, using(crate::proofs::LawsApplied::changes_lead_back))]
 pub fn make(policy: &mut Policy, edit: &Edit) -> Result<Back, EditFault>
     ensures made { MakesWithBack edit.now policy.old policy.new result }
     ensures unchanged { OnErr result (policy.new ≡ policy.old) }
 {
+    // laws
     policy.is_loaded();
-    changes_lead_back();
     let plan = match planned(policy, edit) {
         Ok(plan) => plan,
         Err(fault) => return Err(fault),
