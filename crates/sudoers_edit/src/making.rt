@@ -14,7 +14,6 @@ use sudoers_edit_script::Edit;
 use sudoers_tree::Policy;
 
 /// Makes an edit, and returns what takes it back. A refused edit leaves the policy as it was.
-#[tactic(auto, using(crate::proofs::LawsApplied::changes_lead_back))]
 pub fn make(policy: &mut Policy, edit: &Edit) -> Result<Back, EditFault>
     ensures made { MakesWithBack edit.now policy.old policy.new result }
     ensures unchanged { OnErr result (policy.new ≡ policy.old) }

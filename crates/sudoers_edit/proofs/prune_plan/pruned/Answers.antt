@@ -21,7 +21,7 @@ loop-removal-init c =
     let all : List Removal = c.as_slice-removal-items.result.now in
     let told : all ≡ removals c.args.policy.now.walk = c.as_slice-removal-items.ensures.value ∙ c.in_ok-removals.ensures in
     subst (λ (cs : List LineChange). IsPruned c.args.policy.now all all (reverse cs) (reverse c.new-inverse.result.items)) (sym c.new-changes.ensures.items)
-    (subst (λ (es : List Edit). IsPruned c.args.policy.now all all [] (reverse es)) (sym c.new-inverse.ensures.items) (none_out c.args.policy.now c.allocator_of-alloc.ensures all told))
+    (subst (λ (es : List Edit). IsPruned c.args.policy.now all all [] (reverse es)) (sym c.new-inverse.ensures.items) (none_out c.args.policy.now all c.allocator_of-alloc.ensures told))
 
 pub loop-removal-preserved : goal.loop-removal-preserved
 loop-removal-preserved c =

@@ -1,4 +1,4 @@
-use Rattle.std.proofs.Common.{◌≡◌, ◌∙◌, ◌++◌, ◌<◌, ◌+◌, [], ◌∷◌, ℕ, List, drop, length, map, reverse, slice_index_or, ap, ap₂, sym, append-nil}
+use Rattle.std.proofs.Common.{◌≡◌, ◌∙◌, ◌++◌, ◌<◌, ◌+◌, [], ◌∷◌, ℕ, List, drop, length, map, reverse, slice_index_or, ap, ap₂, sym, subst, append-nil}
 use Rattle.std.proofs.lemmas.List.{drop_more, drop_all}
 use Rattle.std.proofs.lemmas.List.Elements.{All-map, All-filter, All-same, All-drop}
 use Rattle.std.specs.Prelude.{◌^◌}
@@ -16,7 +16,7 @@ use Rattle.sudoers_edit.specs.declared.pruning.Removal.{Removal}
 use Rattle.sudoers_edit.specs.internal.PruneOrder.{removals_along, removals_at}
 use Rattle.sudoers_edit.proofs.PrunePlaces.{place_in}
 use Rattle.sudoers_edit.proofs.PruneOrder.{along_more, removals_are}
-use Rattle.sudoers_edit.proofs.LawsApplied.{def_numbers}
+use Rattle.sudoers_edit.proofs.LawsApplied.{def_numbers, file_number, line_number}
 use Rattle.sudoers_edit.proofs.pruning.removals.Goals as goal
 
 pub loop-number-init : goal.loop-number-init
@@ -30,6 +30,14 @@ loop-number-init c =
           (All-filter (is_unused policy) (λ (d : Definition). d.place.def < 2 ^ 32) (definitions policy)
           (def_numbers c.args.policy.now c.is_loaded.ensures))),
     )
+
+pub append_removals-requires-clause-file : goal.append_removals-requires-clause-file
+append_removals-requires-clause-file c =
+    subst (λ (at : Spot). at.file < 2 ^ 32) (sym c.spot_at.ensures) (file_number c.args.policy.now c.loop-number.number c.is_loaded.ensures)
+
+pub append_removals-requires-clause-line : goal.append_removals-requires-clause-line
+append_removals-requires-clause-line c =
+    subst (λ (at : Spot). at.line < 2 ^ 32) (sym c.spot_at.ensures) (line_number c.args.policy.now c.loop-number.number c.is_loaded.ensures)
 
 pub loop-number-preserved : goal.loop-number-preserved
 loop-number-preserved c =
