@@ -87,3 +87,7 @@ pub mod SpotLemmas
 pub mod SwapLemmas
 pub mod UndoneLemmas
 pub mod PlanLemmas
+pub mod LinesBelow
+pub mod FilesBelow
+pub mod LawsBelow
+pub mod LawsApplied

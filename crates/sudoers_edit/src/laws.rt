@@ -28,16 +28,8 @@ ghost use Rattle.sudoers_edit_script.specs.ScriptReading.{reading};
 ghost use Rattle.sudoers_edit_script.specs.declared.edit.Edit.{Edit as AnEdit};
 
 use crate::fault::EditFault;
-use crate::laws_below::{
-    line_edits_rest_on_laws, member_edits_rest_on_laws, prunes_rest_on_laws, renames_rest_on_laws,
-};
-use crate::line_edits::ends_stay_cut;
 use sudoers_edit_script::Edit;
 use sudoers_edit_script::laws::read_is_spelling;
-use sudoers_text::laws::{cut_is, one_list, whole_lines_of_join};
-use sudoers_tree::laws::{
-    loaded_files_are, loaded_is_walk, loaded_walk_is, texts_tell_lines, walk_is_mapped,
-};
 
 /// The names in edits that were read from a script have a spelling. So do the names in what takes such edits back. Edits whose names
 /// have a spelling have a script, unless they are too many.
@@ -55,16 +47,7 @@ pub fn inverse_leads_back()
     ensures back { (edits : List AnEdit) (policy new : Loaded) → load_of (files_of policy) ≡ Ok policy → run_all 0 edits policy ≡ Ok new
         → IsTakenBack edits policy new }
     ensures count { (edits : List AnEdit) (policy other : Loaded) → length (inv_run (inv_run edits policy) other) ≡ length (inv_run edits policy) }
-{
-    line_edits_rest_on_laws();
-    member_edits_rest_on_laws();
-    cut_is();
-    one_list();
-    whole_lines_of_join();
-    ends_stay_cut();
-    loaded_is_walk();
-    rename_is_taken_back();
-}
+{}
 
 /// What takes an edit back carries exactly as many bytes as the edit took out, if it deleted a line or dropped members or definitions,
 /// and none otherwise. The payload of the undo script shows how much is missing.
@@ -72,17 +55,12 @@ pub fn inverse_carries_what_was_taken_out()
     ensures taken { (edit : AnEdit) (policy new : Loaded) → takes_out edit ≡ true → load_of (files_of policy) ≡ Ok policy
         → step_of edit policy ≡ Ok new → bytes_in (files_of new) + payloads_size (inv edit policy) ≡ bytes_in (files_of policy) }
     ensures none { (edit : AnEdit) (policy : Loaded) → takes_out edit ≡ false → payloads_size (inv edit policy) ≡ 0 }
-{
-    loaded_files_are();
-    inverse_leads_back();
-}
+{}
 
 /// Edits that are accepted keep the names of the files, and their order.
 pub fn edits_keep_names()
     ensures { (edits : List AnEdit) (policy new : Loaded) → run_all 0 edits policy ≡ Ok new → names_in (files_of new) ≡ names_in (files_of policy) }
-{
-    loaded_files_are();
-}
+{}
 
 /// A law: Prune is the edits of its list, made one after another: it is refused as the first of them that is, and its inverse is
 /// theirs.
@@ -97,9 +75,7 @@ pub fn policy_without_line_is_one()
         → slice_get (lines_of policy.files f) n ≡ Some line → ((name : List ℕ) → lead_of name line.node ≡ None)
         → (next : Loaded) × (step_of (Edit.Delete f n) policy ≡ Ok next)
         × (texts (lines_of next.files f) ≡ remove (texts (lines_of policy.files f)) n) }
-{
-    prunes_rest_on_laws();
-}
+{}
 
 /// A drop of a definition that stands in its line with others, of a file on the walk, is refused for a splice alone. The line would not
 /// read as before but for that definition, or this would not own exactly the bytes that go with it.
@@ -108,30 +84,19 @@ pub fn drop_is_refused_for_a_splice_alone()
         → load_of (files_of policy) ≡ Ok policy → is_on policy.walk f ≡ true → slice_get (lines_of policy.files f) n ≡ Some line
         → line.node ≡ node_of.Alias kind defs → at < length defs → 2 ≤ length defs
         → step_of (Edit.DropDef f n at) policy ≡ Err fault → fault ≡ EditFault.BadSplice }
-{
-    prunes_rest_on_laws();
-}
+{}
 
 /// A prune is refused for a splice alone: a line would not read as before but for a definition that goes, or this would not own exactly the
 /// bytes that go with it.
 pub fn prune_is_refused_for_a_splice_alone()
     ensures { (policy : Loaded) (fault : AFault) → load_of (files_of policy) ≡ Ok policy → step_of Edit.Prune policy ≡ Err fault → fault ≡ EditFault.BadSplice }
-{
-    prunes_rest_on_laws();
-    loaded_walk_is();
-    texts_tell_lines();
-}
+{}
 
 /// A prune leaves of each line of the walk the definitions that are not unused, in their order, and each other line as it was.
 pub fn prune_leaves_the_used()
     ensures { (policy new : Loaded) → load_of (files_of policy) ≡ Ok policy → step_of Edit.Prune policy ≡ Ok new
         → AreLeftOf policy.walk.lines 0 policy.walk.lines new.walk.lines }
-{
-    prunes_rest_on_laws();
-    loaded_walk_is();
-    texts_tell_lines();
-    walk_is_mapped();
-}
+{}
 
 /// A law: an edit that is taken back and then made again leaves the policy, the journal and the undone edits as they were.
 pub fn redo_takes_undo_back()
@@ -145,9 +110,7 @@ pub fn renamed_policy_is_one()
         → is_some (place_of kind name policy.walk.lines) ≡ true → IsDefinableName fresh → is_some (place_of kind fresh policy.walk.lines) ≡ false
         → FilesAreWithin kind name fresh policy
         → (new : Loaded) × (load_of (renamed_files kind name fresh policy) ≡ Ok new) × IsRenamed kind name fresh policy new }
-{
-    renames_rest_on_laws();
-}
+{}
 
 /// A rename of a defined alias is refused for its size alone: a line of the walk or a file on it would be too long. The new name may
 /// define an alias, and is neither defined nor mentioned in the kind.
@@ -155,9 +118,7 @@ pub fn rename_is_refused_for_its_size_alone()
     ensures { (kind : AKind) (name fresh : List ℕ) (policy : Loaded) (fault : AFault) → load_of (files_of policy) ≡ Ok policy
         → is_some (place_of kind name policy.walk.lines) ≡ true → IsDefinableName fresh → is_taken kind fresh policy.walk.lines ≡ false
         → step_of (Edit.Rename kind name fresh) policy ≡ Err fault → fault ≡ EditFault.TooLarge }
-{
-    renames_rest_on_laws();
-}
+{}
 
 /// Within the limits such a rename leads to the policy with the new name, and any rename that is made does. One rename takes it back:
 /// the old name, given again, leads to the policy before.
@@ -170,6 +131,4 @@ pub fn rename_is_taken_back()
         → step_of (Edit.Rename kind name fresh) policy ≡ Ok new → IsRenamed kind name fresh policy new }
     ensures back { (kind : AKind) (name fresh : List ℕ) (policy new : Loaded) → load_of (files_of policy) ≡ Ok policy
         → step_of (Edit.Rename kind name fresh) policy ≡ Ok new → step_of (Edit.Rename kind fresh name) new ≡ Ok policy }
-{
-    renames_rest_on_laws();
-}
+{}

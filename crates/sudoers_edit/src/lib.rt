@@ -5,7 +5,6 @@ mod alike;
 mod editor;
 mod fault;
 pub mod laws;
-mod laws_below;
 mod line_edits;
 mod making;
 mod name_places;

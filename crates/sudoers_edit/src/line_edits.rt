@@ -6,27 +6,20 @@ ghost use Rattle.sudoers_text.specs.Whole.{IsLogicalLine};
 ghost use Rattle.sudoers_edit.specs.OneLine.{is_one_line, IsAlone};
 ghost use Rattle.sudoers_edit.specs.LineEdits.{moved};
 ghost use Rattle.sudoers_edit.specs.internal.Leading.{Plans};
-ghost use Rattle.sudoers_edit.specs.internal.LastLine.{EndsStayCut};
 ghost use Rattle.sudoers_edit.specs.internal.LeadingInFile.{move_changes as the_move_changes, texts_of};
 
 use crate::fault::EditFault;
-use crate::laws_below::line_edits_rest_on_laws;
-use crate::plan::{Plan, file_is_sound, one_file_leads, put, refusal, swap, take};
+use crate::plan::{Plan, allocator_of, line_count, put, refusal, swap, take};
 use std::alloc::{AllocError, Global};
 use sudoers_edit_script::{Edit, Edits, Text};
-use sudoers_text::laws::{
-    lf_behind_last_line, lf_from_last_line, line_alone_is_whole, line_alone_size,
-    lines_stand_alone, whole_line_is,
-};
 use sudoers_text::{LINE_LIMIT, TextFault, cut, ends_in_lf};
-use sudoers_tree::laws::changed_by_first;
 use sudoers_tree::{LineChange, Policy};
 
 /// Plans that the line `text` is put before the line `at` of the file `file`, or behind its last line.
 pub fn line_inserted(policy: &Policy, file: u32, at: u32, text: &[u8]) -> Result<Plan, EditFault>
     ensures { Plans (Edit.Insert file at text.now) policy.now result }
 {
-    let alloc = policy.allocator();
+    let alloc = allocator_of(policy);
     let (number, place) = (file as usize, at as usize);
     if number >= policy.files() {
         return Err(EditFault::NoFile);
@@ -42,7 +35,6 @@ pub fn line_inserted(policy: &Policy, file: u32, at: u32, text: &[u8]) -> Result
     }
     let text = Text::from_slice(alloc, text)?;
     let inverse = Edits::one(alloc, Edit::Delete { file, at })?;
-    policy.is_loaded();
     Ok(put(alloc, number, place, text, inverse)?)
 }
 
@@ -50,7 +42,7 @@ pub fn line_inserted(policy: &Policy, file: u32, at: u32, text: &[u8]) -> Result
 pub fn line_deleted(policy: &Policy, file: u32, at: u32) -> Result<Plan, EditFault>
     ensures { Plans (Edit.Delete file at) policy.now result }
 {
-    let alloc = policy.allocator();
+    let alloc = allocator_of(policy);
     let (number, place) = (file as usize, at as usize);
     if number >= policy.files() {
         return Err(EditFault::NoFile);
@@ -60,8 +52,6 @@ pub fn line_deleted(policy: &Policy, file: u32, at: u32) -> Result<Plan, EditFau
     };
     let text = Text::from_slice(alloc, line)?;
     let inverse = Edits::one(alloc, Edit::Insert { file, at, text })?;
-    policy.is_loaded();
-    file_is_sound(policy);
     Ok(take(alloc, number, place, inverse)?)
 }
 
@@ -69,7 +59,7 @@ pub fn line_deleted(policy: &Policy, file: u32, at: u32) -> Result<Plan, EditFau
 pub fn line_moved(policy: &Policy, file: u32, from: u32, to: u32) -> Result<Plan, EditFault>
     ensures { Plans (Edit.Move file from to) policy.now result }
 {
-    let alloc = policy.allocator();
+    let alloc = allocator_of(policy);
     let (number, place, target) = (file as usize, from as usize, to as usize);
     if number >= policy.files() {
         return Err(EditFault::NoFile);
@@ -91,10 +81,6 @@ pub fn line_moved(policy: &Policy, file: u32, from: u32, to: u32) -> Result<Plan
         to: from,
     };
     let inverse = Edits::one(alloc, back)?;
-    policy.is_loaded();
-    file_is_sound(policy);
-    changed_by_first();
-    one_file_leads();
     Ok(Plan { changes, inverse })
 }
 
@@ -128,7 +114,7 @@ fn move_changes(
 pub fn end_closed(policy: &Policy, file: u32) -> Result<Plan, EditFault>
     ensures { Plans (Edit.EndLine file) policy.now result }
 {
-    let alloc = policy.allocator();
+    let alloc = allocator_of(policy);
     let number = file as usize;
     if number >= policy.files() {
         return Err(EditFault::NoFile);
@@ -142,9 +128,6 @@ pub fn end_closed(policy: &Policy, file: u32) -> Result<Plan, EditFault>
     if last.len() >= LINE_LIMIT {
         return Err(EditFault::TooLarge);
     }
-    policy.is_loaded();
-    file_is_sound(policy);
-    ends_stay_cut();
     let mut text = Vec::from_slice(alloc, last)?;
     text.push(b'\n')?;
     if !is_one_line(alloc, text.as_slice())? {
@@ -161,7 +144,7 @@ pub fn end_closed(policy: &Policy, file: u32) -> Result<Plan, EditFault>
 pub fn end_opened(policy: &Policy, file: u32) -> Result<Plan, EditFault>
     ensures { Plans (Edit.OpenEnd file) policy.now result }
 {
-    let alloc = policy.allocator();
+    let alloc = allocator_of(policy);
     let number = file as usize;
     if number >= policy.files() {
         return Err(EditFault::NoFile);
@@ -172,9 +155,6 @@ pub fn end_opened(policy: &Policy, file: u32) -> Result<Plan, EditFault>
     if last.len() < 2 || !ends_in_lf(last) {
         return Err(EditFault::EndAsIs);
     }
-    policy.is_loaded();
-    file_is_sound(policy);
-    ends_stay_cut();
     let text = Text::from_slice(alloc, &last[..last.len() - 1])?;
     if !is_one_line(alloc, text.as_slice())? {
         let mut whole = policy.text(number)?;
@@ -191,8 +171,7 @@ fn leaves_unended(policy: &Policy, file: usize, at: usize, text: &[u8]) -> bool
     requires { at ≤ length (texts_of policy.now file) }
     ensures { result ≡ has_unended_inside (insert (texts_of policy.now file) at text.now) }
 {
-    file_is_sound(policy);
-    if at < policy.len(file) {
+    if at < line_count(policy, file) {
         !ends_in_lf(text)
     } else if at > 0 {
         match line_text(policy, file, at - 1) {
@@ -210,11 +189,10 @@ fn move_leaves_unended(policy: &Policy, file: usize, from: usize, to: usize) -> 
     requires to { to < length (texts_of policy.now file) }
     ensures { result ≡ has_unended_inside (moved from to (texts_of policy.now file)) }
 {
-    file_is_sound(policy);
+    let last = line_count(policy, file) - 1;
     if from == to {
         return false;
     }
-    let last = policy.len(file) - 1;
     let before = if to < last { from } else { last };
     match line_text(policy, file, before) {
         Some(line) => !ends_in_lf(line),
@@ -243,25 +221,12 @@ fn last_place(policy: &Policy, file: usize) -> usize
     policy.len(file).saturating_sub(1)
 }
 
-/// A law: the lines of a file stay as many where LF is put behind the last or taken from it, if the files load then.
-pub fn ends_stay_cut()
-    ensures { EndsStayCut }
-{
-    line_edits_rest_on_laws();
-    line_alone_size();
-    lf_behind_last_line();
-    lf_from_last_line();
-}
-
 /// Returns whether a text is exactly one logical line.
 fn is_one_line(alloc: Global, text: &[u8]) -> Result<bool, AllocError>
     ensures is { IfOk result (λ is. is ≡ is_one_line text.now) }
     ensures alone { IfOk result (λ is. is ≡ true → IsAlone text.now) }
     ensures whole { IfOk result (λ is. is ≡ true → IsLogicalLine text.now) }
 {
-    lines_stand_alone();
-    line_alone_is_whole();
-    whole_line_is();
     match cut(alloc, text) {
         Ok(lines) => Ok(lines.len() == 1),
         Err(TextFault::NoMemory) => Err(AllocError),

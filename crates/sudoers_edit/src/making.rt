@@ -9,7 +9,7 @@ use crate::plan::{Plan, carry_out};
 use crate::prune_plan::pruned;
 use crate::renaming::alias_renamed;
 use crate::splice_edits::{def_added, def_dropped, member_added, member_dropped};
-use crate::way_back::{Back, changes_back, changes_lead_back};
+use crate::way_back::{Back, changes_back};
 use sudoers_edit_script::Edit;
 use sudoers_tree::Policy;
 
@@ -18,8 +18,8 @@ pub fn make(policy: &mut Policy, edit: &Edit) -> Result<Back, EditFault>
     ensures made { MakesWithBack edit.now policy.old policy.new result }
     ensures unchanged { OnErr result (policy.new ≡ policy.old) }
 {
+    // laws
     policy.is_loaded();
-    changes_lead_back();
     let plan = match planned(policy, edit) {
         Ok(plan) => plan,
         Err(fault) => return Err(fault),

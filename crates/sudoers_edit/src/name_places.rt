@@ -5,7 +5,6 @@ ghost use Rattle.sudoers_line_rows.specs.View.{def_shown, defs_shown, members_sh
 ghost use Rattle.sudoers_edit.specs.Renaming.{start_if, starts_among, starts_in_def, starts_in};
 
 use std::alloc::{AllocError, Global};
-use sudoers_tree::laws::members_are_listed;
 use sudoers_tree::{
     AliasMember, Def, DefRow, Kind, MemberRow, Node, Rows, alias_members, is_kind, list_aliases,
 };
@@ -19,7 +18,6 @@ pub fn name_starts(
 ) -> Result<Vec<usize>, AllocError>
     ensures { IfOk result (λ starts. starts.items ≡ starts_in kind name.now (node_shown node.now)) }
 {
-    members_are_listed();
     let mut starts = Vec::new(alloc);
     match *node {
         Node::Alias { kind: other, defs } => {

@@ -1,22 +1,20 @@
 //! Plans of edits of the files of a policy: what changes of their lines an edit is, and the edits that take it back.
-ghost use Rattle.std.specs.Prelude.{◌≡◌, ◌≤◌, ◌<◌, ◌∷◌, [], List, ℕ, length, insert, remove, Ok, IfOk, OnOk, OnErr, MatchResult};
+ghost use Rattle.std.specs.Prelude.{◌≡◌, ◌≤◌, ◌<◌, ◌∷◌, [], length, insert, remove, false, Ok, IfOk, OnOk, OnErr, MatchResult};
+ghost use Rattle.sudoers_text.specs.Ended.{has_unended_inside};
 ghost use Rattle.sudoers_text.specs.Whole.{IsLogicalLine};
-ghost use Rattle.sudoers_tree.specs.Changed.{changed, file_of, replaced};
+ghost use Rattle.sudoers_tree.specs.Changed.{file_of, replaced};
 ghost use Rattle.sudoers_tree.specs.ChangedFiles.{CanBeMade, files_changed};
 ghost use Rattle.sudoers_tree.specs.Load.{Loaded, files_of, load_of};
-ghost use Rattle.sudoers_tree.specs.declared.line_change.LineChange.{LineChange as LineChangeOf};
 ghost use Rattle.sudoers_edit_script.specs.declared.edit.Edit.{Edit as AnEdit};
 ghost use Rattle.sudoers_edit.specs.Editing.{Refuses};
 ghost use Rattle.sudoers_edit.specs.Landing.{policy_or_refusal, with_bytes as the_files_with};
 ghost use Rattle.sudoers_edit.specs.internal.Leading.{Leads};
-ghost use Rattle.sudoers_edit.specs.internal.LeadingInFile.{AreFileLines, FitIn, LandsIn, texts_of};
+ghost use Rattle.sudoers_edit.specs.internal.LeadingInFile.{LandsIn, texts_of};
 ghost use Rattle.sudoers_edit.specs.internal.Made.{Makes};
 
 use crate::fault::EditFault;
-use crate::laws_below::line_edits_rest_on_laws;
 use std::alloc::{AllocError, Global};
 use sudoers_edit_script::{Edits, Text};
-use sudoers_tree::laws::one_change;
 use sudoers_tree::{LineChange, NamedFile, Policy};
 
 /// What an edit changes, and the edits that take it back.
@@ -47,8 +45,6 @@ pub fn put(
     ensures { (edit back : AnEdit) (policy : Loaded) → load_of (files_of policy) ≡ Ok policy → at ≤ length (texts_of policy file) → IsLogicalLine text
         → LandsIn edit back inverse policy file (insert (texts_of policy file) at text) → IfOk result (λ plan. Leads edit plan.inverse policy plan.changes.items) }
 {
-    one_change();
-    one_file_leads();
     one(alloc, LineChange::Put { file, at, text }, inverse)
 }
 
@@ -57,8 +53,6 @@ pub fn take(alloc: Global, file: usize, at: usize, inverse: Edits) -> Result<Pla
     ensures { (edit back : AnEdit) (policy : Loaded) → load_of (files_of policy) ≡ Ok policy → at < length (texts_of policy file)
         → LandsIn edit back inverse policy file (remove (texts_of policy file) at) → IfOk result (λ plan. Leads edit plan.inverse policy plan.changes.items) }
 {
-    one_change();
-    one_file_leads();
     one(alloc, LineChange::Take { file, at }, inverse)
 }
 
@@ -73,8 +67,6 @@ pub fn swap(
     ensures { (edit back : AnEdit) (policy : Loaded) → load_of (files_of policy) ≡ Ok policy → at < length (texts_of policy file) → IsLogicalLine text
         → LandsIn edit back inverse policy file (replaced at text (texts_of policy file)) → IfOk result (λ plan. Leads edit plan.inverse policy plan.changes.items) }
 {
-    one_change();
-    one_file_leads();
     one(alloc, LineChange::Swap { file, at, text }, inverse)
 }
 
@@ -122,21 +114,23 @@ pub fn refusal(policy: &Policy, file: usize, bytes: Vec<u8>) -> EditFault
     }
 }
 
-/// A law: what the lines of each file of a policy are.
-pub fn file_is_sound(policy: &Policy)
-    ensures { (file : ℕ) → AreFileLines (texts_of policy.now file) }
+/// Returns the allocator of a policy. The files of the policy, loaded, are that policy.
+pub fn allocator_of(policy: &Policy) -> Global
+    ensures { load_of (files_of policy.now) ≡ Ok policy.now }
 {
+    // laws
     policy.is_loaded();
-    line_edits_rest_on_laws();
+    policy.allocator()
 }
 
-/// A law: changes of one file of a policy make the files to which the edit leads, and one edit leads back.
-pub fn one_file_leads()
-    ensures { (edit back : AnEdit) (inverse : List AnEdit) (policy : Loaded) (file : ℕ) (changes : List LineChangeOf)
-        → load_of (files_of policy) ≡ Ok policy → FitIn file changes (texts_of policy file)
-        → LandsIn edit back inverse policy file (changed changes (texts_of policy file)) → Leads edit inverse policy changes }
+/// Returns how many lines a file of a policy has. All but the last end in LF.
+pub fn line_count(policy: &Policy, file: usize) -> usize
+    ensures count { result ≡ length (texts_of policy.now file) }
+    ensures ended { has_unended_inside (texts_of policy.now file) ≡ false }
 {
-    line_edits_rest_on_laws();
+    // laws
+    policy.is_loaded();
+    policy.len(file)
 }
 
 /// Returns the number of the file of which `change` changes a line.

@@ -1,46 +1,33 @@
 //! A prune of the files of a policy, as the changes that it makes at once.
-ghost use Rattle.std.specs.Prelude.{◌≡◌, ◌≤◌, [], ◌∷◌, true, Bool, List, ℕ, length, reverse, slice_get, None, Ok, Some, IfOk, OnOk, MatchResult};
+ghost use Rattle.std.specs.Prelude.{◌≡◌, ◌≤◌, [], ◌∷◌, Bool, List, ℕ, length, reverse, slice_get, None, Ok, Some, IfOk, OnOk, MatchResult};
 ghost use Rattle.std.specs.Option.{option_copied, option_or};
 ghost use Rattle.sudoers_line_rows.specs.View.{node_shown};
-ghost use Rattle.sudoers_tree.specs.declared.line_change.LineChange.{LineChange as LineChangeOf};
 ghost use Rattle.sudoers_tree.specs.declared.line_change.LineChange.TheVariants.{Swap};
 ghost use Rattle.sudoers_tree.specs.Files.{lines_of};
-ghost use Rattle.sudoers_tree.specs.Lead.{lead_of};
 ghost use Rattle.sudoers_tree.specs.Line.{Line as LineOf};
-ghost use Rattle.sudoers_tree.specs.Load.{Loaded, files_of, load_of};
+ghost use Rattle.sudoers_tree.specs.Load.{Loaded};
 ghost use Rattle.sudoers_tree.specs.Policy.{texts};
 ghost use Rattle.sudoers_tree.specs.Single.{said};
-ghost use Rattle.sudoers_tree.specs.Walk.{is_on};
-ghost use Rattle.sudoers_edit_script.specs.declared.edit.Edit.{Edit as AnEdit};
 ghost use Rattle.sudoers_edit.specs.Editing.{Refuses};
-ghost use Rattle.sudoers_edit.specs.declared.pruning.Removal.{Removal as ARemoval};
-ghost use Rattle.sudoers_edit.specs.Pruning.{removals as the_removals};
 ghost use Rattle.sudoers_edit.specs.SpliceEdits.{cut_out as with_less, with_changed};
-ghost use Rattle.sudoers_edit.specs.internal.Drafts.{AreByFiles, CutDef, CutsDef, DefGoes, IsDraft, IsPruned, IsReady, LineGoes, MayGo, TakesOut, replaced_by, unless_replaced};
-ghost use Rattle.sudoers_edit.specs.internal.Leading.{Leads, Plans};
+ghost use Rattle.sudoers_edit.specs.internal.Drafts.{AreByFiles, CutsDef, IsDraft, IsReady, MayGo, TakesOut, replaced_by, unless_replaced};
+ghost use Rattle.sudoers_edit.specs.internal.Leading.{Plans};
 ghost use Rattle.sudoers_edit.specs.internal.OneMore.{CutOut};
 
 use crate::fault::EditFault;
-use crate::laws_below::prunes_rest_on_laws;
 use crate::one_more::{Among, OneMore};
-use crate::plan::{Plan, file_of};
+use crate::plan::{Plan, allocator_of, file_of};
 use crate::pruning::{Removal, removals};
 use crate::splice::{line_without, place_to_drop};
 use std::alloc::{AllocError, Global};
 use sudoers_edit_script::{Edit, Edits, Text};
-use sudoers_line::laws::definitions_ascend;
-use sudoers_text::laws::lines_stand_alone;
-use sudoers_tree::laws::{
-    changed_by_first, loaded_files_are_cut, loaded_lines_stand, loaded_walk_is,
-};
 use sudoers_tree::{LineChange, Node, Policy, read_line};
 
 /// Plans a prune: all definitions of aliases that are unused are taken out, one after another, each from what the one before left.
 pub fn pruned(policy: &Policy) -> Result<Plan, EditFault>
     ensures { Plans Edit.Prune policy.now result }
 {
-    prunes_lead(policy);
-    let alloc = policy.allocator();
+    let alloc = allocator_of(policy);
     let removals = removals(alloc, policy)?;
     let mut changes = Vec::new(alloc);
     let mut inverse = Vec::new(alloc);
@@ -55,20 +42,6 @@ pub fn pruned(policy: &Policy) -> Result<Plan, EditFault>
         changes,
         inverse: Edits::from_vec(inverse),
     })
-}
-
-/// A law: the changes of a prune, all of whose removals are made, lead file by file to what they leave, and the inverse edits lead back.
-fn prunes_lead(policy: &Policy)
-    ensures none { (all : List ARemoval) → all ≡ the_removals policy.now.walk → IsPruned policy.now all all [] [] }
-    ensures all { (all : List ARemoval) (changes sorted : List LineChangeOf) (inverse : List AnEdit) → all ≡ the_removals policy.now.walk
-        → IsPruned policy.now [] all changes inverse → AreByFiles changes sorted → Leads Edit.Prune inverse policy.now sorted }
-{
-    policy.is_loaded();
-    changed_by_first();
-    loaded_lines_stand();
-    loaded_walk_is();
-    loaded_files_are_cut();
-    lines_stand_alone();
 }
 
 /// Puts the changes in the order of their files. Those of each file stay in their order.
@@ -107,10 +80,7 @@ fn line_out(
         → IsReady policy.now below cut (reverse changes.old.items) → MayGo policy.now (Removal.Line file at) below cut
         → TakesOut policy.now (Removal.Line file at) below now (reverse changes.new.items) result }
 {
-    drafts_stand();
-    changed_by_first();
-    policy.is_loaded();
-    let alloc = policy.allocator();
+    let alloc = allocator_of(policy);
     let Some(line) = text_at(policy, file as usize, at as usize) else {
         return Err(EditFault::NoLine);
     };
@@ -134,8 +104,6 @@ fn def_out(
         → IsReady policy.now below cut (reverse changes.old.items) → MayGo policy.now (Removal.Def file line at) below cut
         → TakesOut policy.now (Removal.Def file line at) below now (reverse changes.new.items) result }
 {
-    drafts_stand();
-    changed_by_first();
     let alloc = policy.allocator();
     let Some(old) = text_so_far(policy, changes.as_slice(), file as usize, line as usize) else {
         return Err(EditFault::NoLine);
@@ -218,27 +186,11 @@ fn replace_line(
     Ok(())
 }
 
-/// A law: where a line of a file goes that leads nowhere, or a definition of several, the files are those of a policy again. A line says
-/// what its bytes say.
-fn drafts_stand()
-    ensures line { (policy : Loaded) (f n : ℕ) (line : LineOf) → load_of (files_of policy) ≡ Ok policy
-        → is_on policy.walk f ≡ true → slice_get (lines_of policy.files f) n ≡ Some line
-        → ((name : List ℕ) → lead_of name line.node ≡ None) → LineGoes f n policy }
-    ensures def { (policy : Loaded) (f n at : ℕ) (line : LineOf) (text splice : List ℕ) → load_of (files_of policy) ≡ Ok policy
-        → is_on policy.walk f ≡ true → slice_get (lines_of policy.files f) n ≡ Some line → CutDef n at (lines_of policy.files f) line text splice
-        → DefGoes f n at policy text splice }
-    ensures said { (policy : Loaded) (f n : ℕ) (line : LineOf) → load_of (files_of policy) ≡ Ok policy
-        → slice_get (lines_of policy.files f) n ≡ Some line → said line.text ≡ Some line.node }
-{
-    prunes_rest_on_laws();
-}
-
 /// Returns the line `text` without the definition at the place `at`, and the bytes that go with that definition.
 fn def_cut(alloc: Global, text: &[u8], at: u32) -> Result<(Text, Text), EditFault>
     ensures { (n : ℕ) (lines : List LineOf) (line : LineOf) → said line.text ≡ Some line.node → slice_get lines n ≡ Some line → line.text ≡ text.now
         → CutsDef n at lines line result }
 {
-    definitions_ascend();
     let Some(reading) = read_line(alloc, text)? else {
         return Err(EditFault::NoAlias);
     };

@@ -4,16 +4,13 @@ ghost use Rattle.std.specs.List.{All};
 ghost use Rattle.sudoers_line.specs.declared.node.Kind.{Kind as AKind};
 ghost use Rattle.sudoers_line_rows.specs.View.{node_shown};
 ghost use Rattle.sudoers_tree.specs.declared.place.Place.{Place as APlace};
-ghost use Rattle.sudoers_tree.specs.Definition.{Definition, definitions, definitions_in};
-ghost use Rattle.sudoers_tree.specs.Policy.{alias_limit};
+ghost use Rattle.sudoers_tree.specs.Definition.{definitions, definitions_in};
 ghost use Rattle.sudoers_tree.specs.Walk.{spot_at as the_spot};
 ghost use Rattle.sudoers_edit.specs.Pruning.{removals as the_removals};
 ghost use Rattle.sudoers_edit.specs.internal.PruneOrder.{front_count, removals_at};
 
 use std::alloc::{AllocError, Global};
 use sudoers_check::find_unused;
-use sudoers_text::laws::{line_alone_size, lines_stand_alone};
-use sudoers_tree::laws::{loaded_files_are_cut, loaded_is_walk, loaded_lines_stand};
 use sudoers_tree::{Kind, Node, Place, Policy, Spot};
 
 /// What Prune takes out.
@@ -29,7 +26,8 @@ pub enum Removal {
 pub fn removals(alloc: Global, policy: &Policy) -> Result<Vec<Removal>, AllocError>
     ensures { IfOk result (λ removals. removals.items ≡ the_removals policy.now.walk) }
 {
-    places_fit(policy);
+    // laws
+    policy.is_loaded();
     let places = find_unused(alloc, policy.walk())?;
     let mut removals = Vec::new(alloc);
     let mut rest = places.as_slice();
@@ -117,19 +115,4 @@ fn append_removals(
         })?;
     }
     Ok(())
-}
-
-/// A law: the numbers of the files and lines of the walk, and of definitions in their lines, fit into the numbers of edits.
-fn places_fit(policy: &Policy)
-    ensures files { (n : ℕ) → (the_spot policy.now.walk n).file < 2 ^ 32 }
-    ensures lines { (n : ℕ) → (the_spot policy.now.walk n).line < 2 ^ 32 }
-    ensures defs { All (λ (d : Definition). d.place.def < alias_limit) (definitions policy.now.walk.lines) }
-{
-    policy.is_loaded();
-    policy.files_fit();
-    loaded_is_walk();
-    loaded_lines_stand();
-    loaded_files_are_cut();
-    lines_stand_alone();
-    line_alone_size();
 }

@@ -1,28 +1,21 @@
 //! An alias given another name in the files of a policy, where it is defined and where it is mentioned.
-ghost use Rattle.std.specs.Prelude.{◌≡◌, ◌∷◌, ◌++◌, [], List, ℕ, length, take, drop, option_to_list, true, false, if◌then◌else◌, Ok, IfOk, OnOk};
+ghost use Rattle.std.specs.Prelude.{◌≡◌, ◌∷◌, ◌++◌, [], length, take, drop, option_to_list, true, false, if◌then◌else◌, Ok, IfOk, OnOk};
 ghost use Rattle.std.specs.List.{list_any};
-ghost use Rattle.sudoers_text.specs.Renamed.{IsDefinableName};
-ghost use Rattle.sudoers_line.specs.declared.node.Kind.{Kind as KindOf};
 ghost use Rattle.sudoers_tree.specs.Changed.{brought};
-ghost use Rattle.sudoers_tree.specs.Definition.{place_of};
 ghost use Rattle.sudoers_tree.specs.Fault.{is_some};
 ghost use Rattle.sudoers_tree.specs.Files.{lines_of};
 ghost use Rattle.sudoers_tree.specs.Line.{line_shown};
-ghost use Rattle.sudoers_tree.specs.Load.{Loaded, files_of, load_of};
 ghost use Rattle.sudoers_tree.specs.Walk.{is_on};
-ghost use Rattle.sudoers_tree.specs.declared.line_change.LineChange.{LineChange as LineChangeOf};
 ghost use Rattle.sudoers_edit.specs.Landing.{is_too_long};
-ghost use Rattle.sudoers_edit.specs.Renaming.{put_at, renamed, starts_in, is_taken as taken};
-ghost use Rattle.sudoers_edit.specs.internal.Leading.{Leads, Plans, swap_in, swaps_of_file, swaps_from};
+ghost use Rattle.sudoers_edit.specs.Renaming.{put_at, starts_in, is_taken as taken};
+ghost use Rattle.sudoers_edit.specs.internal.Leading.{Plans, swap_in, swaps_of_file, swaps_from};
 
 use crate::fault::EditFault;
-use crate::laws_below::renames_rest_on_laws;
 use crate::name_places::name_starts;
-use crate::plan::Plan;
+use crate::plan::{Plan, allocator_of};
 use std::alloc::{AllocError, Global};
 use sudoers_edit_script::{Edit, Edits, Text};
 use sudoers_text::{LINE_LIMIT, is_name, is_reserved};
-use sudoers_tree::laws::members_are_listed;
 use sudoers_tree::{Kind, Line, LineChange, NameBits, Policy, Walk};
 
 /// Plans that the alias `name` of the kind `kind` gets the name `fresh`.
@@ -34,8 +27,6 @@ pub fn alias_renamed(
 ) -> Result<Plan, EditFault>
     ensures { Plans (Edit.Rename kind name.now fresh.now) policy.now result }
 {
-    policy.is_loaded();
-    renames_lead();
     let walk = policy.walk();
     if walk.definition(kind, name).is_none() {
         return Err(EditFault::NoAlias);
@@ -43,7 +34,7 @@ pub fn alias_renamed(
     if !is_name(fresh) || is_reserved(fresh) {
         return Err(EditFault::BadName);
     }
-    let alloc = policy.allocator();
+    let alloc = allocator_of(policy);
     if is_taken(alloc, &walk, kind, fresh)? {
         return Err(EditFault::NameTaken);
     }
@@ -65,21 +56,6 @@ fn rename_back(alloc: Global, kind: Kind, name: &[u8], fresh: &[u8]) -> Result<E
         fresh: Text::from_slice(alloc, name)?,
     };
     Edits::one(alloc, back)
-}
-
-/// A law: a rename of a defined alias to a free name, all of whose lines on the walk are within the limit, leads to the files with that
-/// name. One rename leads back. A line of the walk is past the limit exactly if one that the changes bring is.
-fn renames_lead()
-    ensures leads { (kind : KindOf) (name fresh : List ℕ) (policy : Loaded) (changes : List LineChangeOf) → load_of (files_of policy) ≡ Ok policy
-        → is_some (place_of kind name policy.walk.lines) ≡ true → IsDefinableName fresh → taken kind fresh policy.walk.lines ≡ false
-        → list_any is_too_long (renamed kind name fresh policy.walk.lines) ≡ false
-        → changes ≡ swaps_from 0 kind name fresh policy.walk policy.files
-        → Leads (Edit.Rename kind name fresh) (Edit.Rename kind fresh name ∷ []) policy changes }
-    ensures long { (kind : KindOf) (name fresh : List ℕ) (policy : Loaded) → load_of (files_of policy) ≡ Ok policy
-        → list_any is_too_long (brought (swaps_from 0 kind name fresh policy.walk policy.files))
-        ≡ list_any is_too_long (renamed kind name fresh policy.walk.lines) }
-{
-    renames_rest_on_laws();
 }
 
 /// Returns whether the name is defined or mentioned in the kind.
@@ -137,7 +113,6 @@ fn append_swaps_of(
 ) -> Result<(), AllocError>
     ensures { OnOk result (changes.new.items ≡ changes.old.items ++ swaps_of_file file 0 kind name.now fresh.now (lines_of policy.now.files file)) }
 {
-    members_are_listed();
     let bits = NameBits::of(name);
     let alloc = policy.allocator();
     let lines = policy.file_lines(file);

@@ -6,32 +6,25 @@ ghost use Rattle.sudoers_line_rows.specs.View.{def_shown, defs_shown, node_shown
 ghost use Rattle.sudoers_tree.specs.Changed.{replaced};
 ghost use Rattle.sudoers_tree.specs.Files.{lines_of};
 ghost use Rattle.sudoers_tree.specs.Line.{Line as LineOf, line_shown, lines_shown};
-ghost use Rattle.sudoers_tree.specs.Load.{Loaded, load_of};
 ghost use Rattle.sudoers_tree.specs.Policy.{texts};
-ghost use Rattle.sudoers_tree.specs.declared.load.NamedFile.{NamedFile as NamedFileOf};
 ghost use Rattle.sudoers_tree.specs.declared.place.Place.{Place as PlaceOf};
 ghost use Rattle.sudoers_edit.specs.Editing.{Refuses, at_alias};
 ghost use Rattle.sudoers_edit.specs.SpliceEdits.{defs_of, with_def, with_defs, cut_out as with_less, put_in as with_more, with_changed};
 ghost use Rattle.sudoers_edit.specs.declared.fault.EditFault.{EditFault as Refusal};
 ghost use Rattle.sudoers_edit.specs.Landing.{Lines};
 ghost use Rattle.sudoers_edit.specs.internal.Leading.{Plans};
-ghost use Rattle.sudoers_edit.specs.internal.Splicing.{AreKnown, IsDefIn, ReplacesIn};
+ghost use Rattle.sudoers_edit.specs.internal.Splicing.{IsDefIn, ReplacesIn};
 ghost use Rattle.sudoers_edit.specs.internal.OneMore.{CutOut, PutIn};
 ghost use Rattle.sudoers_edit.specs.internal.LeadingInFile.{texts_of};
 ghost use Rattle.sudoers_edit_script.specs.declared.edit.Edit.{Edit as AnEdit};
 
 use crate::fault::EditFault;
-use crate::laws_below::member_edits_rest_on_laws;
 use crate::one_more::{Among, OneMore};
-use crate::plan::{Plan, file_is_sound, swap};
+use crate::plan::{Plan, allocator_of, line_count, swap};
 use crate::splice::{line_with, line_without, place_to_add, place_to_drop};
 use std::alloc::{AllocError, Global};
 use sudoers_edit_script::{Edit, Edits, Text};
-use sudoers_line::laws::{definitions_ascend, no_fault};
-use sudoers_line_reader::laws::{one_reading, outcome_is};
-use sudoers_text::laws::{line_alone_is_whole, line_alone_size, lines_stand_alone, whole_line_is};
 use sudoers_text::{LINE_LIMIT, ends_in_lf};
-use sudoers_tree::laws::{loaded_files_are_cut, loaded_lines_are_said};
 use sudoers_tree::{Def, DefRow, FilePlace, Kind, Line, LineRow, Node, Policy, Rows, read_line};
 
 /// Plans that the bytes `splice` bring a definition, at the place `at` of the line `line` of the file `file`.
@@ -44,12 +37,10 @@ pub fn def_added(
 ) -> Result<Plan, EditFault>
     ensures { Plans (Edit.AddDef file line at splice.now) policy.now result }
 {
-    policy.is_loaded();
-    lines_are_known();
     if file as usize >= policy.files() {
         return Err(EditFault::NoFile);
     }
-    let alloc = policy.allocator();
+    let alloc = allocator_of(policy);
     let lines = policy.file_lines(file as usize);
     let (old, defs) = match defs_at(&lines, line as usize) {
         Ok(found) => found,
@@ -71,12 +62,10 @@ pub fn def_added(
 pub fn def_dropped(policy: &Policy, file: u32, line: u32, at: u32) -> Result<Plan, EditFault>
     ensures { Plans (Edit.DropDef file line at) policy.now result }
 {
-    policy.is_loaded();
-    lines_are_known();
     if file as usize >= policy.files() {
         return Err(EditFault::NoFile);
     }
-    let alloc = policy.allocator();
+    let alloc = allocator_of(policy);
     let lines = policy.file_lines(file as usize);
     let (old, defs) = match defs_at(&lines, line as usize) {
         Ok(found) => found,
@@ -112,9 +101,7 @@ pub fn member_added(
 ) -> Result<Plan, EditFault>
     ensures { Plans (Edit.AddMember kind name.now at splice.now) policy.now result }
 {
-    policy.is_loaded();
-    member_edits_rest_on_laws();
-    let alloc = policy.allocator();
+    let alloc = allocator_of(policy);
     let (place, old, def) = match def_at(policy, kind, name) {
         Ok(found) => found,
         Err(fault) => return Err(fault),
@@ -137,9 +124,7 @@ pub fn member_added(
 pub fn member_dropped(policy: &Policy, kind: Kind, name: &[u8], at: u32) -> Result<Plan, EditFault>
     ensures { Plans (Edit.DropMember kind name.now at) policy.now result }
 {
-    policy.is_loaded();
-    member_edits_rest_on_laws();
-    let alloc = policy.allocator();
+    let alloc = allocator_of(policy);
     let (place, old, def) = match def_at(policy, kind, name) {
         Ok(found) => found,
         Err(fault) => return Err(fault),
@@ -300,9 +285,6 @@ fn line_replaced(
     requires { at < length (lines_of policy.now.files file) }
     ensures { (edit back : AnEdit) → ReplacesIn edit back inverse policy.now file at text.items → Plans edit policy.now result }
 {
-    policy.is_loaded();
-    file_is_sound(policy);
-    whole_line_is();
     if text.len() > LINE_LIMIT {
         return Err(EditFault::TooLarge);
     }
@@ -310,7 +292,7 @@ fn line_replaced(
         return Err(EditFault::OpenLine);
     }
     let text = Text::from_vec(text);
-    Ok(swap(policy.allocator(), file, at, text, inverse)?)
+    Ok(swap(allocator_of(policy), file, at, text, inverse)?)
 }
 
 /// Returns whether a line without LF would stand before another once the text stands in the place of a line of a file.
@@ -318,24 +300,9 @@ fn leaves_open(policy: &Policy, file: usize, at: usize, text: &[u8]) -> bool
     requires { at < length (lines_of policy.now.files file) }
     ensures { result ≡ has_unended_inside (replaced at text.now (texts_of policy.now file)) }
 {
-    file_is_sound(policy);
+    let count = line_count(policy, file);
     if ends_in_lf(text) {
         return false;
     }
-    policy.len(file) - at > 1
-}
-
-/// A law: the lines of loaded files are known from what they say.
-pub fn lines_are_known()
-    ensures { (files : List NamedFileOf) (policy : Loaded) → load_of files ≡ Ok policy → (file : ℕ) → AreKnown (lines_of policy.files file) }
-{
-    loaded_lines_are_said();
-    loaded_files_are_cut();
-    lines_stand_alone();
-    line_alone_size();
-    line_alone_is_whole();
-    outcome_is();
-    one_reading();
-    no_fault();
-    definitions_ascend();
+    count - at > 1
 }

@@ -1,24 +1,19 @@
 //! What takes an edit back: edits, or the changes that do the same at once.
-ghost use Rattle.std.specs.Prelude.{◌≡◌, ◌<◌, ◌≤◌, ◌+◌, ◌^◌, ℕ, List, [], length, Ok, Some, IfOk, IfErr, OnOk, OnErr, slice_index_or};
-ghost use Rattle.sudoers_text.specs.Fault.{text_limit};
+ghost use Rattle.std.specs.Prelude.{◌≡◌, ◌<◌, ◌+◌, ◌^◌, [], Ok, Some, IfOk, IfErr, OnOk, OnErr};
 ghost use Rattle.sudoers_tree.specs.Changed.{file_of, place_of};
-ghost use Rattle.sudoers_tree.specs.ChangedFiles.{CanBeMade, files_changed};
+ghost use Rattle.sudoers_tree.specs.ChangedFiles.{CanBeMade};
 ghost use Rattle.sudoers_tree.specs.Files.{lines_of};
-ghost use Rattle.sudoers_tree.specs.Load.{Loaded, files_of, load_of};
+ghost use Rattle.sudoers_tree.specs.Load.{Loaded};
 ghost use Rattle.sudoers_tree.specs.Policy.{texts};
-ghost use Rattle.sudoers_tree.specs.declared.line_change.LineChange.{LineChange as LineChangeOf};
 ghost use Rattle.sudoers_edit.specs.Editing.{line_at as the_line_at, run};
-ghost use Rattle.sudoers_edit.specs.internal.Undone.{ChangesBack, LeadsBack, undone};
+ghost use Rattle.sudoers_edit.specs.internal.Undone.{LeadsBack, undone};
 ghost use Rattle.sudoers_edit.specs.internal.UndoneLines.{one_undone};
 
 use crate::fault::EditFault;
-use crate::laws_below::line_edits_rest_on_laws;
 use crate::making::make;
-use crate::plan::{file_is_sound, file_of};
+use crate::plan::{allocator_of, file_of};
 use std::alloc::AllocError;
 use sudoers_edit_script::{Edits, Text};
-use sudoers_text::laws::line_alone_size;
-use sudoers_tree::laws::{changed_by_first, changed_files_have_lines};
 use sudoers_tree::{Items, LineChange, Policy};
 
 /// What takes an edit back: its inverse edits. A prune also has the changes that do the same at once.
@@ -36,8 +31,7 @@ pub fn changes_back(
     requires { CanBeMade changes.now policy.now.files }
     ensures { IfOk result (λ back. back ≡ undone policy.now.files changes.now) }
 {
-    lines_are_few(policy);
-    let alloc = policy.allocator();
+    let alloc = allocator_of(policy);
     let mut back = Vec::with_capacity(alloc, changes.len())?;
     let (mut last, mut put, mut taken) = (0, 0, 0);
     for change in changes {
@@ -53,24 +47,6 @@ pub fn changes_back(
         }
     }
     Ok(Items::from_vec(back))
-}
-
-/// A law: what takes changes back leads to the files before them.
-pub fn changes_lead_back()
-    ensures { (policy new : Loaded) (changes : List LineChangeOf) → load_of (files_of policy) ≡ Ok policy → CanBeMade changes policy.files
-        → load_of (files_changed changes policy.files) ≡ Ok new → ChangesBack (undone policy.files changes) new policy }
-{
-    line_edits_rest_on_laws();
-    changed_files_have_lines();
-    changed_by_first();
-}
-
-/// A law: no file of a policy has more lines than its text may have bytes.
-fn lines_are_few(policy: &Policy)
-    ensures { (file : ℕ) → length (lines_of policy.now.files file) ≤ text_limit }
-{
-    file_is_sound(policy);
-    line_alone_size();
 }
 
 /// Returns the change that takes `change` back, where `put` lines were put into its file and `taken` lines taken out before.

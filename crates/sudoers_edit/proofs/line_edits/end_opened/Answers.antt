@@ -7,6 +7,8 @@ use Rattle.sudoers_edit_script.specs.declared.edit.Edit.TheVariants.{EndLine, Op
 use Rattle.sudoers_edit.specs.OneLine.{is_one_line}
 use Rattle.sudoers_edit.specs.internal.LeadingInFile.{LandsIn, texts_of}
 use Rattle.sudoers_edit.proofs.EndLemmas.{HasEnd, last_within, no_end, open_lacks, open_lands, open_one, open_short, opened_lines, opened_text, refused_end, unloaded}
+use Rattle.sudoers_edit.proofs.LawsApplied.{file_sound}
+use Rattle.sudoers_edit.proofs.LawsBelow.{ends_stay_cut}
 use Rattle.sudoers_edit.proofs.line_edits.end_opened.Goals as goal
 use Rattle.sudoers_edit.proofs.line_edits.end_opened.Goals.{then-last-lt2-via-then-last-lt2, then-last-lt2-via-else-last-lt2+then-not-ends_in_lf}
 
@@ -30,7 +32,7 @@ refusal-requires c =
     let line : List ℕ = c.in-Some.last.now in
     let has : HasEnd policy f line = record {
       here = omega (arith, c.if-number-files.false, c.files.ensures);
-      sound = c.file_is_sound.ensures f;
+      sound = file_sound policy c.allocator_of-alloc.ensures f;
       last = sym c.in-Some.ensures;
       has = sym c.ends_in_lf.ensures ∙ c.if-not-ends_in_lf.false;
       long = c.if-last-lt2.false;
@@ -39,8 +41,8 @@ refusal-requires c =
     ap is_one_line (sym (c.as_slice.ensures ∙ c.in_ok-text.ensures)) ∙ sym c.in_ok-is_one_line.ensures.is ∙ c.if-not-branch.true in
     let whole : c.pop.new.self.items ≡ take (length (join (texts_of policy f)) - 1) (join (texts_of policy f)) =
     c.pop.ensures.rest ∙ ap (λ n. take (n - 1) c.in_ok-whole.whole.items) c.in_ok-whole.whole.ok.0 ∙ ap (λ (t : List ℕ). take (length t - 1) t) c.in_ok-whole.ensures in
-    unloaded policy f (opened_lines policy f line) c.pop.new.self.items (take (length line - 1) line) (open_one c.ends_stay_cut.ensures policy f line has) not_one
-    (whole ∙ opened_text c.ends_stay_cut.ensures policy f line has)
+    unloaded policy f (opened_lines policy f line) c.pop.new.self.items (take (length line - 1) line) (open_one ends_stay_cut policy f line has) not_one
+    (whole ∙ opened_text ends_stay_cut policy f line has)
 
 pub returns-then-not-branch : goal.returns-then-not-branch
 returns-then-not-branch c =
@@ -49,7 +51,7 @@ returns-then-not-branch c =
     let line : List ℕ = c.in-Some.last.now in
     let has : HasEnd policy f line = record {
       here = omega (arith, c.if-number-files.false, c.files.ensures);
-      sound = c.file_is_sound.ensures f;
+      sound = file_sound policy c.allocator_of-alloc.ensures f;
       last = sym c.in-Some.ensures;
       has = sym c.ends_in_lf.ensures ∙ c.if-not-ends_in_lf.false;
       long = c.if-last-lt2.false;
@@ -57,7 +59,7 @@ returns-then-not-branch c =
     let whole : c.pop.new.self.items ≡ take (length (join (texts_of policy f)) - 1) (join (texts_of policy f)) =
     c.pop.ensures.rest ∙ ap (λ n. take (n - 1) c.in_ok-whole.whole.items) c.in_ok-whole.whole.ok.0 ∙ ap (λ (t : List ℕ). take (length t - 1) t) c.in_ok-whole.ensures in
     refused_end (OpenEnd f) (EndLine f) (EndLine f ∷ []) policy f (opened_lines policy f line) c.pop.new.self.items c.refusal.result
-    (open_lands c.ends_stay_cut.ensures policy f line has) (whole ∙ opened_text c.ends_stay_cut.ensures policy f line has) c.refusal.ensures
+    (open_lands ends_stay_cut policy f line has) (whole ∙ opened_text ends_stay_cut policy f line has) c.refusal.ensures
 
 pub returns : goal.returns
 returns c =
@@ -68,7 +70,7 @@ returns c =
     let ls : List (List ℕ) = texts_of policy f in
     let has : HasEnd policy f line = record {
       here = omega (arith, c.if-number-files.false, c.files.ensures);
-      sound = c.file_is_sound.ensures f;
+      sound = file_sound policy c.allocator_of-alloc.ensures f;
       last = sym c.in-Some.ensures;
       has = sym c.ends_in_lf.ensures ∙ c.if-not-ends_in_lf.false;
       long = c.if-last-lt2.false;
@@ -76,8 +78,8 @@ returns c =
     let put : c.in_ok-text.text ≡ new = c.in_ok-text.ensures in
     let one : IsLogicalLine c.in_ok-text.text = subst IsLogicalLine c.as_slice.ensures (c.in_ok-is_one_line.ensures.whole c.if-not-branch.false) in
     let lands : LandsIn (OpenEnd f) (EndLine f) c.in_ok-inverse.inverse policy f (opened_lines policy f line) =
-    subst (λ i. LandsIn (OpenEnd f) (EndLine f) i policy f (opened_lines policy f line)) (sym c.in_ok-inverse.ensures) (open_lands c.ends_stay_cut.ensures policy f line has) in
-    c.in_ok-swap.ensures (OpenEnd f) (EndLine f) policy c.is_loaded.ensures
+    subst (λ i. LandsIn (OpenEnd f) (EndLine f) i policy f (opened_lines policy f line)) (sym c.in_ok-inverse.ensures) (open_lands ends_stay_cut policy f line has) in
+    c.in_ok-swap.ensures (OpenEnd f) (EndLine f) policy c.allocator_of-alloc.ensures
     (subst (λ n. n < length ls) (sym c.last_place-at.ensures) (last_within policy f line has.last)) one
     (subst (λ n. LandsIn (OpenEnd f) (EndLine f) c.in_ok-inverse.inverse policy f (replaced n c.in_ok-text.text ls)) (sym c.last_place-at.ensures)
     (subst (λ t. LandsIn (OpenEnd f) (EndLine f) c.in_ok-inverse.inverse policy f (replaced (length ls - 1) t ls)) (sym put) lands))

@@ -25,5 +25,5 @@ returns c =
     let lands : LandsIn (Insert f at t) (Delete f at) (Delete f at ∷ []) policy f (insert ls at c.in_ok-text.text) =
     subst (λ z. LandsIn (Insert f at t) (Delete f at) (Delete f at ∷ []) policy f (insert ls at z)) (sym c.in_ok-text.ensures)
     (insert_lands policy f at t here within one ended) in
-    c.in_ok-put.ensures (Insert f at t) (Delete f at) policy c.is_loaded.ensures within (subst IsLogicalLine (sym c.in_ok-text.ensures) whole)
+    c.in_ok-put.ensures (Insert f at t) (Delete f at) policy c.allocator_of-alloc.ensures within (subst IsLogicalLine (sym c.in_ok-text.ensures) whole)
     (subst (λ i. LandsIn (Insert f at t) (Delete f at) i policy f (insert ls at c.in_ok-text.text)) (sym c.in_ok-inverse.ensures) lands)

@@ -12,6 +12,9 @@ use Rattle.sudoers_edit.proofs.PolicyLemmas.{count_texts, at_get}
 use Rattle.sudoers_edit.proofs.LineLemmas.{move_lands}
 use Rattle.sudoers_edit.proofs.MoveLemmas.{moves}
 use Rattle.sudoers_edit.proofs.PlanLemmas.{leads_by}
+use Rattle.sudoers_tree.proofs.ChangedLines.{no_change}
+use Rattle.sudoers_edit.proofs.FilesBelow.{first_made}
+use Rattle.sudoers_edit.proofs.LawsApplied.{file_sound, one_file_made}
 use Rattle.sudoers_edit.proofs.line_edits.line_moved.Goals as goal
 
 pub returns : goal.returns
@@ -31,7 +34,7 @@ returns c =
     subst (λ i. LandsIn (Move f from to) (Move f to from) i policy f (moved from to ls)) (sym c.in_ok-inverse.ensures) (move_lands policy f from to here inside within ended) in
     let changes : c.in_ok-changes.changes.items ≡ move_changes f from to (slice_index_or ls from []) =
     c.in_ok-changes.ensures ∙ ap (move_changes f from to) (c.in_ok-text.ensures ∙ sym (at_get ls from line [] there)) in
-    let made = moves c.changed_by_first.ensures.none c.changed_by_first.ensures.first f from to ls (c.file_is_sound.ensures f) inside within in
+    let made = moves no_change first_made f from to ls (file_sound policy c.allocator_of-alloc.ensures f) inside within in
     subst (Leads (Move f from to) c.in_ok-inverse.inverse policy) (sym changes)
-    (leads_by c.one_file_leads.ensures (Move f from to) (Move f to from) c.in_ok-inverse.inverse policy f (moved from to ls) (move_changes f from to (slice_index_or ls from []))
-    c.is_loaded.ensures made.fits made.are lands)
+    (leads_by one_file_made (Move f from to) (Move f to from) c.in_ok-inverse.inverse policy f (moved from to ls) (move_changes f from to (slice_index_or ls from []))
+    c.allocator_of-alloc.ensures made.fits made.are lands)

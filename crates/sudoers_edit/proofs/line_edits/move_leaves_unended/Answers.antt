@@ -1,29 +1,27 @@
 use Rattle.std.proofs.Common.{◌≡◌, ◌∙◌, ◌-◌, ◌≤◌, List, ℕ, Some, length, not, ap, arith, sym}
 use Rattle.std.specs.Prelude.{slice_get}
 use Rattle.sudoers_edit.specs.internal.LeadingInFile.{texts_of}
-use Rattle.sudoers_tree.specs.Files.{lines_of}
 use Rattle.sudoers_edit.proofs.EditLemmas.{stays_in_place, move_before, move_behind}
-use Rattle.sudoers_edit.proofs.PolicyLemmas.{count_texts}
 use Rattle.sudoers_edit.proofs.LineLemmas.{past_end}
 use Rattle.sudoers_edit.proofs.line_edits.move_leaves_unended.Goals as goal
 use Rattle.sudoers_edit.proofs.line_edits.move_leaves_unended.Goals.{then-to-last, else-to-last}
 
 pub returns-then-from-to : goal.returns-then-from-to
 returns-then-from-to c =
-    stays_in_place (texts_of c.args.policy.now c.args.file) c.args.from c.args.to c.if-from-to.true c.requires.from (c.file_is_sound.ensures c.args.file).ended
+    stays_in_place (texts_of c.args.policy.now c.args.file) c.args.from c.args.to c.if-from-to.true c.requires.from c.line_count-last.ensures.ended
 
 pub returns-in-Some : goal.returns-in-Some
 returns-in-Some c =
     let ls : List (List ℕ) = texts_of c.args.policy.now c.args.file in
-    let ended = (c.file_is_sound.ensures c.args.file).ended in
+    let ended = c.line_count-last.ensures.ended in
     let line : List ℕ = c.in-Some.line.now in
     let before : ℕ = c.if-to-last.before in
     let here : slice_get ls before ≡ Some line = sym c.in-Some.ensures in
-    let last : c.len-last.result - 1 ≡ length ls - 1 = omega (arith, c.len-last.ensures, count_texts (lines_of c.args.policy.now.files c.args.file)) in
+    let last : c.line_count-last.result - 1 ≡ length ls - 1 = omega (arith, c.line_count-last.ensures.count) in
     ap not c.ends_in_lf.ensures
     ∙ elim c.if-to-last.branch [
-      | then-to-last w ↦ move_before ls c.args.from c.args.to before (c.len-last.result - 1) line c.requires.from last w.if-to-last.true w.before-is here ended
-      | else-to-last w ↦ move_behind ls c.args.from c.args.to before (c.len-last.result - 1) line c.requires.from c.requires.to c.if-from-to.false last w.if-to-last.false w.before-is here ended
+      | then-to-last w ↦ move_before ls c.args.from c.args.to before (c.line_count-last.result - 1) line c.requires.from last w.if-to-last.true w.before-is here ended
+      | else-to-last w ↦ move_behind ls c.args.from c.args.to before (c.line_count-last.result - 1) line c.requires.from c.requires.to c.if-from-to.false last w.if-to-last.false w.before-is here ended
     ]
 
 pub returns-in-None : goal.returns-in-None
@@ -32,5 +30,5 @@ returns-in-None c =
     let past : length ls ≤ c.if-to-last.before = past_end ls c.if-to-last.before c.in-None.ensures in
     elim c.if-to-last.branch [
       | then-to-last w ↦ absurd (omega (arith, past, c.requires.from, w.before-is))
-      | else-to-last w ↦ absurd (omega (arith, past, c.requires.from, c.len-last.ensures, count_texts (lines_of c.args.policy.now.files c.args.file), w.before-is))
+      | else-to-last w ↦ absurd (omega (arith, past, c.requires.from, c.line_count-last.ensures.count, w.before-is))
     ]

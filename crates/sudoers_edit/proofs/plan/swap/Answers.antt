@@ -3,13 +3,15 @@ use Rattle.sudoers_tree.specs.declared.line_change.LineChange.TheVariants.{Swap}
 use Rattle.sudoers_tree.specs.Changed.{replaced}
 use Rattle.sudoers_edit.specs.internal.LeadingInFile.{texts_of}
 use Rattle.sudoers_edit.proofs.PlanLemmas.{leads_by, planned_by, swap_fits}
+use Rattle.sudoers_tree.proofs.ChangedLines.{one_swap}
+use Rattle.sudoers_edit.proofs.LawsApplied.{one_file_made}
 use Rattle.sudoers_edit.proofs.plan.swap.Goals as goal
 
 pub returns : goal.returns
 returns c = λ edit back policy loaded within whole lands.
     let change = Swap c.args.file c.args.at c.args.text in
     planned_by c.one.result edit c.args.inverse policy (change ∷ [])
-    (leads_by c.one_file_leads.ensures edit back c.args.inverse policy c.args.file (replaced c.args.at c.args.text (texts_of policy c.args.file)) (change ∷ []) loaded
+    (leads_by one_file_made edit back c.args.inverse policy c.args.file (replaced c.args.at c.args.text (texts_of policy c.args.file)) (change ∷ []) loaded
     (swap_fits c.args.file c.args.at c.args.text (texts_of policy c.args.file) within whole)
-    (c.one_change.ensures.swap (texts_of policy c.args.file) c.args.file c.args.at c.args.text within) lands)
+    (one_swap (texts_of policy c.args.file) c.args.file c.args.at c.args.text within) lands)
     c.one.ensures.changes c.one.ensures.inverse

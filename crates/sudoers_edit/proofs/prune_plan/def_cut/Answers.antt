@@ -13,6 +13,7 @@ use Rattle.sudoers_edit.specs.Splice.{def_extents}
 use Rattle.sudoers_edit.specs.SpliceEdits.{defs_of, cut_out}
 use Rattle.sudoers_edit.specs.internal.Drafts.{CutDef}
 use Rattle.sudoers_edit.proofs.PruneCut.{cut_def, cut_within, line_is, no_defs, refused_found, several, shown_line}
+use Rattle.sudoers_edit.proofs.LinesBelow.{line_defs}
 use Rattle.sudoers_edit.proofs.prune_plan.def_cut.Goals as goal
 
 none_some : (n : Node) → (let o : Option Node = None in o) ≡ Some n → ⊥
@@ -52,7 +53,7 @@ without_def-requires c =
     subst (ReadsLine c.args.text.now) (sym c.node-node.ensures ∙ makes) both.1 in
     let place = c.in-Ok.ensures (λ a b. cut_out among.Definitions c.args.at a b 0 (record { text = c.args.text.now; node = says }) []) in
     cut_within c.args.text.now (defs_shown c.in-Alias.defs) c.args.at c.in-Ok.bytes.0 c.in-Ok.bytes.1
-    (c.definitions_ascend.ensures c.args.text.now c.in-Alias.kind (defs_shown c.in-Alias.defs) reads) place.1 place.2
+    (line_defs c.args.text.now c.in-Alias.kind (defs_shown c.in-Alias.defs) reads) place.1 place.2
 
 pub returns-in-Err-without_def : goal.returns-in-Err-without_def
 returns-in-Err-without_def c = λ n lines line known here same.

@@ -13,6 +13,7 @@ use Rattle.sudoers_edit.specs.Pruning.{removals}
 use Rattle.sudoers_edit.specs.internal.Drafts.{AreByFiles, IsPruned, IsTakenOut}
 use Rattle.sudoers_edit.specs.internal.Leading.{Leads}
 use Rattle.sudoers_edit.proofs.PruneDone.{one_pruned, refuse_more}
+use Rattle.sudoers_edit.proofs.LawsApplied.{all_out, none_out}
 use Rattle.sudoers_edit.proofs.prune_plan.pruned.Goals as goal
 
 pub loop-removal-init : goal.loop-removal-init
@@ -20,7 +21,7 @@ loop-removal-init c =
     let all : List Removal = c.as_slice-removal-items.result.now in
     let told : all ≡ removals c.args.policy.now.walk = c.as_slice-removal-items.ensures.value ∙ c.in_ok-removals.ensures in
     subst (λ (cs : List LineChange). IsPruned c.args.policy.now all all (reverse cs) (reverse c.new-inverse.result.items)) (sym c.new-changes.ensures.items)
-    (subst (λ (es : List Edit). IsPruned c.args.policy.now all all [] (reverse es)) (sym c.new-inverse.ensures.items) (c.prunes_lead.ensures.none all told))
+    (subst (λ (es : List Edit). IsPruned c.args.policy.now all all [] (reverse es)) (sym c.new-inverse.ensures.items) (none_out c.args.policy.now all c.allocator_of-alloc.ensures told))
 
 pub loop-removal-preserved : goal.loop-removal-preserved
 loop-removal-preserved c =
@@ -70,4 +71,4 @@ returns c =
     let by : AreByFiles changes c.sort_by_files.new.changes.items =
     subst (λ (cs : List LineChange). AreByFiles cs c.sort_by_files.new.changes.items) c.reverse.ensures.items c.in_ok-sort_by_files.ensures in
     subst (λ (es : List Edit). Leads Prune es policy c.sort_by_files.new.changes.items) (sym (c.from_vec.ensures ∙ c.reverse-2.ensures.items))
-    (c.prunes_lead.ensures.all all changes c.sort_by_files.new.changes.items inverse told p by)
+    (all_out policy all changes c.sort_by_files.new.changes.items inverse told p by)

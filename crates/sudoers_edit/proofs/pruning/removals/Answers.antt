@@ -1,6 +1,6 @@
-use Rattle.std.proofs.Common.{◌≡◌, ◌∙◌, ◌++◌, ◌<◌, ◌+◌, [], ◌∷◌, ℕ, List, drop, length, map, reverse, slice_index_or, ap, ap₂, sym, arith, append-nil}
+use Rattle.std.proofs.Common.{◌≡◌, ◌∙◌, ◌++◌, ◌<◌, ◌+◌, [], ◌∷◌, ℕ, List, drop, length, map, reverse, slice_index_or, ap, ap₂, sym, subst, append-nil}
 use Rattle.std.proofs.lemmas.List.{drop_more, drop_all}
-use Rattle.std.proofs.lemmas.List.Elements.{All-map, All-filter, All-weaker, All-same, All-drop}
+use Rattle.std.proofs.lemmas.List.Elements.{All-map, All-filter, All-same, All-drop}
 use Rattle.std.specs.Prelude.{◌^◌}
 use Rattle.sudoers_line.specs.declared.node.Kind.{Kind}
 use Rattle.sudoers_line.specs.Node.{Node}
@@ -10,13 +10,13 @@ use Rattle.sudoers_tree.specs.declared.line.LineRow.{LineRow}
 use Rattle.sudoers_tree.specs.declared.place.Place.{Place}
 use Rattle.sudoers_tree.specs.declared.place.Spot.{Spot}
 use Rattle.sudoers_tree.specs.Definition.{Definition, definitions, definitions_in}
-use Rattle.sudoers_tree.specs.Policy.{alias_limit}
 use Rattle.sudoers_tree.specs.Walk.{Walked, spot_at}
 use Rattle.sudoers_check.specs.Led.{is_unused, unused_of}
 use Rattle.sudoers_edit.specs.declared.pruning.Removal.{Removal}
 use Rattle.sudoers_edit.specs.internal.PruneOrder.{removals_along, removals_at}
 use Rattle.sudoers_edit.proofs.PrunePlaces.{place_in}
 use Rattle.sudoers_edit.proofs.PruneOrder.{along_more, removals_are}
+use Rattle.sudoers_edit.proofs.LawsApplied.{def_numbers, file_number, line_number}
 use Rattle.sudoers_edit.proofs.pruning.removals.Goals as goal
 
 pub loop-number-init : goal.loop-number-init
@@ -28,8 +28,16 @@ loop-number-init c =
       All-same (λ (p : Kind × Place). p.1.def < 2 ^ 32) c.as_slice-rest.result.now (map place_in (unused_of policy)) places
           (All-map (λ (p : Kind × Place). p.1.def < 2 ^ 32) place_in (unused_of policy)
           (All-filter (is_unused policy) (λ (d : Definition). d.place.def < 2 ^ 32) (definitions policy)
-          (All-weaker (λ (d : Definition). d.place.def < alias_limit) (λ (d : Definition). d.place.def < 2 ^ 32) (λ d less. omega (arith, less)) (definitions policy) c.places_fit.ensures.defs))),
+          (def_numbers c.args.policy.now c.is_loaded.ensures))),
     )
+
+pub append_removals-requires-clause-file : goal.append_removals-requires-clause-file
+append_removals-requires-clause-file c =
+    subst (λ (at : Spot). at.file < 2 ^ 32) (sym c.spot_at.ensures) (file_number c.args.policy.now c.loop-number.number c.is_loaded.ensures)
+
+pub append_removals-requires-clause-line : goal.append_removals-requires-clause-line
+append_removals-requires-clause-line c =
+    subst (λ (at : Spot). at.line < 2 ^ 32) (sym c.spot_at.ensures) (line_number c.args.policy.now c.loop-number.number c.is_loaded.ensures)
 
 pub loop-number-preserved : goal.loop-number-preserved
 loop-number-preserved c =

@@ -14,6 +14,7 @@ use Rattle.sudoers_edit.specs.Landing.{is_too_long}
 use Rattle.sudoers_edit.specs.Renaming.{is_taken, renamed}
 use Rattle.sudoers_edit.specs.internal.Leading.{Leads}
 use Rattle.sudoers_edit.proofs.RenameLeads.{no_alias, bad_name, name_taken, too_long, definable}
+use Rattle.sudoers_edit.proofs.LawsApplied.{renamed_leads, renamed_long}
 use Rattle.sudoers_edit.proofs.renaming.alias_renamed.Goals as goal
 use Rattle.sudoers_edit.proofs.renaming.alias_renamed.Goals.{then-not-is_name-via-then-not-is_name, then-not-is_name-via-else-not-is_name+then-is_reserved}
 
@@ -72,7 +73,7 @@ returns-then-is_one_too_long c =
     let good = free (is_name fresh) (is_reserved fresh) (sym c.is_name.ensures ∙ c.if-not-is_name.false) (sym c.is_reserved.ensures ∙ c.if-is_reserved.false) in
     let untaken = ap (is_taken c.args.kind fresh) (sym c.walk-walk.ensures) ∙ sym c.in_ok-is_taken.ensures ∙ c.if-branch.false in
     let long : list_any is_too_long (renamed c.args.kind name fresh c.args.policy.now.walk.lines) ≡ true =
-    sym (c.renames_lead.ensures.long c.args.kind name fresh c.args.policy.now c.is_loaded.ensures)
+    sym (renamed_long c.args.kind name fresh c.args.policy.now c.allocator_of-alloc.ensures)
     ∙ ap (λ changes. list_any is_too_long (brought changes)) (sym (c.as_slice.ensures.value ∙ c.in_ok-changes.ensures))
     ∙ sym c.is_one_too_long.ensures
     ∙ c.if-is_one_too_long.true in
@@ -87,10 +88,10 @@ returns c =
     let good = free (is_name fresh) (is_reserved fresh) (sym c.is_name.ensures ∙ c.if-not-is_name.false) (sym c.is_reserved.ensures ∙ c.if-is_reserved.false) in
     let untaken = ap (is_taken c.args.kind fresh) (sym c.walk-walk.ensures) ∙ sym c.in_ok-is_taken.ensures ∙ c.if-branch.false in
     let short : list_any is_too_long (renamed c.args.kind name fresh c.args.policy.now.walk.lines) ≡ false =
-    sym (c.renames_lead.ensures.long c.args.kind name fresh c.args.policy.now c.is_loaded.ensures)
+    sym (renamed_long c.args.kind name fresh c.args.policy.now c.allocator_of-alloc.ensures)
     ∙ ap (λ changes. list_any is_too_long (brought changes)) (sym (c.as_slice.ensures.value ∙ c.in_ok-changes.ensures))
     ∙ sym c.is_one_too_long.ensures
     ∙ c.if-is_one_too_long.false in
     subst (λ (inverse : List Edit). Leads (Rename c.args.kind name fresh) inverse c.args.policy.now c.in_ok-changes.changes.items) (sym c.in_ok-inverse.ensures)
-    (c.renames_lead.ensures.leads c.args.kind name fresh c.args.policy.now c.in_ok-changes.changes.items c.is_loaded.ensures some
+    (renamed_leads c.args.kind name fresh c.args.policy.now c.in_ok-changes.changes.items c.allocator_of-alloc.ensures some
     (definable (is_name fresh) (is_reserved fresh) good) untaken short c.in_ok-changes.ensures)

@@ -8,6 +8,7 @@ use Rattle.sudoers_tree.specs.Line.{Line, line_in}
 use Rattle.sudoers_edit.specs.Renaming.{starts_in}
 use Rattle.sudoers_edit.specs.internal.Leading.{swap_in}
 use Rattle.sudoers_edit.proofs.AbsentNames.{one_more_swap, passed_over}
+use Rattle.sudoers_tree.proofs.ListedMembers.{members_are_listed}
 use Rattle.sudoers_edit.proofs.renaming.append_swaps_of.Goals.{then-may_name+in_ok-swap+in_ok-append_option, else-may_name}
 use Rattle.sudoers_edit.proofs.renaming.append_swaps_of.Goals as goal
 
@@ -30,7 +31,7 @@ loop-at-preserved c =
           ∙ ap (λ (line : Line). swap_in c.args.file n (length name) c.args.fresh.now (starts_in c.args.kind name line.node) line.text) w.of-line.ensures)
       | else-may_name w ↦
           ap (λ changes. changes.items) w.changes-is
-          ∙ passed_over c.members_are_listed.ensures c.args.file n c.args.kind name c.args.fresh.now t rows none (lines_of c.args.policy.now.files c.args.file) before
+          ∙ passed_over members_are_listed c.args.file n c.args.kind name c.args.fresh.now t rows none (lines_of c.args.policy.now.files c.args.file) before
           c.loop-at-test.true c.file_lines-lines.ensures
           (λ says there. c.may_name.ensures name says c.of-bits.ensures w.if-may_name.false there)
     ] in

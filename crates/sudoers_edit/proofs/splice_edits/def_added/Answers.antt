@@ -12,6 +12,7 @@ use Rattle.std.specs.Prelude.{slice_get}
 use Rattle.sudoers_edit.specs.internal.Splicing.{AreKnown, ReplacesIn}
 use Rattle.sudoers_edit.proofs.DefLemmas.{add_found, add_replaces, add_unfound, in_lines, refused_so, refuses_so}
 use Rattle.sudoers_edit.proofs.SwapLemmas.{def_begins}
+use Rattle.sudoers_edit.proofs.LawsBelow.{lines_known}
 use Rattle.sudoers_edit.proofs.splice_edits.def_added.Goals as goal
 
 pub returns-in-Err : goal.returns-in-Err
@@ -54,7 +55,7 @@ put_in-requires c =
     let lines : List Line = lines_shown c.file_lines-lines.result in
     let line : Line = line_shown c.in-Ok.found.0 in
     def_begins lines c.args.line c.args.at c.in-Ok-place_to_add.from line (defs_shown c.in-Ok.found.1)
-    (subst AreKnown (sym c.file_lines-lines.ensures) (c.lines_are_known.ensures (files_of c.args.policy.now) c.args.policy.now c.is_loaded.ensures c.args.file))
+    (subst AreKnown (sym c.file_lines-lines.ensures) (lines_known (files_of c.args.policy.now) c.args.policy.now c.allocator_of-alloc.ensures c.args.file))
     c.in-Ok.ensures.found.0 c.in-Ok.ensures.found.1
     (c.in-Ok-place_to_add.ensures (λ from. put_in among.Definitions c.args.at from c.args.line c.args.splice.now line lines)).1
 
@@ -79,7 +80,7 @@ returns c =
     ∙ (c.in-Ok-place_to_add.ensures (λ from. put_in among.Definitions at from n s line lines)).0
     ∙ c.in-Ok-put_in.ensures.outcome n lines in
     let leads : ReplacesIn (AddDef f n at s) (DropDef f n at) (DropDef f n at ∷ []) policy f n text =
-    add_replaces c.lines_are_known.ensures policy f n at c.in-Ok-place_to_add.from s text line c.is_loaded.ensures
+    add_replaces lines_known policy f n at c.in-Ok-place_to_add.from s text line c.allocator_of-alloc.ensures
     (omega (arith, c.if-file-files.false, c.files.ensures))
     (ap (λ (ls : List Line). slice_get ls n) (sym c.file_lines-lines.ensures) ∙ c.in-Ok.ensures.found.0) c.in-Ok-put_in.ensures.put
     (subst (λ (ls : List Line). add_def n at s ls ≡ with_changed n text (texts ls)) c.file_lines-lines.ensures told) in

@@ -14,6 +14,7 @@ use Rattle.sudoers_edit.specs.SpliceEdits.{cut_out, drop_def, with_changed}
 use Rattle.sudoers_edit.specs.internal.Splicing.{AreKnown, ReplacesIn}
 use Rattle.sudoers_edit.proofs.DefLemmas.{drop_found, drop_replaces, drop_unfound, in_lines, refused_so, refuses_so}
 use Rattle.sudoers_edit.proofs.SwapLemmas.{def_goes_on}
+use Rattle.sudoers_edit.proofs.LawsBelow.{lines_known}
 use Rattle.sudoers_edit.proofs.splice_edits.def_dropped.Goals as goal
 
 pub returns-in-Err : goal.returns-in-Err
@@ -59,7 +60,7 @@ cut_out-requires c =
     let line : Line = line_shown c.in-Ok.found.0 in
     let place = c.in-Ok-place_to_drop.ensures (λ from to. cut_out among.Definitions at from to n line lines) in
     def_goes_on lines n at c.in-Ok-place_to_drop.bytes.0 c.in-Ok-place_to_drop.bytes.1 line (defs_shown c.in-Ok.found.1)
-    (subst AreKnown (sym c.file_lines-lines.ensures) (c.lines_are_known.ensures (files_of c.args.policy.now) c.args.policy.now c.is_loaded.ensures c.args.file))
+    (subst AreKnown (sym c.file_lines-lines.ensures) (lines_known (files_of c.args.policy.now) c.args.policy.now c.allocator_of-alloc.ensures c.args.file))
     c.in-Ok.ensures.found.0 c.in-Ok.ensures.found.1 place.1 place.2
 
 pub line_replaced-requires : goal.line_replaced-requires
@@ -86,7 +87,7 @@ returns c =
     let told : drop_def n at lines ≡ with_changed n text (texts lines) =
     drop_found n at lines line defs c.in-Ok.ensures.outcome ∙ place.0 ∙ c.in-Ok-cut_out.ensures.outcome n lines in
     let leads : ReplacesIn (DropDef f n at) (AddDef f n at s) (AddDef f n at s ∷ []) policy f n text =
-    drop_replaces c.lines_are_known.ensures policy f n at from to s text line defs c.is_loaded.ensures
+    drop_replaces lines_known policy f n at from to s text line defs c.allocator_of-alloc.ensures
     (omega (arith, c.if-file-files.false, c.files.ensures))
     (ap (λ (ls : List Line). slice_get ls n) (sym c.file_lines-lines.ensures) ∙ c.in-Ok.ensures.found.0) c.in-Ok.ensures.found.1 place.1 place.2
     c.in-Ok-cut_out.ensures.cut owned

@@ -7,6 +7,7 @@ use Rattle.sudoers_tree.specs.Files.{lines_of}
 use Rattle.sudoers_edit.specs.internal.LeadingInFile.{LandsIn, texts_of}
 use Rattle.sudoers_edit.proofs.PolicyLemmas.{count_texts}
 use Rattle.sudoers_edit.proofs.ReplaceLemmas.{left_open, lands_replaced}
+use Rattle.sudoers_edit.proofs.LinesBelow.{line_tells}
 use Rattle.sudoers_edit.proofs.splice_edits.line_replaced.Goals as goal
 
 pub returns-then-leaves_open : goal.returns-then-leaves_open
@@ -28,6 +29,6 @@ returns c = λ edit back r.
     ap (λ z. has_unended_inside (replaced at z ls)) (sym c.as_slice.ensures.value) ∙ sym c.leaves_open.ensures ∙ c.if-leaves_open.false in
     let lands = lands_replaced edit back c.args.inverse c.args.policy.now f at t r short ended in
     let same : t ≡ c.from_vec-text.result = sym c.from_vec-text.ensures in
-    c.in_ok-swap.ensures edit back c.args.policy.now c.is_loaded.ensures (omega (arith, c.requires, count_texts (lines_of c.args.policy.now.files f)))
-    (subst IsLogicalLine same (c.whole_line_is.ensures.tells t r.said_is))
+    c.in_ok-swap.ensures edit back c.args.policy.now c.allocator_of.ensures (omega (arith, c.requires, count_texts (lines_of c.args.policy.now.files f)))
+    (subst IsLogicalLine same (line_tells t r.said_is))
     (subst (λ z. LandsIn edit back c.args.inverse c.args.policy.now f (replaced at z ls)) same lands)

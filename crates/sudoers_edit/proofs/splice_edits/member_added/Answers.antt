@@ -17,6 +17,7 @@ use Rattle.sudoers_edit.specs.internal.Splicing.{IsDefIn, ReplacesIn}
 use Rattle.sudoers_edit.proofs.DefLemmas.{refused_so, refuses_so}
 use Rattle.sudoers_edit.proofs.MemberLemmas.{add_found, add_replaces, alias_refused, at_alias_is}
 use Rattle.sudoers_edit.proofs.SwapLemmas.{member_begins}
+use Rattle.sudoers_edit.proofs.LawsBelow.{lines_known, walk_laws}
 use Rattle.sudoers_edit.proofs.splice_edits.member_added.Goals as goal
 
 pub returns-in-Err : goal.returns-in-Err
@@ -59,7 +60,7 @@ put_in-requires c =
     let lines : List Line = lines_of policy.files place.file in
     let next : ℕ → Result Lines EditFault = λ from. put_in (among.Members place.def) c.args.at from place.line c.args.splice.now line lines in
     let is : IsDefIn c.args.kind c.args.name.now policy place line d = c.in-Ok.ensures.found in
-    member_begins lines place.line place.def c.args.at c.in-Ok-place_to_add.from line is.defs d (c.member_edits_rest_on_laws.ensures.known (files_of policy) policy c.is_loaded.ensures place.file)
+    member_begins lines place.line place.def c.args.at c.in-Ok-place_to_add.from line is.defs d (lines_known (files_of policy) policy c.allocator_of-alloc.ensures place.file)
     is.here is.makes is.stands ((c.in-Ok-place_to_add.ensures next).1)
 
 pub line_replaced-requires : goal.line_replaced-requires
@@ -80,7 +81,7 @@ returns c =
     let lines : List Line = lines_of policy.files place.file in
     let next : ℕ → Result Lines EditFault = λ from. put_in (among.Members place.def) at from place.line s line lines in
     let leads : ReplacesIn (AddMember k name at s) (DropMember k name at) (DropMember k name at ∷ []) policy place.file place.line text =
-    add_replaces c.member_edits_rest_on_laws.ensures k name at c.in-Ok-place_to_add.from s text policy place line d c.is_loaded.ensures c.in-Ok.ensures.found c.in-Ok-put_in.ensures.put
+    add_replaces walk_laws k name at c.in-Ok-place_to_add.from s text policy place line d c.allocator_of-alloc.ensures c.in-Ok.ensures.found c.in-Ok-put_in.ensures.put
     (add_found at s k name policy place line d c.in-Ok.ensures.found ∙ (c.in-Ok-place_to_add.ensures next).0 ∙ c.in-Ok-put_in.ensures.outcome place.line lines) in
     let inverse : DropMember k name at ∷ [] ≡ c.in_ok-inverse.inverse = ap (λ z. DropMember k z at ∷ []) (sym c.in_ok-name.ensures) ∙ sym c.in_ok-inverse.ensures in
     c.line_replaced.ensures (AddMember k name at s) (DropMember k name at)

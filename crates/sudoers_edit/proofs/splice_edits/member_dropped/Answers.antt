@@ -18,6 +18,7 @@ use Rattle.sudoers_edit.proofs.DefLemmas.{refused_so, refuses_so}
 use Rattle.sudoers_edit.proofs.MemberLemmas.{alias_refused, at_alias_is, drop_found, drop_replaces}
 use Rattle.sudoers_edit.specs.Splice.{member_extents, owned_stop, seam, slice}
 use Rattle.sudoers_edit.proofs.SwapLemmas.{member_goes_on}
+use Rattle.sudoers_edit.proofs.LawsBelow.{lines_known, walk_laws}
 use Rattle.sudoers_edit.proofs.splice_edits.member_dropped.Goals as goal
 
 pub returns-in-Err : goal.returns-in-Err
@@ -64,7 +65,7 @@ cut_out-requires c =
     let begins : seam c.args.at (member_extents d.members) ≡ Some c.in-Ok-place_to_drop.bytes.0 = bytes.1 in
     let stops : owned_stop c.args.at (member_extents d.members) ≡ Some c.in-Ok-place_to_drop.bytes.1 = bytes.2 in
     member_goes_on lines place.line place.def c.args.at c.in-Ok-place_to_drop.bytes.0 c.in-Ok-place_to_drop.bytes.1 line is.defs d
-    (c.member_edits_rest_on_laws.ensures.known (files_of policy) policy c.is_loaded.ensures place.file) is.here is.makes is.stands begins stops
+    (lines_known (files_of policy) policy c.allocator_of-alloc.ensures place.file) is.here is.makes is.stands begins stops
 
 pub line_replaced-requires : goal.line_replaced-requires
 line_replaced-requires c =
@@ -89,7 +90,7 @@ returns c =
     let begins : seam at (member_extents d.members) ≡ Some from = bytes.1 in
     let stops : owned_stop at (member_extents d.members) ≡ Some to = bytes.2 in
     let leads : ReplacesIn (DropMember k name at) (AddMember k name at s) (AddMember k name at s ∷ []) policy place.file place.line text =
-    drop_replaces c.member_edits_rest_on_laws.ensures k name at from to s text policy place line d c.is_loaded.ensures c.in-Ok.ensures.found begins stops c.in-Ok-cut_out.ensures.cut refl
+    drop_replaces walk_laws k name at from to s text policy place line d c.allocator_of-alloc.ensures c.in-Ok.ensures.found begins stops c.in-Ok-cut_out.ensures.cut refl
     (drop_found at k name policy place line d c.in-Ok.ensures.found ∙ bytes.0 ∙ c.in-Ok-cut_out.ensures.outcome place.line lines) in
     let inverse : AddMember k name at s ∷ [] ≡ c.in_ok-inverse.inverse = sym c.in_ok-inverse.ensures in
     c.line_replaced.ensures (DropMember k name at) (AddMember k name at s)

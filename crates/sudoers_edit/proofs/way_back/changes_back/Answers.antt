@@ -4,6 +4,7 @@ use Rattle.sudoers_tree.specs.Files.{lines_of}
 use Rattle.sudoers_tree.specs.declared.line_change.LineChange.{LineChange}
 use Rattle.sudoers_edit.specs.internal.UndoneLines.{put_by, taken_by}
 use Rattle.sudoers_edit.proofs.BackLemmas.{CountAt, next_back, place_within, puts_one}
+use Rattle.sudoers_edit.proofs.LawsApplied.{lines_few}
 use Rattle.sudoers_edit.proofs.way_back.changes_back.Goals as goal
 use Rattle.sudoers_edit.proofs.way_back.changes_back.Goals.{then-file-last, else-file-last, in-Put, in-Swap, in-Take}
 
@@ -15,7 +16,7 @@ change_back-requires c =
     let within : place_of item ≤ count (file_of item) =
     place_within c.args.changes.now c.loop-change.change-index change 0 (count (file_of item)) c.loop-change-test.true (c.requires.order (file_of item)) in
     let here : place_of change ≤ count (file_of change) = subst (λ (x : LineChange). place_of x ≤ count (file_of x)) (sym c.change-item.is) within in
-    omega (arith, here, c.lines_are_few.ensures (file_of change), put_few, c.loop-change-test.true)
+    omega (arith, here, lines_few c.args.policy.now c.allocator_of-alloc.ensures (file_of change), put_few, c.loop-change-test.true)
   where
     put_few : c.if-file-last.put ≤ c.loop-change.change-index
     put_few = elim c.if-file-last.branch [
