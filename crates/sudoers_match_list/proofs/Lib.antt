@@ -15,3 +15,4 @@ pub mod Alike
 pub mod Straight
 pub mod Roots
 pub mod Defined
+pub mod Known

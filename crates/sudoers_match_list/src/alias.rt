@@ -7,7 +7,6 @@ ghost use Rattle.sudoers_match_list.specs.declared.alias.Alias.{Alias as AliasOf
 ghost use Rattle.sudoers_match_list.specs.Search.{number_in, IsAlias};
 
 use sudoers_check::Numbers;
-use sudoers_check::laws::numbers_are;
 use sudoers_tree::{Atom, Kind, MemberRow, Rows};
 
 /// An alias: the number of its definition, and its members.
@@ -22,7 +21,6 @@ pub fn find_alias<'a>(numbers: &Numbers<'a>, kind: Kind, atom: &Atom<'_>) -> Opt
     ensures number { option_map (λ (alias : AliasOf). alias.number) result ≡ number_in kind numbers.now.walk (atom_shown atom.now) }
     ensures alias { IfSome result (λ alias. IsAlias numbers.now.walk alias.number (members_shown alias.members)) }
 {
-    numbers_are();
     let Atom::Alias(name) = *atom else {
         return None;
     };

@@ -9,7 +9,6 @@ ghost use Rattle.sudoers_match_list.specs.internal.Roots.{called, rooted, LeadTo
 
 use crate::alias::find_alias;
 use crate::kind::MemberKind;
-use crate::laws::flat_then_no_cycle;
 use crate::verdict::Decision;
 use crate::walk::Verdicts;
 use std::alloc::{AllocError, Global};
@@ -50,8 +49,8 @@ fn name_leads_to_cycle<'a>(
     requires { Remembers kind numbers.now.walk (λ _. false) verdicts.old }
     ensures { IfOk result (λ cycle. Finds kind numbers.now.walk name.now verdicts.new cycle) }
 {
+    // laws
     numbers.walk.is_walk();
-    flat_then_no_cycle();
     let Some(alias) = find_alias(numbers, kind, &Atom::Alias(name)) else {
         return Ok(false);
     };

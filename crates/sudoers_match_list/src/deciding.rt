@@ -9,7 +9,6 @@ ghost use Rattle.sudoers_match_list.specs.Cycle.{LeadsToCycle};
 
 use crate::cycle::has_reachable_cycle;
 use crate::kind::MemberKind;
-use crate::laws::flat_then_no_cycle;
 use crate::verdict::{AskFault, Decision, Verdict};
 use crate::walk::Verdicts;
 use std::alloc::Global;
@@ -21,6 +20,7 @@ use sudoers_tree::{Kind, MemberRow, Policy, Rows};
 /// # Errors
 ///
 /// `Cycle`: a reachable alias is cyclic, or the list leads to a cyclic alias. `NoMemory`: memory ran out.
+#[tactic(auto, using(crate::proofs::Known::no_cycle))]
 pub fn decide<K: MemberKind>(
     alloc: Global,
     policy: &Policy,
@@ -33,8 +33,8 @@ pub fn decide<K: MemberKind>(
     ensures fault { IfErr result (λ fault. (fault ≡ NoMemory)
         ⊎ ((fault ≡ Cycle) × (HasReachableCycle policy.now.walk.lines ⊎ LeadsToCycle kind policy.now.walk.lines (members_shown members.now)))) }
 {
+    // laws
     policy.walk().is_walk();
-    flat_then_no_cycle();
     let numbers = Numbers::new(alloc, policy.walk())?;
     if has_reachable_cycle(alloc, &numbers)? {
         return Err(AskFault::Cycle);

@@ -15,8 +15,6 @@ ghost use Rattle.sudoers_tree.specs.Policy.{IsWalk};
 ghost use Rattle.sudoers_match_list.specs.Flattened.{flattened};
 ghost use Rattle.sudoers_match_list.specs.Cycle.{LeadsToCycle};
 
-use sudoers_check::laws::numbers_are;
-
 /// A list has a flat list, or leads to a cyclic alias.
 pub fn flat_or_cycle()
     ensures { (k : KindOf) (lines : List LineOf) (ms : List MemberOf) → ((fs : List Signed) × IsFlat k lines ms fs) ⊎ LeadsToCycle k lines ms }
@@ -25,16 +23,12 @@ pub fn flat_or_cycle()
 /// In a policy it does not do both.
 pub fn flat_then_no_cycle()
     ensures { (k : KindOf) (lines : List LineOf) → IsWalk lines → (ms : List MemberOf) (fs : List Signed) → IsFlat k lines ms fs → LeadsToCycle k lines ms → ⊥ }
-{
-    numbers_are();
-}
+{}
 
 /// In a policy the flat list of a list is what replacing its aliases comes to.
 pub fn flattened_is_flat()
     ensures { (k : KindOf) (lines : List LineOf) → IsWalk lines → (ms : List MemberOf) (fs : List Signed) → IsFlat k lines ms fs → fs ≡ map signed (flattened k lines ms) }
-{
-    flat_then_no_cycle();
-}
+{}
 
 /// A list has one flat list.
 pub fn one_flat()
@@ -97,7 +91,4 @@ pub fn alike_lists_say_same()
 pub fn alike_lists_lead_to_cycle()
     ensures { (write : AtomOf → AtomOf) (k : KindOf) (lines others : List LineOf) (ms ns : List MemberOf) → IsWalk lines → IsWalk others
         → AreAlike write k lines others ms ns → LeadsToCycle k lines ms ↔ LeadsToCycle k others ns }
-{
-    flat_or_cycle();
-    flat_then_no_cycle();
-}
+{}
