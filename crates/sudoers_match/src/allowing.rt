@@ -8,7 +8,6 @@ ghost use Rattle.sudoers_match.specs.Allows.{Permits};
 ghost use Rattle.sudoers_match.specs.internal.Straight.{IsStraight};
 
 use std::alloc::AllocError;
-use sudoers_match_list::laws::one_verdict;
 use sudoers_match_list::{Acyclic, Decision, Hit, MemberKind, Verdict, Verdicts};
 use sudoers_tree::{Kind, MemberRow, Rows};
 
@@ -52,7 +51,6 @@ pub fn allows<'a, K: MemberKind>(
     ensures kept { IfOk result (λ _. Remembers kind policy.now (K.test asked.now) verdicts.new) }
     ensures allowed { IfOk result (λ allowed. Permits kind policy.now (K.test asked.now) (members_shown members.now) allowed) }
 {
-    one_verdict();
     let hit = find_hit::<K>(verdicts, policy, kind, members, asked)?;
     match Verdict::of(hit) {
         Verdict::Allow => Ok(true),

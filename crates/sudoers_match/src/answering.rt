@@ -29,7 +29,6 @@ use crate::request::{join_command, join_words};
 use crate::rules::{Answer, Found, Place, find_at, take_answer, tell};
 use std::alloc::{AllocError, Global};
 use sudoers_line_rows::HostGroup;
-use sudoers_match_list::laws::{flat_or_cycle, one_flat};
 use sudoers_match_list::{Acyclic, AskFault, Commands, Hosts, Users};
 use sudoers_match_member::Request;
 use sudoers_tree::{GroupRow, Kind, MemberRow, Node, Policy, Rows};
@@ -120,8 +119,8 @@ fn find_in_policy<'a>(
     ensures answer { IfOk result (λ found. IsAnswer asked.now.policy.now asked.now.request.now (option_map found_answer found)) }
     ensures found { IfOk result (λ found. IfSome found (IsFound asked.now.policy.now)) }
 {
+    // laws
     asked.policy.is_acyclic();
-    flat_or_cycle();
     let mut latest = None;
     let mut spec = 0;
     let lines = asked.policy.lines();
@@ -270,7 +269,6 @@ fn answer_of_command<'a>(
         → Answers asked.now.policy.now asked.now.request.now rows (option_map answer_shown answer)) }
     ensures place { IfOk result (λ answer. IfSome answer (λ a. place_told a ≡ place)) }
 {
-    one_flat();
     if !is_in_time(asked.request.moment, &head.options) {
         return Ok(None);
     }

@@ -80,6 +80,7 @@ pub fn find_default<'a>(
 ) -> Result<&'a [u8], AllocError>
     ensures { IfOk result (λ name. IsRunasDefault policy.now who.now name.now) }
 {
+    // laws
     policy.is_acyclic();
     let mut users = policy.verdicts(alloc)?;
     let mut hosts = policy.verdicts(alloc)?;

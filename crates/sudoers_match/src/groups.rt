@@ -52,6 +52,7 @@ pub fn find_host_groups(
 ) -> Result<Vec<GroupPlace>, AllocError>
     ensures { IfOk result (λ places. AreHostGroups policy.now who.now places.items) }
 {
+    // laws
     policy.is_acyclic();
     let mut users_said = policy.verdicts(alloc)?;
     let mut hosts_said = policy.verdicts(alloc)?;

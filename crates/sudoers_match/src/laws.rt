@@ -20,15 +20,13 @@ ghost use Rattle.sudoers_match.specs.Specs.{specs_of};
 ghost use Rattle.sudoers_match.specs.declared.head.Head.{Head as HeadHeld};
 ghost use Rattle.sudoers_match.specs.declared.groups.GroupPlace.{GroupPlace as GroupPlaceOf};
 
-use sudoers_match_list::laws::{alike_lists_lead_to_cycle, alike_lists_say_same, one_flat};
+use sudoers_match_list::laws::{alike_lists_lead_to_cycle, alike_lists_say_same};
 
 /// A request has one answer.
 pub fn one_answer()
     ensures { (lines : List LineOf) (request : RequestOf) (answer other : Option AnswerOf) → IsAnswer lines request answer
         → IsAnswer lines request other → answer ≡ other }
-{
-    one_flat();
-}
+{}
 
 /// The places of the host groups for a user on a host are one list.
 pub fn one_list_of_host_groups()

@@ -15,7 +15,6 @@ ghost use Rattle.sudoers_match.specs.internal.Straight.{IsStraight, RunasIsStrai
 use crate::allowing::{allows, find_hit};
 use std::alloc::{AllocError, Global};
 use sudoers_line_rows::RunasSpec;
-use sudoers_match_list::laws::one_verdict;
 use sudoers_match_list::{Acyclic, Groups, Users, Verdict, Verdicts};
 use sudoers_match_member::{CommandLine, Group, Request, belongs_to_number, is_same_name};
 use sudoers_tree::{Kind, MemberRow, Rows};
@@ -147,7 +146,6 @@ impl<'a> Question<'a> {
         ensures kept { IfOk result (λ _. IsQuestion asked.now.policy.now asked.now.request.now self.new) }
         ensures permits { IfOk result (λ allowed. GroupPermits asked.now.policy.now asked.now.request.now.target asked.now.request.now.target_group (members_shown groups.now) allowed) }
     {
-        one_verdict();
         let request = asked.request;
         let Some(group) = &request.target_group else {
             return Ok(true);

@@ -1,4 +1,5 @@
 use Rattle.sudoers_line_rows.specs.View.{members_shown}
+use Rattle.sudoers_match_list.proofs.Said.{one}
 use Rattle.sudoers_match.proofs.Said.{not_allowed}
 use Rattle.sudoers_match.proofs.allowing.allows.Goals as goal
 
@@ -10,5 +11,5 @@ returns-in_default g c =
     let ms = members_shown c.args.members.now in
     record {
       kept = c.in_ok-hit.ensures.kept;
-      allowed = not_allowed kd lines test ms (c.one_verdict.ensures kd lines test ms) c.in_ok-hit.hit c.of.result c.in_ok-hit.ensures.hit c.of.ensures c.in_default.not-Allow;
+      allowed = not_allowed kd lines test ms (one kd lines test ms) c.in_ok-hit.hit c.of.result c.in_ok-hit.ensures.hit c.of.ensures c.in_default.not-Allow;
     }

@@ -6,6 +6,7 @@ use Rattle.sudoers_match_member.specs.declared.asked.CommandLine.{CommandLine}
 use Rattle.sudoers_match_member.specs.Hits.{command_hits}
 use Rattle.sudoers_match_list.specs.Flat.{IsLatest}
 use Rattle.sudoers_match_list.specs.Search.{Remembers}
+use Rattle.sudoers_match_list.proofs.Unique.{one_flat}
 use Rattle.sudoers_match.specs.Answer.{Answers}
 use Rattle.sudoers_match.specs.Moment.{is_in_time}
 use Rattle.sudoers_match.specs.internal.Question.{RunasPermits}
@@ -75,7 +76,7 @@ returns-in-Some-clause-answer c users hosts user host h is m shown rows p =
     (subst (λ o. RunasPermits lines r.who r.target r.target_group o true) is.runas
     (subst (RunasPermits lines r.who r.target r.target_group (option_map runas_shown c.args.head.now.runas)) c.if-not-branch.false c.in_ok-permits_runas.ensures.permits))
     (ap (is_in_time r.moment) (sym is.options) ∙ sym c.is_in_time.ensures ∙ c.if-not-is_in_time.false)
-    (λ ms fs others. c.one_flat.ensures Cmnd lines ms fs others) m rows (Some c.in-Some.hit)
+    (one_flat Cmnd lines) m rows (Some c.in-Some.hit)
     (subst (λ (cl : CommandLine). IsLatest Cmnd lines (command_hits cl) (m ∷ []) (Some c.in-Some.hit)) c.args.asked.now.command_is
     (subst (λ ms. IsLatest Cmnd lines (command_hits c.args.asked.now.command.now) ms (Some c.in-Some.hit)) shown hit)) p)
 
@@ -90,6 +91,6 @@ returns-in-None-clause-answer c users hosts user host h is m shown rows p =
     (subst (λ o. RunasPermits lines r.who r.target r.target_group o true) is.runas
     (subst (RunasPermits lines r.who r.target r.target_group (option_map runas_shown c.args.head.now.runas)) c.if-not-branch.false c.in_ok-permits_runas.ensures.permits))
     (ap (is_in_time r.moment) (sym is.options) ∙ sym c.is_in_time.ensures ∙ c.if-not-is_in_time.false)
-    (λ ms fs others. c.one_flat.ensures Cmnd lines ms fs others) m rows None
+    (one_flat Cmnd lines) m rows None
     (subst (λ (cl : CommandLine). IsLatest Cmnd lines (command_hits cl) (m ∷ []) None) c.args.asked.now.command_is
     (subst (λ ms. IsLatest Cmnd lines (command_hits c.args.asked.now.command.now) ms None) shown hit)) p

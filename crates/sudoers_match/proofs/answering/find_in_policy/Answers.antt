@@ -4,6 +4,7 @@ use Rattle.std.proofs.lemmas.List.{drop_all}
 use Rattle.sudoers_line_rows.specs.View.{groups_shown, members_shown}
 use Rattle.sudoers_tree.specs.Line.{line_in}
 use Rattle.sudoers_check.proofs.Lists.{Has_at}
+use Rattle.sudoers_match_list.proofs.Exists.{found_or_round}
 use Rattle.sudoers_match.specs.Found.{IsFound, found_answer, numbered_specs}
 use Rattle.sudoers_match.specs.internal.Question.{IsQuestion, IsSoFar}
 use Rattle.sudoers_match.specs.Rows.{SpecRows}
@@ -96,7 +97,7 @@ returns-clause-answer c =
     let t = c.lines-lines.result.tables.now in
     let rows = c.lines-lines.result.rows.now in
     let i = c.loop-line.line in
-    let w = some_rows c.flat_or_cycle.ensures lines c.is_acyclic.ensures.straight in
+    let w = some_rows found_or_round lines c.is_acyclic.ensures.straight in
     record {
       rows = w.0;
       are_rows = w.1;
