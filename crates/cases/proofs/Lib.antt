@@ -1,2 +1,3 @@
 pub mod EndedLines
 pub mod FileChanges
+pub mod WholeLines

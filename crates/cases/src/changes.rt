@@ -8,7 +8,6 @@ ghost use Rattle.sudoers_tree.specs.Changed.{brought, next_place, place_of, text
 
 use crate::frames::{Call, next_call, number_of};
 use std::alloc::{AllocError, Global};
-use sudoers_text::laws::whole_line_is;
 use sudoers_text::{ends_in_lf, is_logical_line};
 use sudoers_tree::{Items, LineChange};
 
@@ -39,10 +38,10 @@ pub fn bring_lines(changes: &[LineChange]) -> bool
 }
 
 /// Whether the text that `change` brings, if it brings one, is a line that ends in LF.
+#[tactic(auto, using(crate::proofs::WholeLines::is_told))]
 fn brings_line(change: &LineChange) -> bool
     ensures { result ≡ true → IfSome (text_brought change.now) (λ text. IsLogicalLine text × (ends_in_lf text ≡ true)) }
 {
-    whole_line_is();
     match change {
         LineChange::Put { text, .. } | LineChange::Swap { text, .. } => {
             is_logical_line(text.as_slice()) && ends_in_lf(text.as_slice())

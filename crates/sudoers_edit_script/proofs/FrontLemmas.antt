@@ -171,6 +171,10 @@ pub text-join : (ks : List (List ℕ)) → text_of ks ≡ join ks
 text-join [] = refl
 text-join (k ∷ ks) = ap (λ (z : List ℕ). k ++ z) (text-join ks)
 
+-- the physical lines of a text are its pieces
+pub physical_lines_join : (text : List ℕ) → text_of (physical_lines text) ≡ text
+physical_lines_join text = text-join (physical_lines text) ∙ (lines-each text).2
+
 -- of lines behind lines
 join-append : (ks ls : List (List ℕ)) → join (ks ++ ls) ≡ join ks ++ join ls
 join-append [] ls = refl

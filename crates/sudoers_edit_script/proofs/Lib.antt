@@ -1,7 +1,7 @@
 mod CommandLemmas
 pub mod EndLemmas
 mod FileLemmas
-mod FrontLemmas
+pub mod FrontLemmas
 mod LineLemmas
 mod NumberLemmas
 mod OneSpelling
@@ -9,7 +9,7 @@ mod PayloadLemmas
 mod PhysicalLemmas
 mod ReadingLemmas
 mod SayLemmas
-mod ScriptLemmas
+pub mod ScriptLemmas
 mod SpellingLemmas
 mod StepLemmas
 mod StopLemmas

@@ -7,7 +7,6 @@ ghost use Rattle.sudoers_tree.specs.Lead.{leads};
 ghost use Rattle.sudoers_files.specs.Included.{by_lines, lines_of};
 
 use std::alloc::{AllocError, Global};
-use sudoers_text::laws::cut_is;
 use sudoers_text::{Lines, TextFault, cut};
 use sudoers_tree::{Items, leads, may_lead};
 
@@ -20,7 +19,6 @@ pub fn include_lines(alloc: Global, name: &[u8], bytes: &[u8]) -> Result<Vec<Ite
     ensures { (names_of : Option LeadOf → List (List ℕ)) → names_of None ≡ []
         → IfOk result (λ kept. by_lines names_of name.now kept.items ≡ by_lines names_of name.now (lines_of (cut_of bytes.now))) }
 {
-    cut_is();
     if !may_lead(bytes) {
         return Ok(Vec::new(alloc));
     }

@@ -18,9 +18,7 @@ use crate::output::write_all;
 use crate::undoing::{redo_up_to, undo_up_to};
 use std::alloc::{AllocError, Global};
 use sudoers_bundle::{append_bundle, read_bundle};
-use sudoers_edit::laws::named_are_written;
 use sudoers_edit::{Edit, Editor, Edits, first_line_len, read_script, write_script};
-use sudoers_edit_script::laws::physical_lines_join;
 use sudoers_text::ends_in_lf;
 use sudoers_tree::{Items, NamedFile, Policy};
 
@@ -92,7 +90,6 @@ fn edit_input(alloc: Global, input: &[u8], undo: u32, redo: u32) -> Result<Vec<u
 fn split_input(input: &[u8]) -> Option<(&[u8], InputShape, &[u8])>
     ensures { option_map (λ parts. (parts.0.now, parts.1, parts.2.now)) result ≡ split_text input.now }
 {
-    physical_lines_join();
     let mut at = 0;
     while at < input.len() {
         let rest = &input[at..];
@@ -168,7 +165,6 @@ pub fn edit_given(
         (λ fault. TellsLayer fault (output_of_edit shape undo redo script.now files.now)) }
     ensures named { IfErr result IsInputFault }
 {
-    named_are_written();
     let edits = read_script(alloc, script)?;
     let policy = load_found(alloc, files)??;
     edited(alloc, shape, edits.as_slice(), policy, undo, redo)
@@ -194,7 +190,6 @@ fn edited(
     undo_up_to(&mut editor, undo)?;
     redo_up_to(&mut editor, redo)?;
     let inverse = editor.inverse()?;
-    named_are_written();
     output(alloc, shape, &inverse, editor.policy())
 }
 
@@ -210,7 +205,6 @@ fn output(
         (λ fault. TellsLayer fault (output_text shape inverse.now policy.now)) }
     ensures named { IfErr result IsInputFault }
 {
-    named_are_written();
     let mut out = write_script(alloc, inverse.as_slice())?;
     let files = policy.named_files()?;
     append_given(alloc, &mut out, shape, files.as_slice())?;

@@ -5,6 +5,7 @@ use Rattle.sudoers_run.specs.declared.fault.LayerFault.{LayerFault}
 use Rattle.sudoers_edit.specs.Editing.{edits_of, Desk, run_all, inv_run, first_of, first_policy}
 use Rattle.sudoers_edit.specs.Named.{AreNamed}
 use Rattle.sudoers_edit.specs.Redoing.{undone_behind}
+use Rattle.sudoers_edit.proofs.NamedLaw.{all_back}
 use Rattle.sudoers_run.specs.Edit.{edited_output, output_of_edits, output_text, edits_that_stand, by_edit, ◌>>=◌, TellsLayer}
 use Rattle.sudoers_run.proofs.UndoLemmas.{all_edits, none_behind, stand, named_front}
 use Rattle.sudoers_run.proofs.edit.edited.Goals as goal
@@ -63,4 +64,4 @@ output-requires c =
     let stood : List Edit = edits_of c.redo_up_to.new.editor.journal in
     let named : AreNamed stood =
     named_front stood c.redo_up_to.new.editor.undone (subst AreNamed (sym (ready (goal.at.output-requires c).In_ok-inverse).whole) c.requires) in
-    subst AreNamed (sym c.in_ok-inverse.ensures.exact) (c.named_are_written.ensures.back stood (first_of c.redo_up_to.new.editor) named)
+    subst AreNamed (sym c.in_ok-inverse.ensures.exact) (all_back stood (first_of c.redo_up_to.new.editor) named)

@@ -4,6 +4,7 @@ use Rattle.std.proofs.Math.Seq.{take-add}
 use Rattle.std.specs.Option.{option_map}
 use Rattle.sudoers_run.specs.declared.input_shape.InputShape.TheVariants as shape
 use Rattle.sudoers_edit_script.specs.Physical.{physical_lines}
+use Rattle.sudoers_edit_script.proofs.FrontLemmas.{physical_lines_join}
 use Rattle.sudoers_run.specs.Edit.{split_lines}
 use Rattle.sudoers_run.proofs.EditLemmas.{parts_after, split_more, mark_found, header_found}
 use Rattle.sudoers_run.proofs.edit.split_input.Goals as goal
@@ -16,7 +17,7 @@ returns-then-is_mark c =
     let after : List ℕ = c.split_at.result.1.now in
     let tail : take (length input - at) (drop at input) ≡ drop at input = take_rest input at in
     let cut : physical_lines (drop at input) ≡ line ∷ physical_lines after = ap physical_lines (sym tail) ∙ c.first_line_len.ensures.first ∙ ap (λ (z : List ℕ). z ∷ physical_lines (drop c.first_line_len.result (take (length input - at) (drop at input)))) (sym c.split_at.ensures.front) ∙ ap (λ (z : List ℕ). line ∷ physical_lines z) (sym c.split_at.ensures.back) in
-    sym (mark_found (take at input) line after (c.physical_lines_join.ensures after) (sym c.if-is_mark.ensures))
+    sym (mark_found (take at input) line after (physical_lines_join after) (sym c.if-is_mark.ensures))
     ∙ ap (λ ls. option_map (parts_after (take at input)) (split_lines ls)) (sym cut)
     ∙ c.loop-at.invariant.1
 
@@ -31,7 +32,7 @@ returns-then-is_header c =
     let cut : physical_lines (drop at input) ≡ line ∷ physical_lines after = ap physical_lines (sym tail) ∙ c.first_line_len.ensures.first ∙ ap (λ (z : List ℕ). z ∷ physical_lines (drop n (take (length input - at) (drop at input)))) (sym c.split_at.ensures.front) ∙ ap (λ (z : List ℕ). line ∷ physical_lines z) (sym c.split_at.ensures.back) in
     let whole : line ++ after ≡ take (length input - at) (drop at input) =
     ap (λ (z : List ℕ). z ++ after) c.split_at.ensures.front ∙ ap (λ (z : List ℕ). take n (take (length input - at) (drop at input)) ++ z) c.split_at.ensures.back ∙ take-append-drop n (take (length input - at) (drop at input)) in
-    sym (header_found (take at input) line after (c.physical_lines_join.ensures after) (sym c.if-is_mark.ensures) (sym c.if-is_header.ensures)
+    sym (header_found (take at input) line after (physical_lines_join after) (sym c.if-is_mark.ensures) (sym c.if-is_header.ensures)
     ∙ ap (λ (z : List ℕ). Some (take at input, shape.Bundle, z)) whole)
     ∙ ap (λ ls. option_map (parts_after (take at input)) (split_lines ls)) (sym cut)
     ∙ c.loop-at.invariant.1
