@@ -1,4 +1,4 @@
-"""The names of the code: two rules over crates/*/src.
+"""The names of the code and its calls of laws: three rules over crates/*/src.
 
 type: no public type has the name of a public type that another crate defines. A `pub use` defines none.
 
@@ -13,6 +13,10 @@ function: the name of a function says what it does, or what it returns of its pa
 The rule is not for laws, and not for functions of an `impl` of a trait, which the trait names. A law is a function of a
 module `laws`, or a function without parameters whose body is empty or calls laws alone.
 
+law: running code calls no law without parameters. A proof file cites the lemma of the law. Laws may call laws, and so may
+the crates laws_* and wrong_*, which hold nothing else. A law about one value is a method of it, as `Policy::is_loaded`.
+The code may call it, since proofs learn from no other what its type keeps.
+
 names.known has the names that break a rule today. A name that breaks a rule and is not there fails, and so does a line
 that no name needs. So the list only shrinks.
 """
@@ -26,7 +30,7 @@ from tally import difference
 
 TOP = os.path.dirname(os.path.dirname(os.path.abspath(__file__)))
 KNOWN = "tests/names.known"
-RULES = ("type", "function")
+RULES = ("type", "function", "law")
 FEWEST = 1500
 
 # A word that is a noun as often stands here with the word behind it.
@@ -59,6 +63,8 @@ ITEM = re.compile(
     r"\((?P<parameters>[^()]*(?:\([^()]*\)[^()]*)*)\)(?: -> (?P<result>.*))?)",
     re.MULTILINE,
 )
+# The name of a function, or a statement that is a call without arguments.
+HEAD_OR_CALL = re.compile(r"\bfn (\w+)|^ +(?:\w+::)*(\w+)\(\);$", re.MULTILINE)
 # A function without parameters and result, and its calls, if there is nothing else in its body.
 CALLS = re.compile(
     r"^(?:pub(?:\(\w+\))? )?fn (\w+)\(\)\n(?: +.*\n)*\{(?:\}|\n((?: +[\w:]+\(\);\n)*)\})$", re.MULTILINE
@@ -146,6 +152,18 @@ def types_that_break(code):
             yield from (f"type {crate} {name}" for crate in definers)
 
 
+def law_calls(code):
+    """Yields a line for each call of a law in a function of running code."""
+    laws = laws_of(code)
+    for source in code:
+        if source.is_of_laws or source.crate.startswith(("laws_", "wrong_")):
+            continue
+        for head in HEAD_OR_CALL.finditer(source.text):
+            caller = head[1] or caller
+            if head[2] in laws and caller not in laws:
+                yield f"law {source.crate} {caller} {head[2]}"
+
+
 def known_lines():
     """Returns the lines of names.known."""
     with open(os.path.join(TOP, KNOWN), encoding="utf-8") as file:
@@ -167,10 +185,10 @@ def reading_problems(code):
 
 
 def run_all(_program, tally):
-    """Compares the names that break a rule with those of names.known, and prints how many lines each rule has."""
+    """Compares what breaks a rule with the lines of names.known, and prints how many lines each rule has."""
     code = list(sources())
     known = known_lines()
-    broken = Counter([*types_that_break(code), *functions_that_break(code)])
+    broken = Counter([*types_that_break(code), *functions_that_break(code), *law_calls(code)])
     new = sorted((broken - Counter(known)).elements())
     for rule in RULES:
         tally.note(f"names, the rule {rule} of names.py", [f"breaks the rule: {line}" for line in of_rule(rule, new)])
