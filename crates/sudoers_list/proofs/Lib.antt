@@ -1,3 +1,4 @@
+pub mod Known
 pub mod Passing
 pub mod Speaking
 pub mod TagsSaid

@@ -20,7 +20,6 @@ use std::alloc::{AllocError, Global};
 use sudoers_line::Kind;
 use sudoers_line_rows::{Atom, Member, MemberRow, Rows, Tables};
 use sudoers_match::join_command;
-use sudoers_match_list::laws::{flat_then_no_cycle, flattened_is_flat, one_flat};
 use sudoers_match_list::{Acyclic, Commands, Decision, Verdicts};
 use sudoers_match_member::{CommandLine, Request};
 
@@ -63,9 +62,8 @@ fn speaks<'a>(
     ensures kept { IfOk result (λ _. Remembers OfCommands policy.now (command_hits command.now) verdicts.new) }
     ensures speaks { IfOk result (λ speaks. IsTrue speaks ↔ Speaks policy.now (command_hits command.now) (member_in tables.now row.now)) }
 {
+    // laws
     policy.is_acyclic();
-    flat_then_no_cycle();
-    one_flat();
     let member = Rows {
         tables,
         rows: std::slice::from_ref(row),
@@ -144,8 +142,8 @@ pub fn innermost<'a>(
     requires { Speaks policy.now (command_hits (command_line request.now)) (member_shown member.now) }
     ensures { IfOk result (λ inner. IsInner policy.now (command_hits (command_line request.now)) (member_shown member.now) (option_map inner_shown inner)) }
 {
+    // laws
     policy.is_acyclic();
-    flattened_is_flat();
     let Some(outer) = find_alias(policy, member) else {
         return Ok(None);
     };

@@ -20,7 +20,6 @@ use crate::spot::append_place;
 use std::alloc::{AllocError, Global};
 use sudoers_cvt_spell::append_member;
 use sudoers_line::Kind;
-use sudoers_match::laws::one_answer;
 use sudoers_match::{Answer, Found, find_default, find_row};
 use sudoers_match_list::{Acyclic, AskFault};
 use sudoers_match_member::Request;
@@ -141,7 +140,6 @@ pub fn explain(
     ensures fault { IfErr result (λ fault. (fault ≡ NoMemory) ⊎ ((fault ≡ Cycle) × HasReachableCycle policy.now.walk.lines)) }
 {
     // A request has one answer, so the row that is found has the one that is given.
-    one_answer();
     let acyclic = Acyclic::new(alloc, policy.walk())?;
     let default = find_default(alloc, &acyclic, &request.who)?;
     let found = find_row(alloc, &acyclic, request, default)?;

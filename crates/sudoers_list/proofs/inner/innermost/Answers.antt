@@ -9,6 +9,7 @@ use Rattle.sudoers_match.specs.Answer.{command_line}
 use Rattle.sudoers_list.specs.Inner.{IsInnermost, Says}
 use Rattle.sudoers_list.specs.internal.Inside.{inner_shown}
 use Rattle.sudoers_list.proofs.Going.{begins}
+use Rattle.sudoers_list.proofs.Known.{flat_is}
 use Rattle.sudoers_list.proofs.Speaking.{members_say}
 use Rattle.sudoers_list.proofs.inner.innermost.Goals as goal
 
@@ -30,7 +31,7 @@ go_in-requires-clause-within c =
     let m : Member = member_shown c.args.member.now in
     let latest = c.requires.1 in
     begins lines (length (definitions lines)) m c.in-Some.outer.name.now latest.flat c.in-Some.ensures.name latest.is_flat
-    (c.flattened_is_flat.ensures Cmnd lines c.is_acyclic.ensures.walk (m ∷ []) latest.flat latest.is_flat)
+    (flat_is lines c.is_acyclic.ensures.walk (m ∷ []) latest.flat latest.is_flat)
 
 pub returns : goal.returns
 returns c =
