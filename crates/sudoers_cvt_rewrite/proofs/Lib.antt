@@ -1,4 +1,5 @@
 pub mod FilterTexts
+pub mod Latest
 pub mod Matchers
 pub mod Lists
 pub mod Members

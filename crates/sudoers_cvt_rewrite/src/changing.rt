@@ -11,7 +11,6 @@ use crate::filter::Filter;
 use crate::rewriting::{NewLines, write_lines};
 use std::alloc::Global;
 use std::marker::Model;
-use sudoers_check::laws::chains_are;
 use sudoers_check::mark_used;
 use sudoers_cvt_rules::{CvtFault, Rules};
 use sudoers_match_list::{Acyclic, AskFault};
@@ -78,7 +77,6 @@ pub fn rewrite(alloc: Global, policy: &Policy, changes: &Changes<'_>) -> Result<
         ⊎ ((fault ≡ TooLarge) × (has_round policy.now.walk.lines ≡ false) × (changes.now.expand ≡ true)
         × (member_limit < member_count (rewritten (changes_shown changes.now) policy.now.walk.lines))))) }
 {
-    chains_are();
     match Acyclic::new(alloc, policy.walk()) {
         Ok(policy) => rewrite_acyclic(alloc, &policy, changes),
         Err(AskFault::Cycle) => Err(CvtFault::Cycle),

@@ -65,6 +65,7 @@ fn write_command(
         (tally.old.count + commands_count tally.old.inherited
         (command_if source.now.expand source.now.policy.now (command_in source.now.lines.tables.now row.now) ++ rest)) fault) }
 {
+    // laws
     source.policy.is_acyclic();
     let members = flat_list(alloc, source, Kind::Cmnd, &[row.member])?;
     let runas = write_own_runas(alloc, source, tables, row.runas)?;

@@ -12,7 +12,6 @@ ghost use Rattle.sudoers_cvt_rewrite.specs.internal.Matcher.{AreRemembered, AreF
 use crate::filter::Filter;
 use crate::values::{NamedHosts, NamedUsers, UsersInGroup};
 use std::alloc::{AllocError, Global};
-use sudoers_match_list::laws::flattened_is_flat;
 use sudoers_match_list::{Acyclic, Decision, Hit, MemberKind, Verdicts};
 use sudoers_tree::{Kind, MemberRow, Rows};
 
@@ -45,8 +44,8 @@ fn find_hit<'a, K: MemberKind>(
     ensures kept { IfOk result (λ _. Remembers kind policy.now (K.test asked.now) verdicts.new) }
     ensures hit { IfOk result (λ hit. said policy.now kind (K.test asked.now) (members_shown members.now) ≡ hit) }
 {
+    // laws
     policy.is_acyclic();
-    flattened_is_flat();
     match verdicts.latest::<K>(policy.numbers(), kind, members, asked)? {
         Decision::Latest(hit) => Ok(hit),
         Decision::Cyclic => unreachable!(),

@@ -94,6 +94,7 @@ pub fn write_lines(
         (filtered_by source.now.policy.now (changes_shown changes.now).filter changes.now.prune n)) source.now.policy.now))) }
 {
     let policy = source.policy;
+    // laws
     policy.is_acyclic();
     let base = source.lines.tables;
     let mut matcher = Matcher::new(alloc, policy, changes.filter)?;

@@ -162,6 +162,7 @@ fn answer_text(
     ensures statuses { IfOk result (λ output. output.status ≤ 1) }
     ensures named { IfErr result IsAskFault }
 {
+    // laws
     acyclic.is_acyclic();
     let found = find_answer(alloc, acyclic, request, default)?;
     let status = allowed_status(found);

@@ -73,6 +73,7 @@ fn show_text(alloc: Global, policy: Result<Policy, LoadFault>) -> Result<Vec<u8>
 fn shown(alloc: Global, policy: &Policy) -> Result<Vec<u8>, AllocError>
     ensures { IfOk result (λ out. out.items ≡ shown_policy policy.now.files) }
 {
+    // laws
     policy.files_fit();
     let mut out = Vec::new(alloc);
     if policy.files() < 2 {
