@@ -158,8 +158,10 @@ def law_calls(code):
     for source in code:
         if source.is_of_laws or source.crate.startswith(("laws_", "wrong_")):
             continue
+        caller = ""
         for head in HEAD_OR_CALL.finditer(source.text):
-            caller = head[1] or caller
+            if head[1]:
+                caller = head[1]
             if head[2] in laws and caller not in laws:
                 yield f"law {source.crate} {caller} {head[2]}"
 
